@@ -1,0 +1,42 @@
+-- A message's bytes. Assumes nothing.
+use Prim.Native.Nat.{ℕ}
+use mathlib.Core.Bool.{Bool, cond}
+use mathlib.Core.List.{List, [], _∷_, _++_}
+use lib.Dec.{ltb}
+use lib.ListN.{length}
+use Rattle.octets.specs.Number.{four}
+use Rattle.message.specs.Header.{hasTopic, hasPayload, hasRoute, headerBytes}
+use Rattle.message.specs.Message.{Message}
+
+-- "A part of 0 to 254 bytes has a 1-byte size; a longer one has 255 and a 4-byte size."
+abbrev pub sizeBytes : ℕ → List ℕ
+sizeBytes n = cond (ltb n 255) (n ∷ []) (255 ∷ four n)
+
+abbrev pub partBytes : List ℕ → List ℕ
+partBytes p = sizeBytes (length p) ++ p
+
+-- "the parts, one after another"
+abbrev pub joined : List (List ℕ) → List ℕ
+joined [] = []
+joined (p ∷ ps) = partBytes p ++ joined ps
+
+-- a part that is there where its flag is set
+abbrev pub partIf : Bool → List ℕ → List (List ℕ)
+partIf flag p = cond flag (p ∷ []) []
+
+-- "Parts in order: routes (top of the stack first), an empty delimiter, topic, payload, header."
+unfoldable pub partsOf : Message → List (List ℕ)
+partsOf m =
+    let flags = m .header .flags in
+    cond (hasRoute flags) (m .routes) [] ++ (partIf (hasRoute flags) [] ++ (partIf (hasTopic flags) (m .topic ++ (0 ∷ [])) ++ (partIf (hasPayload flags) (m .payload) ++ (headerBytes (m .header) ∷ []))))
+
+-- "FF EE 00 12"
+abbrev pub frameStart : List ℕ
+frameStart = 0xFF ∷ 0xEE ∷ 0x00 ∷ 0x12 ∷ []
+
+unfoldable pub bodyOf : Message → List ℕ
+bodyOf m = joined (partsOf m)
+
+-- "FF EE 00 12, then a 4-byte body length, then the body"
+unfoldable pub frameOf : Message → List ℕ
+frameOf m = frameStart ++ (four (length (bodyOf m)) ++ bodyOf m)

@@ -1,0 +1,62 @@
+-- The header's fields: which types and flags there are, which parts go with them, and which fields are free.
+-- Assumes nothing.
+use Prim.Native.Nat.{ℕ, _+_, _/_, _%_}
+use mathlib.Core.Bool.{Bool, true, false, cond, not, _&&_, _||_}
+use mathlib.Core.List.{List, [], _∷_, _++_}
+use lib.Dec.{eqb, ltb}
+use lib.ListN.{length, getD, drop}
+use Rattle.octets.specs.Number.{number, four}
+use Rattle.message.specs.declared.Header.{Header}
+
+-- "Flags: 01 topic, 02 payload, 04 noresponse, 08 route, 10 upstream, 20 private, 40 streaming"
+abbrev pub hasTopic : ℕ → Bool
+hasTopic flags = eqb (flags % 2) 1
+
+abbrev pub hasPayload : ℕ → Bool
+hasPayload flags = eqb (flags / 2 % 2) 1
+
+abbrev pub hasRoute : ℕ → Bool
+hasRoute flags = eqb (flags / 8 % 2) 1
+
+-- "1 request, 2 response, 4 event, 8 control"
+abbrev pub isType : ℕ → Bool
+isType kind = eqb kind 1 || eqb kind 2 || eqb kind 4 || eqb kind 8
+
+-- "80 is refused": the type is one of the four, and flag 80 is clear
+unfoldable pub isKnown : Header → Bool
+isKnown h = isType (h .kind) && ltb (h .flags) 128
+
+-- Requests and responses: "delimiter and topic required, routes and payload may be"; events: "topic required, payload may be, no routes or
+-- delimiter"; control: "header alone". "Flags 01, 02 and 08 agree exactly with the parts present", so this is a test of the flags.
+unfoldable pub partsFit : Header → Bool
+partsFit h =
+    let flags = h .flags in
+    cond (eqb (h .kind) 8) (not (hasRoute flags) && not (hasTopic flags) && not (hasPayload flags))
+    (cond (eqb (h .kind) 4) (not (hasRoute flags) && hasTopic flags)
+    (hasRoute flags && hasTopic flags))
+
+-- 10: "request nodeid 4294967294; event's unused field not zero"
+unfoldable pub fieldsGood : Header → Bool
+fieldsGood h =
+    cond (eqb (h .kind) 1) (not (eqb (h .first) 4294967294))
+    (cond (eqb (h .kind) 4) (eqb (h .second) 0) true)
+
+-- "20 bytes: 8E, 01, type, flags, userid, rolemask, two 4-byte fields"
+unfoldable pub headerBytes : Header → List ℕ
+headerBytes h = 0x8E ∷ 1 ∷ h .kind ∷ h .flags ∷ (four (h .userid) ++ four (h .rolemask) ++ four (h .first) ++ four (h .second))
+
+-- the fields in the 20 bytes of a header
+unfoldable pub headerIn : List ℕ → Header
+headerIn p =
+    record {
+      kind = getD p 2 0;
+      flags = getD p 3 0;
+      userid = number (drop 4 p);
+      rolemask = number (drop 8 p);
+      first = number (drop 12 p);
+      second = number (drop 16 p);
+    }
+
+-- 6: "last part not 20 bytes; its magic, version, type or flag 80 wrong"
+unfoldable pub isHeader : List ℕ → Bool
+isHeader p = eqb (length p) 20 && (eqb (getD p 0 0) 0x8E && (eqb (getD p 1 0) 1 && isKnown (headerIn p)))

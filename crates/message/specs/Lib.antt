@@ -1,0 +1,9 @@
+-- A message and its bytes, as paper 01 has them under "A frame". To be read in this order: Refusals, Answer, Header, Forms, Message, Frame, Writing, Reading.
+pub mod Refusals
+pub mod Answer
+pub mod Header
+pub mod Forms
+pub mod Message
+pub mod Frame
+pub mod Writing
+pub mod Reading

@@ -1,0 +1,56 @@
+-- What the writer refuses, and in which order: "Writer: 6 (type and flag 80 only), 7, 8, 9, 10, 3, 11". Assumes nothing.
+use Prim.Native.Nat.{ℕ, zero, suc}
+use mathlib.Core.Bool.{Bool, true, false, not, _&&_, _||_}
+use mathlib.Core.List.{List, [], _∷_}
+use lib.Dec.{ltb, leb}
+use lib.ListN.{length, take, drop}
+use Rattle.message.specs.declared.Header.{Header}
+use Rattle.message.specs.declared.Refusal.the-variants.{LongBody, WrongHeader, WrongParts, WrongRoute, WrongTopic, WrongField, ShortOutput}
+use Rattle.message.specs.Answer.{Answer, answered, refuseIf, andThen}
+use Rattle.message.specs.Header.{hasTopic, hasPayload, hasRoute, isKnown, partsFit, fieldsGood}
+use Rattle.message.specs.Forms.{isRoute, isTopic}
+use Rattle.message.specs.Message.{Message}
+use Rattle.message.specs.Frame.{bodyOf, frameOf}
+
+abbrev pub isEmpty : {A : Type 0} → List A → Bool
+isEmpty [] = true
+isEmpty (x ∷ xs) = false
+
+-- "a part given without its flag is 7"; given means not empty
+unfoldable pub partsGivenFit : Message → Bool
+partsGivenFit m =
+    let flags = m .header .flags in
+    (hasRoute flags || isEmpty (m .routes)) && ((hasTopic flags || isEmpty (m .topic)) && (hasPayload flags || isEmpty (m .payload)))
+
+abbrev pub allRoutes : List (List ℕ) → Bool
+allRoutes [] = true
+allRoutes (r ∷ rs) = isRoute r && allRoutes rs
+
+-- 8: each route "of the form", "At most 64"
+unfoldable pub routesGood : List (List ℕ) → Bool
+routesGood rs = leb (length rs) 64 && allRoutes rs
+
+-- the frame of a message, or why it has none: 6 (type and flag 80 only), 7, 8, 9, 10, 3
+unfoldable pub writing : Message → Answer (List ℕ)
+writing m =
+    refuseIf (not (isKnown (m .header))) WrongHeader
+    (refuseIf (not (partsFit (m .header) && partsGivenFit m)) WrongParts
+    (refuseIf (not (routesGood (m .routes))) WrongRoute
+    (refuseIf (hasTopic (m .header .flags) && not (isTopic (m .topic))) WrongTopic
+    (refuseIf (not (fieldsGood (m .header))) WrongField
+    (refuseIf (ltb 32768 (length (bodyOf m))) LongBody
+    (answered (frameOf m)))))))
+
+-- the same into an output of so many bytes: 11 comes last
+unfoldable pub writingInto : ℕ → Message → Answer (List ℕ)
+writingInto room m = andThen (writing m) (λ frame. refuseIf (ltb room (length frame)) ShortOutput (answered frame))
+
+-- "routes of 37 bytes each": the given bytes cut into routes, the last of which may be short and is then not of the form
+abbrev pub cutRoutes : ℕ → List ℕ → List (List ℕ)
+cutRoutes zero xs = []
+cutRoutes (suc k) [] = []
+cutRoutes (suc k) (x ∷ xs) = take 37 (x ∷ xs) ∷ cutRoutes k (drop 37 (x ∷ xs))
+
+-- the message that the writer is given
+unfoldable pub givenMessage : Header → List ℕ → List ℕ → List ℕ → Message
+givenMessage h routes topic payload = record { header = h; routes = cutRoutes (length routes) routes; topic = topic; payload = payload }

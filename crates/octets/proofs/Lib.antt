@@ -1,0 +1,3 @@
+-- Laws about this crate's definitions, for its own proofs and those of the crates above.
+pub mod Numbers
+pub mod Buffers

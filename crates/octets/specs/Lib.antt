@@ -1,0 +1,3 @@
+-- What the clauses of this crate's functions cite, and the laws that the crates above cite.
+pub mod Number
+pub mod Laid

@@ -1,0 +1,18 @@
+-- Numbers of four bytes. "All integers are big endian." (paper 01, A frame)
+-- Assumes nothing.
+use Prim.Native.Nat.{ℕ, _+_, _*_, _/_, _%_, _<_}
+use mathlib.Core.List.{List, [], _∷_}
+use lib.ListN.{getD}
+
+-- the number in the first four bytes of xs
+abbrev pub number : List ℕ → ℕ
+number xs = getD xs 0 0 * 16777216 + getD xs 1 0 * 65536 + getD xs 2 0 * 256 + getD xs 3 0
+
+-- the four bytes of n
+abbrev pub four : ℕ → List ℕ
+four n = (n / 16777216 % 256) ∷ (n / 65536 % 256) ∷ (n / 256 % 256) ∷ (n % 256) ∷ []
+
+-- each element is a byte: true of whatever stands in a slice of bytes
+abbrev pub Bytes : List ℕ → Type 0
+Bytes [] = Unit {0}
+Bytes (x ∷ xs) = (x < 256) × Bytes xs

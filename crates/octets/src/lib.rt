@@ -1,0 +1,44 @@
+// Bytes: numbers of four bytes, and bytes copied to the front of a lent slice. Every function is total.
+ghost use mathlib.Core.Path.{_≡_};
+ghost use mathlib.Core.List.{_∷_, []};
+ghost use Rattle.octets.specs.Number.{number, four};
+ghost use Rattle.octets.specs.Laid.{laidIfRoom};
+
+// A byte as a wider number. A call of its own, so that a byte read from a slice carries its range along.
+pub fn wide(x: u8) -> u32
+    ensures { λ r. ⌜ r ≡ x ⌝ }
+{
+    x as u32
+}
+
+// The number that four bytes are.
+pub fn number_of(a: u8, b: u8, c: u8, d: u8) -> u32
+    ensures { λ r. ⌜ r ≡ number (a ∷ b ∷ c ∷ d ∷ []) ⌝ }
+{
+    wide(a) * 16777216 + wide(b) * 65536 + wide(c) * 256 + wide(d)
+}
+
+// Writes the lowest four bytes of n to the front of out, if there is room for them.
+pub fn put_number(out: &mut [u8], n: usize)
+    ensures { λ _. ⌜ now (out .exit) ≡ laidIfRoom (four n) (now (out .entry)) ⌝ }
+{
+    if 4 <= out.len() {
+        out[0] = (n / 16777216 % 256) as u8;
+        out[1] = (n / 65536 % 256) as u8;
+        out[2] = (n / 256 % 256) as u8;
+        out[3] = (n % 256) as u8;
+    }
+}
+
+// Copies src to the front of dst, if there is room for it.
+pub fn copy(src: &[u8], dst: &mut [u8])
+    ensures { λ _. ⌜ now (dst .exit) ≡ laidIfRoom (now (src .entry)) (now (dst .entry)) ⌝ }
+{
+    if src.len() <= dst.len() {
+        let mut i = 0;
+        while i < src.len() {
+            dst[i] = src[i];
+            i += 1;
+        }
+    }
+}
