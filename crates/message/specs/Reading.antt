@@ -9,6 +9,7 @@ use Rattle.octets.specs.Number.{number}
 use Rattle.message.specs.declared.Header.{Header}
 use Rattle.message.specs.declared.Refusal.the-variants.{ShortInput, WrongStart, LongBody, WrongSize, ManyParts, WrongHeader, WrongParts, WrongRoute, WrongTopic, WrongField}
 use Rattle.message.specs.Answer.{Answer, refused, answered, refuseIf, andThen}
+use Rattle.message.specs.Count.{one}
 use Rattle.message.specs.Header.{hasTopic, hasPayload, hasRoute, partsFit, fieldsGood, headerIn, isHeader}
 use Rattle.message.specs.Forms.{isTopic}
 use Rattle.message.specs.Message.{Message}
@@ -48,10 +49,6 @@ abbrev pub beforeEmpty : List (List ℕ) → List (List ℕ)
 beforeEmpty [] = []
 beforeEmpty ([] ∷ ps) = []
 beforeEmpty ((x ∷ p) ∷ ps) = (x ∷ p) ∷ beforeEmpty ps
-
--- how many parts a flag stands for
-abbrev pub one : Bool → ℕ
-one flag = cond flag 1 0
 
 -- of the parts in front of the header: the routes, the part that holds the topic, the payload
 unfoldable pub routesIn : Header → List (List ℕ) → List (List ℕ)

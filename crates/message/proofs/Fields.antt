@@ -1,0 +1,44 @@
+-- One law for each case of the tests on a header's fields.
+-- Assumes nothing.
+use mathlib.Core.Path.{_≡_, refl, sym}
+use mathlib.Core.Bool.{Bool, true, false, not, _&&_}
+use Prim.Native.Nat.{ℕ}
+use lib.Dec.{eqb, ltb}
+use borrow.Author.Tests.{eq-eqb, ne-eqb}
+use Rattle.message.specs.declared.Header.{Header}
+use Rattle.message.specs.Header.{hasTopic, hasPayload, hasRoute, isType, isKnown, partsFit, fieldsGood}
+
+module _ (h : Header) where
+  pub known-type : isType (h .kind) ≡ true → isKnown h ≡ ltb (h .flags) 128
+  unfolding isKnown
+  known-type e = rw e
+
+  pub unknown-type : isType (h .kind) ≡ false → isKnown h ≡ false
+  unfolding isKnown
+  unknown-type e = rw e
+
+  -- which parts go with a control message, an event, a request or a response; r, t and p say which flags are set
+  module _ {r t p : Bool} (er : r ≡ hasRoute (h .flags)) (et : t ≡ hasTopic (h .flags)) (ep : p ≡ hasPayload (h .flags)) where
+    pub control-fits : h .kind ≡ 8 → partsFit h ≡ (not r && not t && not p)
+    unfolding partsFit
+    control-fits e = rw (eq-eqb (h .kind) 8 e, er, et, ep)
+
+    pub event-fits : (h .kind ≡ 8 → ⊥) → h .kind ≡ 4 → partsFit h ≡ (not r && t)
+    unfolding partsFit
+    event-fits n e = rw (ne-eqb (h .kind) 8 n, eq-eqb (h .kind) 4 e, er, et)
+
+    pub call-fits : (h .kind ≡ 8 → ⊥) → (h .kind ≡ 4 → ⊥) → partsFit h ≡ (r && t)
+    unfolding partsFit
+    call-fits n k = rw (ne-eqb (h .kind) 8 n, ne-eqb (h .kind) 4 k, er, et)
+
+  pub request-fields : h .kind ≡ 1 → fieldsGood h ≡ not (eqb (h .first) 4294967294)
+  unfolding fieldsGood
+  request-fields e = rw (eq-eqb (h .kind) 1 e)
+
+  pub event-fields : (h .kind ≡ 1 → ⊥) → h .kind ≡ 4 → fieldsGood h ≡ eqb (h .second) 0
+  unfolding fieldsGood
+  event-fields n e = rw (ne-eqb (h .kind) 1 n, eq-eqb (h .kind) 4 e)
+
+  pub free-fields : (h .kind ≡ 1 → ⊥) → (h .kind ≡ 4 → ⊥) → fieldsGood h ≡ true
+  unfolding fieldsGood
+  free-fields n k = rw (ne-eqb (h .kind) 1 n, ne-eqb (h .kind) 4 k)
