@@ -1,0 +1,24 @@
+use borrow.Author.Needs.{needs}
+use Rattle.reader.proofs.walk.next_empty.Statement.{statement}
+use Rattle.reader.proofs.walk.next_empty.Tie as tie
+use Rattle.reader.proofs.walk.next_empty.Reads as reads
+use Rattle.reader.proofs.walk.next_empty.Lts as lts
+
+-- src/walk.rt:29:38
+add-result : tie.Need-add-result
+add-result c = search needs
+
+-- src/walk.rt:24:1
+returns : tie.Need-returns
+returns c = ?
+
+-- src/walk.rt:24:1
+returns-2 : tie.Need-returns-2
+returns-2 c = ?
+
+-- src/walk.rt:24:1
+returns-3 : tie.Need-returns-3
+returns-3 c = ?
+
+pub next-empty-spec : {M : Type 1} → statement M
+next-empty-spec = tie.close (tie.spec add-result returns returns-2 returns-3)

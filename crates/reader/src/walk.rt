@@ -1,0 +1,64 @@
+// The walk over a body's parts.
+use crate::size::Size;
+use crate::size::size_at;
+use message::Refusal;
+ghost use mathlib.Core.Path.{_≡_};
+ghost use Prim.Native.Nat.{_<_, _≤_};
+ghost use lib.ListN.{length};
+ghost use Rattle.message.specs.Reading.{partsIn};
+ghost use Rattle.reader.specs.Walk.{walkedAs, nextEmpty};
+
+// How many parts there are, how many of them stand in front of the first empty one, and where the last one's size stands.
+pub(crate) struct Walked {
+    pub(crate) count: usize,
+    pub(crate) empty: usize,
+    pub(crate) last: usize,
+}
+
+pub(crate) enum Walk {
+    Refused(Refusal),
+    Counted(Walked),
+}
+
+// How many parts stand in front of the first empty one, after one more part of so many bytes.
+fn next_empty(count: usize, empty: usize, len: usize) -> usize
+    requires { ⌜ (empty ≤ count) × (count < 68) ⌝ }
+    ensures { λ r. ⌜ r ≡ nextEmpty count empty len ⌝ }
+{
+    if empty == count {
+        if len == 0 { empty } else { empty + 1 }
+    } else {
+        empty
+    }
+}
+
+// The parts of a body, counted as they come. A 69th is refused before its size is read.
+pub(crate) fn count_parts(body: &[u8]) -> Walk
+    requires { ⌜ length (now body) ≤ 32768 ⌝ }
+    ensures { λ r. ⌜ r ≡ walkedAs (partsIn 68 (now (body .entry))) ⌝ }
+{
+    let mut at: usize = 0;
+    let mut count: usize = 0;
+    let mut empty: usize = 0;
+    let mut last: usize = 0;
+    loop {
+        if at == body.len() {
+            break Walk::Counted(Walked { count, empty, last });
+        }
+        if count == 68 {
+            break Walk::Refused(Refusal::ManyParts);
+        }
+        let size = size_at(&body[at..]);
+        match size {
+            Size::Wrong => {
+                break Walk::Refused(Refusal::WrongSize);
+            }
+            Size::Data(start, len) => {
+                empty = next_empty(count, empty, len);
+                count += 1;
+                last = at;
+                at = at + start + len;
+            }
+        }
+    }
+}
