@@ -2,3 +2,4 @@
 pub mod Answers
 pub mod Lists
 pub mod Parts
+pub mod Headers
