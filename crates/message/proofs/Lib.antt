@@ -3,3 +3,5 @@ pub mod Answers
 pub mod Lists
 pub mod Parts
 pub mod Headers
+pub mod Forms
+pub mod Places

@@ -52,3 +52,16 @@ module _ {A : Type 0} where
   front-final d xs h =
       let whole : suc (length xs - 1) ≡ length xs = omega arith in
       sym (take-suc xs (length xs - 1) d (omega arith)) ∙ ap (λ (n : ℕ). take n xs) whole ∙ take-length xs
+
+-- ---- the parts in front of the first empty one
+
+pub before-empty : (rs qs : List (List ℕ)) → Each (λ r. 0 < length r) rs → beforeEmpty (rs ++ [] ∷ qs) ≡ rs
+before-empty [] qs h = refl
+before-empty ([] ∷ rs) qs h = absurd (omega (arith, h .0))
+before-empty ((x ∷ r) ∷ rs) qs h = ap (λ (t : List (List ℕ)). (x ∷ r) ∷ t) (before-empty rs qs (h .1))
+
+-- where they are not all, an empty part comes behind them
+pub before-split : (ps : List (List ℕ)) → length (beforeEmpty ps) < length ps → beforeEmpty ps ++ [] ∷ drop (suc (length (beforeEmpty ps))) ps ≡ ps
+before-split [] h = absurd (omega arith)
+before-split ([] ∷ ps) h = refl
+before-split ((x ∷ r) ∷ ps) h = ap (λ (t : List (List ℕ)). (x ∷ r) ∷ t) (before-split ps (omega arith))
