@@ -29,6 +29,10 @@ and-not true true e p = refl
 and-not true false e p = absurd (true-false e)
 and-not false b e p = absurd (true-false (sym p))
 
+pub and-not-false : (a b : Bool) → (a ≡ true → b ≡ true) → (a && not b) ≡ false
+and-not-false true b h = ap not (h refl)
+and-not-false false b h = refl
+
 -- two tests that did not hold
 pub or-left : (a b : Bool) → (a || b) ≡ false → a ≡ false
 or-left true b e = e

@@ -5,3 +5,4 @@ pub mod Parts
 pub mod Headers
 pub mod Forms
 pub mod Places
+pub mod Messages

@@ -88,3 +88,28 @@ before-all r t p ps k place long =
     let payload : getD (drop k ps) (one t) [] ≡ getD ps (k + one t) [] = getD-drop k ps (one t) [] in
     let left : length (drop k ps) ≡ one t + one p = simp length-drop (omega arith) in
     rw (← topic, ← payload, behind-all t p (drop k ps) left, place) (stack-all r ps (omega arith))
+
+-- ---- a part that is kept only where its flag is set
+
+pub kept : {A : Type 0} (flag : Bool) (p q : List A) → (flag || isEmpty p) ≡ true → (flag ≡ true → q ≡ p) → cond flag q [] ≡ p
+kept true p q e same = same refl
+kept false [] q e same = refl
+kept false (x ∷ p) q e same = absurd (true-false (sym e))
+
+pub kept-given : {A : Type 0} (flag : Bool) (q : List A) → (flag || isEmpty (cond flag q [])) ≡ true
+kept-given true q = refl
+kept-given false q = refl
+
+kept-stack : (r : Bool) (rs : List (List ℕ)) → stack r (cond r rs []) ≡ stack r rs
+kept-stack true rs = refl
+kept-stack false rs = refl
+
+kept-part : (flag : Bool) (p q : List ℕ) → (flag ≡ true → q ≡ p) → partIf flag q ≡ partIf flag p
+kept-part true p q same = ap (λ (x : List ℕ). x ∷ []) (same refl)
+kept-part false p q same = refl
+
+-- what is kept without its flag is no part
+pub before-kept : (r t p : Bool) (rs : List (List ℕ)) (topic shown payload : List ℕ) → (t ≡ true → shown ≡ topic) → before r t p (cond r rs []) shown (cond p payload []) ≡ before r t p rs topic payload
+before-kept r t p rs topic shown payload same =
+    let paid : partIf p (cond p payload []) ≡ partIf p payload = kept-part p payload _ (λ e. rw e) in
+    rw (kept-stack r rs, kept-part t topic shown same, paid)
