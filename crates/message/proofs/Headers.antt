@@ -58,7 +58,7 @@ header-is h fit known = header-test (headerBytes h) (record { long = refl; magic
 
 -- ---- the other way
 
-four-places : (p : List ℕ) → 4 ≤ length p → p ≡ getD p 0 0 ∷ getD p 1 0 ∷ getD p 2 0 ∷ getD p 3 0 ∷ drop 4 p
+pub four-places : (p : List ℕ) → 4 ≤ length p → p ≡ getD p 0 0 ∷ getD p 1 0 ∷ getD p 2 0 ∷ getD p 3 0 ∷ drop 4 p
 four-places [] h = absurd (omega arith)
 four-places (x₀ ∷ []) h = absurd (omega arith)
 four-places (x₀ ∷ x₁ ∷ []) h = absurd (omega arith)

@@ -6,3 +6,5 @@ pub mod Headers
 pub mod Forms
 pub mod Places
 pub mod Messages
+pub mod Frames
+pub mod RoundTrip

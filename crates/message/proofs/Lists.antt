@@ -35,6 +35,12 @@ pub bytes-back : (xs ys : List ℕ) → Bytes (xs ++ ys) → Bytes ys
 bytes-back [] ys h = h
 bytes-back (x ∷ xs) ys h = bytes-back xs ys (h .1)
 
+-- a place past the end has no bytes
+pub bytes-part : (ps : List (List ℕ)) (i : ℕ) → Each Bytes ps → Bytes (getD ps i [])
+bytes-part [] i h = tt
+bytes-part (p ∷ ps) zero h = h .0
+bytes-part (p ∷ ps) (suc i) h = bytes-part ps i (h .1)
+
 -- ---- all but the last, and the last
 
 module _ {A : Type 0} where

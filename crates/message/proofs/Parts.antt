@@ -154,3 +154,11 @@ join (suc most) [] l h = refl
 join (suc most) (p ∷ ps) l h =
     let first = first-join p (joined ps) (h .0) in
     rw (first .same, first .read, join most ps (omega arith) (h .1))
+
+-- the parts of a body are no longer than it
+pub joined-sized : (ps : List (List ℕ)) → length (joined ps) < 4294967296 → Each Sized ps
+joined-sized [] h = tt
+joined-sized (p ∷ ps) h =
+    let part = length-append (sizeBytes (length p)) p in
+    let whole = length-append (partBytes p) (joined ps) in
+    (omega (arith, part, whole), joined-sized ps (omega (arith, part, whole)))
