@@ -1,5 +1,14 @@
--- Laws about this crate's definitions, for its own proofs and those of the crates above.
+-- Laws about this crate's definitions, for its own proofs and those of the crates above. RoundTrip has the two that carry the project.
 pub mod Counts
 pub mod Routes
 pub mod Topics
 pub mod Fields
+pub mod Answers
+pub mod Lists
+pub mod Parts
+pub mod Headers
+pub mod Forms
+pub mod Places
+pub mod Messages
+pub mod Frames
+pub mod RoundTrip
