@@ -1,8 +1,8 @@
 -- What the forms of a route and of a topic tell of their lengths.
 -- Assumes nothing.
-use mathlib.Core.Path.{_≡_, refl, sym, ap, ap₂, _∙_}
-use Prim.Native.Nat.{ℕ, zero, suc, _+_, _-_, _<_, _≤_}
-use mathlib.Core.Bool.{Bool, true, false, _&&_}
+use mathlib.Core.Path.{_≡_, refl, sym, ap}
+use Prim.Native.Nat.{ℕ, suc, _<_, _≤_}
+use mathlib.Core.Bool.{true, _&&_}
 use mathlib.Core.List.{List, [], _∷_, _++_}
 use native.Mathlib.Omega.{arith}
 use borrow.Author.Tests.{eqb-true, leb-true}
@@ -11,7 +11,7 @@ use lib.ListN.{length}
 use Rattle.message.specs.Forms.{Place, routePlaces, stands, matches, isRoute, isTopic, noZero}
 use Rattle.message.specs.Writing.{allRoutes, routesGood}
 use Rattle.message.specs.Reading.{front, final, isTopicPart}
-use Rattle.message.proofs.Answers.{true-false, and-left, and-right, and-both}
+use Rattle.message.proofs.Answers.{true-false, and-left, and-right}
 use Rattle.message.proofs.Lists.{Each, front-snoc, final-snoc, front-final}
 
 matches-length : (ps : List Place) (xs : List ℕ) → matches ps xs ≡ true → length xs ≡ length ps

@@ -1,22 +1,22 @@
 -- A frame: its start, its body's length and its body.
 -- Assumes nothing.
-use mathlib.Core.Path.{_≡_, refl, sym, ap, ap₂, _∙_, subst}
-use Prim.Native.Nat.{ℕ, zero, suc, _+_, _-_, _<_, _≤_}
-use mathlib.Core.Bool.{Bool, true, false, not, _&&_}
+use mathlib.Core.Path.{_≡_, refl, sym, ap, ap₂, _∙_}
+use Prim.Native.Nat.{ℕ, _+_, _≤_}
+use mathlib.Core.Bool.{true, not, _&&_}
 use mathlib.Core.List.{List, [], _∷_, _++_, append-assoc}
 use native.Mathlib.Omega.{arith}
 use borrow.Author.Tests.{eqb-true, ltb-false, le-ltb, not-false}
-use lib.Dec.{eqb, ltb}
+use lib.Dec.{eqb}
 use lib.ListN.{length, getD, take, drop, length-append, length-drop}
-use lib.Seq.{length-take-le, take-at, take-add, take-append-seam}
-use Rattle.octets.specs.Number.{number, four, Bytes}
-use Rattle.octets.proofs.Numbers.{number-four, four-number, bytes-take, bytes-drop}
-use Rattle.message.specs.Answer.{Answer, answered, refuseIf, andThen}
+use lib.Seq.{length-take-le, take-add, take-append-seam}
+use Rattle.octets.specs.Number.{four, Bytes}
+use Rattle.octets.proofs.Numbers.{number-four, four-number, bytes-drop}
+use Rattle.message.specs.Answer.{answered, andThen}
 use Rattle.message.specs.Message.{Message}
-use Rattle.message.specs.Frame.{frameStart, joined, bodyOf, frameOf}
+use Rattle.message.specs.Frame.{frameStart, bodyOf, frameOf}
 use Rattle.message.specs.Reading.{partsIn, judged, startsRight, bodyLength, readingOf}
 use Rattle.message.proofs.Headers.{four-places}
-use Rattle.message.proofs.Answers.{and-left, and-right, passed, pass, both}
+use Rattle.message.proofs.Answers.{and-left, and-right, passed, pass}
 
 -- the bytes of a body's frame
 abbrev pub framed : List ℕ → List ℕ
@@ -25,7 +25,8 @@ framed body = frameStart ++ (four (length body) ++ body)
 -- ---- a frame read
 
 -- 1, 2, 3 and 1 pass, and what is left to do is done with the body's parts
-read-body : (b body : List ℕ) → 8 + length body ≤ length b → startsRight b ≡ true → bodyLength b ≡ length body → length body ≤ 32768 → take (length body) (drop 8 b) ≡ body → readingOf b ≡ andThen (partsIn 68 body) judged
+read-body : (b body : List ℕ) → 8 + length body ≤ length b → startsRight b ≡ true → bodyLength b ≡ length body → length body ≤ 32768 →
+    take (length body) (drop 8 b) ≡ body → readingOf b ≡ andThen (partsIn 68 body) judged
 unfolding readingOf
 read-body b body within starts size short same =
     pass _ _ _ (le-ltb (length b) 8 (omega arith)) ∙
@@ -91,9 +92,23 @@ framed-in b m bytes r =
     let start = start-bytes b (omega (arith, r .long)) (r .starts) in
     record {
       same =
-        ap₂ (λ (s t : List ℕ). s ++ (t ++ body)) (sym start) (ap four size ∙ four-bytes) ∙
-        sym (append-assoc (take 4 b) (take 4 (drop 4 b)) body) ∙
-        ap (λ (s : List ℕ). s ++ body) (sym (take-add 4 4 b)) ∙
-        sym (take-add 8 n b);
+          ap₂ (λ (s t : List ℕ). s ++ (t ++ body)) (sym start) (ap four size ∙ four-bytes) ∙
+          sym (append-assoc (take 4 b) (take 4 (drop 4 b)) body) ∙
+          ap (λ (s : List ℕ). s ++ body) (sym (take-add 4 4 b)) ∙
+          sym (take-add 8 n b);
       size = size;
     }
+
+-- ---- a message whose body stands in a frame
+
+module _ (b : List ℕ) (m : Message) (body : List ℕ) (same : bodyOf m ≡ body) (f : Framed b body) where
+  pub frame-same : frameOf m ≡ take (8 + bodyLength b) b
+  unfolding frameOf
+  frame-same = ap framed same ∙ f .same
+
+  pub frame-length : length (frameOf m) ≡ 8 + bodyLength b
+  unfolding frameOf
+  frame-length = omega (arith, ap length same, f .size)
+
+  pub body-short : bodyLength b ≤ 32768 → length (bodyOf m) ≤ 32768
+  body-short h = omega (arith, ap length same, f .size)

@@ -1,20 +1,20 @@
 -- A header's bytes: `headerIn` reads what `headerBytes` writes, and nothing else.
 -- Assumes nothing.
-use mathlib.Core.Path.{_≡_, refl, sym, ap, ap₂, _∙_, subst}
-use Prim.Native.Nat.{ℕ, zero, suc, _+_, _-_, _<_, _≤_}
-use mathlib.Core.Bool.{Bool, true, false, cond, not, _&&_, _||_}
-use mathlib.Core.List.{List, [], _∷_, _++_, append-assoc}
+use mathlib.Core.Path.{_≡_, refl, sym, ap, ap₂, _∙_}
+use Prim.Native.Nat.{ℕ, _+_, _≤_}
+use mathlib.Core.Bool.{true, _&&_}
+use mathlib.Core.List.{List, [], _∷_, _++_}
 use native.Mathlib.Omega.{arith}
 use borrow.Author.Tests.{eqb-true}
 use lib.Dec.{eqb}
-use lib.ListN.{length, getD, take, drop, length-append, length-drop, drop-of-length-le, take-append-drop}
+use lib.ListN.{length, getD, drop, length-drop, drop-of-length-le, take-append-drop}
 use lib.Seq.{drop-drop}
 use Rattle.octets.specs.Number.{number, four, Bytes}
 use Rattle.octets.proofs.Numbers.{number-four, four-number, number-lt, bytes-drop}
 use Rattle.message.specs.declared.Header.{Header}
 use Rattle.message.specs.Header.{headerBytes, headerIn, isHeader, isKnown}
 use Rattle.message.specs.Message.{FieldsFit}
-use Rattle.message.proofs.Answers.{and-left, and-right, and-both}
+use Rattle.message.proofs.Answers.{and-left, and-right}
 
 -- the fields read from their bytes are the fields
 pub header-in : (h : Header) → FieldsFit h → headerIn (headerBytes h) ≡ h
@@ -81,7 +81,8 @@ header-bytes p b e =
     let third = field-at 12 p _ b (omega arith) (sym last) in
     let second = field-at 8 p _ b (omega arith) (sym third) in
     let fields = field-at 4 p _ b (omega arith) (sym second) in
-    ap (λ (t : List ℕ). 0x8E ∷ 1 ∷ getD p 2 0 ∷ getD p 3 0 ∷ t) fields ∙ (rw (f .magic, f .version) at (sym (four-places p (omega arith))))
+    let whole = rw (f .magic, f .version) at (sym (four-places p (omega arith))) in
+    _∙_ {b = 0x8E ∷ 1 ∷ getD p 2 0 ∷ getD p 3 0 ∷ drop 4 p} (ap (λ (t : List ℕ). 0x8E ∷ 1 ∷ getD p 2 0 ∷ getD p 3 0 ∷ t) fields) whole
 
 -- and its fields have four bytes each
 pub fields-fit : (p : List ℕ) → Bytes p → FieldsFit (headerIn p)

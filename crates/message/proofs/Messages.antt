@@ -1,28 +1,38 @@
 -- A message and its parts: `judged` makes of the parts of a message that message, and of any other parts nothing.
 -- Assumes nothing.
-use mathlib.Core.Path.{_≡_, refl, sym, ap, ap₂, _∙_, subst}
-use Prim.Native.Nat.{ℕ, zero, suc, _+_, _-_, _<_, _≤_}
-use mathlib.Core.Bool.{Bool, true, false, cond, not, _&&_, _||_}
+use mathlib.Core.Path.{_≡_, refl, sym, ap, _∙_}
+use Prim.Native.Nat.{ℕ, _+_, _<_, _≤_}
+use mathlib.Core.Bool.{Bool, true, false, not, _&&_, _||_}
 use mathlib.Core.List.{List, [], _∷_, _++_, append-assoc}
 use native.Mathlib.Omega.{arith}
 use borrow.Author.Tests.{eqb-true, eq-eqb, ltb-false, le-ltb, not-false}
-use lib.Dec.{eqb, ltb}
+use lib.Dec.{eqb}
 use lib.ListN.{length, getD, length-append}
 use Rattle.octets.specs.Number.{Bytes}
 use Rattle.message.specs.declared.Header.{Header}
-use Rattle.message.specs.Answer.{Answer, answered, refuseIf, andThen}
+use Rattle.message.specs.Answer.{answered}
 use Rattle.message.specs.Header.{hasTopic, hasPayload, hasRoute, isKnown, partsFit, fieldsGood, headerBytes, headerIn, isHeader}
 use Rattle.message.specs.Forms.{isTopic}
 use Rattle.message.specs.Message.{Message, FieldsFit}
-use Rattle.message.specs.Frame.{partIf, partsOf, bodyOf, frameOf}
+use Rattle.message.specs.Frame.{partsOf, bodyOf, frameOf}
 use Rattle.message.specs.Writing.{isEmpty, partsGivenFit, routesGood, writing}
 use Rattle.message.specs.Count.{one}
 use Rattle.message.specs.Reading.{front, final, beforeEmpty, routesIn, topicPlace, payloadPlace, partsAgree, isTopicPart, messageIn, judgedAs, judged}
-use Rattle.message.proofs.Answers.{true-false, and-left, and-right, and-both, and-not, and-not-false, passed, pass, answered-same}
+use Rattle.message.proofs.Answers.{and-left, and-right, and-not, and-not-false, passed, answered-same}
 use Rattle.message.proofs.Lists.{front-snoc, final-snoc, front-final}
 use Rattle.message.proofs.Forms.{routes-few, routes-each, routes-filled, topic-part, topic-parted, topic-form}
 use Rattle.message.proofs.Places.{before, before-length, before-topic, before-payload, before-routes, before-all, kept, kept-given, before-kept}
 use Rattle.message.proofs.Headers.{header-in, header-is, header-tested, header-bytes, fields-fit}
+
+-- a message's flags
+abbrev pub withRoute : Message → Bool
+withRoute m = hasRoute (m .header .flags)
+
+abbrev pub withTopic : Message → Bool
+withTopic m = hasTopic (m .header .flags)
+
+abbrev pub withPayload : Message → Bool
+withPayload m = hasPayload (m .header .flags)
 
 -- ---- what the writer's answer tells, 6 to 10 and 3
 
@@ -31,7 +41,7 @@ pub record Passes (m : Message) : Type 0 where
   pub fit : partsFit (m .header) ≡ true
   pub given : partsGivenFit m ≡ true
   pub routes : routesGood (m .routes) ≡ true
-  pub topic : hasTopic (m .header .flags) ≡ true → isTopic (m .topic) ≡ true
+  pub topic : withTopic m ≡ true → isTopic (m .topic) ≡ true
   pub fields : fieldsGood (m .header) ≡ true
 
 pub record Written (m : Message) (frame : List ℕ) : Type 0 where
@@ -66,7 +76,7 @@ written m frame e =
 pub write : (m : Message) → Passes m → length (bodyOf m) ≤ 32768 → writing m ≡ answered (frameOf m)
 unfolding writing
 write m p short =
-    let topic = and-not-false (hasTopic (m .header .flags)) (isTopic (m .topic)) (p .topic) in
+    let topic = and-not-false (withTopic m) (isTopic (m .topic)) (p .topic) in
     rw (p .known, p .fit, p .given, p .routes, topic, p .fields, le-ltb 32768 (length (bodyOf m)) short)
 
 -- ---- what the reader's answer tells, 7 to 10
@@ -113,9 +123,7 @@ judged-as h ps m e =
 
 -- those in front of the header
 unfoldable pub foreParts : Message → List (List ℕ)
-foreParts m =
-    let flags = m .header .flags in
-    before (hasRoute flags) (hasTopic flags) (hasPayload flags) (m .routes) (m .topic ++ (0 ∷ [])) (m .payload)
+foreParts m = before (withRoute m) (withTopic m) (withPayload m) (m .routes) (m .topic ++ (0 ∷ [])) (m .payload)
 
 pub parts-fore : (m : Message) → partsOf m ≡ foreParts m ++ (headerBytes (m .header) ∷ [])
 unfolding partsOf foreParts
@@ -123,16 +131,16 @@ parts-fore m = simp append-assoc
 
 -- "a part given without its flag is 7"
 pub record Given (m : Message) : Type 0 where
-  pub routes : (hasRoute (m .header .flags) || isEmpty (m .routes)) ≡ true
-  pub topic : (hasTopic (m .header .flags) || isEmpty (m .topic)) ≡ true
-  pub payload : (hasPayload (m .header .flags) || isEmpty (m .payload)) ≡ true
+  pub routes : (withRoute m || isEmpty (m .routes)) ≡ true
+  pub topic : (withTopic m || isEmpty (m .topic)) ≡ true
+  pub payload : (withPayload m || isEmpty (m .payload)) ≡ true
 
 pub given-fit : (m : Message) → partsGivenFit m ≡ true → Given m
 unfolding partsGivenFit
 given-fit m e =
-    let routes = hasRoute (m .header .flags) || isEmpty (m .routes) in
-    let topic = hasTopic (m .header .flags) || isEmpty (m .topic) in
-    let payload = hasPayload (m .header .flags) || isEmpty (m .payload) in
+    let routes = withRoute m || isEmpty (m .routes) in
+    let topic = withTopic m || isEmpty (m .topic) in
+    let payload = withPayload m || isEmpty (m .payload) in
     let behind = and-right routes (topic && payload) e in
     record { routes = and-left routes (topic && payload) e; topic = and-left topic payload behind; payload = and-right topic payload behind }
 
@@ -150,55 +158,67 @@ judged-header ps p h is e = rw (final-snoc [] ps p, front-snoc ps p, is, e)
 module _ (m : Message) (p : Passes m) where
   fore-routes : routesIn (m .header) (foreParts m) ≡ m .routes
   unfolding routesIn foreParts
-  fore-routes = before-routes (hasRoute (m .header .flags)) (m .routes) _ (routes-filled (m .routes) (routes-each (m .routes) (p .routes))) (given-fit m (p .given) .routes)
+  fore-routes = before-routes (withRoute m) (m .routes) _ (routes-filled (m .routes) (routes-each (m .routes) (p .routes))) (given-fit m (p .given) .routes)
 
-  fore-topic-place : topicPlace (m .header) (foreParts m) ≡ length (m .routes) + one (hasRoute (m .header .flags))
+  fore-topic-place : topicPlace (m .header) (foreParts m) ≡ length (m .routes) + one (withRoute m)
   unfolding topicPlace
-  fore-topic-place = ap (λ (rs : List (List ℕ)). length rs + one (hasRoute (m .header .flags))) fore-routes
+  fore-topic-place = ap (λ (rs : List (List ℕ)). length rs + one (withRoute m)) fore-routes
 
-  fore-payload-place : payloadPlace (m .header) (foreParts m) ≡ length (m .routes) + one (hasRoute (m .header .flags)) + one (hasTopic (m .header .flags))
+  fore-payload-place : payloadPlace (m .header) (foreParts m) ≡ length (m .routes) + one (withRoute m) + one (withTopic m)
   unfolding payloadPlace
-  fore-payload-place = ap (λ (n : ℕ). n + one (hasTopic (m .header .flags))) fore-topic-place
+  fore-payload-place = ap (λ (n : ℕ). n + one (withTopic m)) fore-topic-place
 
-  fore-topic : hasTopic (m .header .flags) ≡ true → getD (foreParts m) (topicPlace (m .header) (foreParts m)) [] ≡ m .topic ++ (0 ∷ [])
+  fore-topic : withTopic m ≡ true → getD (foreParts m) (topicPlace (m .header) (foreParts m)) [] ≡ m .topic ++ (0 ∷ [])
   unfolding foreParts
   fore-topic e =
       rw fore-topic-place
-      (before-topic (hasRoute (m .header .flags)) (hasTopic (m .header .flags)) (hasPayload (m .header .flags)) (m .routes) (m .topic ++ (0 ∷ [])) (m .payload) (given-fit m (p .given) .routes) e)
+      (before-topic (withRoute m) (withTopic m) (withPayload m) (m .routes) (m .topic ++ (0 ∷ [])) (m .payload) (given-fit m (p .given) .routes) e)
 
-  fore-payload : hasPayload (m .header .flags) ≡ true → getD (foreParts m) (payloadPlace (m .header) (foreParts m)) [] ≡ m .payload
+  fore-payload : withPayload m ≡ true → getD (foreParts m) (payloadPlace (m .header) (foreParts m)) [] ≡ m .payload
   unfolding foreParts
   fore-payload e =
       rw fore-payload-place
-      (before-payload (hasRoute (m .header .flags)) (hasTopic (m .header .flags)) (hasPayload (m .header .flags)) (m .routes) (m .topic ++ (0 ∷ [])) (m .payload) (given-fit m (p .given) .routes) e)
+      (before-payload (withRoute m) (withTopic m) (withPayload m) (m .routes) (m .topic ++ (0 ∷ [])) (m .payload) (given-fit m (p .given) .routes) e)
 
-  pub fore-length : length (foreParts m) ≡ length (m .routes) + one (hasRoute (m .header .flags)) + one (hasTopic (m .header .flags)) + one (hasPayload (m .header .flags))
+  pub fore-length : length (foreParts m) ≡ length (m .routes) + one (withRoute m) + one (withTopic m) + one (withPayload m)
   unfolding foreParts
   fore-length =
-      before-length (hasRoute (m .header .flags)) (hasTopic (m .header .flags)) (hasPayload (m .header .flags)) (m .routes) (m .topic ++ (0 ∷ [])) (m .payload) (given-fit m (p .given) .routes)
+      before-length (withRoute m) (withTopic m) (withPayload m) (m .routes) (m .topic ++ (0 ∷ [])) (m .payload) (given-fit m (p .given) .routes)
 
   pub message-in : messageIn (m .header) (foreParts m) ≡ m
   unfolding messageIn
   message-in =
       let given = given-fit m (p .given) in
-      let topic = kept (hasTopic (m .header .flags)) (m .topic) _ (given .topic) (λ e. ap front (fore-topic e) ∙ front-snoc (m .topic) 0) in
-      let payload = kept (hasPayload (m .header .flags)) (m .payload) _ (given .payload) fore-payload in
+      let topic = kept (withTopic m) (m .topic) _ (given .topic) (λ e. ap front (fore-topic e) ∙ front-snoc (m .topic) 0) in
+      let payload = kept (withPayload m) (m .payload) _ (given .payload) fore-payload in
       λ i. record { header = m .header; routes = fore-routes i; topic = topic i; payload = payload i }
 
   pub agrees : Agrees (m .header) (foreParts m)
   agrees =
       record {
         fit = p .fit;
-        count = fore-length ∙ ap (λ (n : ℕ). n + one (hasPayload (m .header .flags))) (sym fore-payload-place);
+        count = fore-length ∙ ap (λ (n : ℕ). n + one (withPayload m)) (sym fore-payload-place);
         routes = rw fore-routes (p .routes);
         topic = λ e. rw (fore-topic e) (topic-part (m .topic) (p .topic e));
         fields = p .fields;
       }
 
+one-most : (flag : Bool) → one flag ≤ 1
+one-most true = omega arith
+one-most false = omega arith
+
+-- 64 routes, a delimiter, a topic, a payload and a header
+pub parts-few : (m : Message) → Passes m → length (partsOf m) ≤ 68
+parts-few m p =
+    let whole = ap length (parts-fore m) ∙ length-append (foreParts m) (headerBytes (m .header) ∷ []) in
+    omega (arith, whole, fore-length m p, routes-few (m .routes) (p .routes), one-most (withRoute m), one-most (withTopic m), one-most (withPayload m))
+
 -- the parts of a message that passes are read as that message
 pub judge : (m : Message) → FieldsFit (m .header) → Passes m → judged (partsOf m) ≡ answered m
 judge m fit p =
-    ap judged (parts-fore m) ∙ judged-header (foreParts m) _ (m .header) (header-is (m .header) fit (p .known)) (header-in (m .header) fit) ∙ judge-as _ _ (agrees m p) ∙ ap answered (message-in m p)
+    ap judged (parts-fore m) ∙
+    judged-header (foreParts m) _ (m .header) (header-is (m .header) fit (p .known)) (header-in (m .header) fit) ∙
+    judge-as _ _ (agrees m p) ∙ ap answered (message-in m p)
 
 -- ---- from parts to a message and back
 
@@ -212,7 +232,8 @@ module _ (h : Header) (ps : List (List ℕ)) (a : Agrees h ps) where
   in-fore : foreParts (messageIn h ps) ≡ ps
   unfolding messageIn foreParts payloadPlace topicPlace routesIn
   in-fore =
-      before-kept (hasRoute (h .flags)) (hasTopic (h .flags)) (hasPayload (h .flags)) (beforeEmpty ps) (getD ps (topicPlace h ps) []) _ (getD ps (payloadPlace h ps) []) (λ e. rw e (topic-parted _ (a .topic e))) ∙
+      before-kept (hasRoute (h .flags)) (hasTopic (h .flags)) (hasPayload (h .flags)) (beforeEmpty ps) (getD ps (topicPlace h ps) []) _ (getD ps (payloadPlace h ps) [])
+      (λ e. rw e (topic-parted _ (a .topic e))) ∙
       before-all (hasRoute (h .flags)) (hasTopic (h .flags)) (hasPayload (h .flags)) ps (topicPlace h ps) refl (a .count)
 
   in-parts : partsOf (messageIn h ps) ≡ ps ++ (headerBytes h ∷ [])

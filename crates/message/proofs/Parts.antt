@@ -1,18 +1,18 @@
 -- The parts of a body: `partsIn` takes apart what `joined` puts together, and nothing else.
 -- Assumes nothing.
 use mathlib.Core.Path.{_≡_, refl, sym, ap, _∙_, ap₂, subst}
-use Prim.Native.Nat.{ℕ, zero, suc, _+_, _-_, _<_, _≤_}
-use mathlib.Core.Bool.{Bool, true, false, cond, not, _&&_, _||_}
+use Prim.Native.Nat.{ℕ, zero, suc, _<_, _≤_}
+use mathlib.Core.Bool.{Bool, true, false, cond, _||_}
 use mathlib.Core.List.{List, [], _∷_, _++_, append-assoc}
 use native.Mathlib.Omega.{arith}
 use borrow.Author.Tests.{ltb-true, ltb-false, lt-ltb, le-ltb}
 use lib.Dec.{ltb}
-use lib.ListN.{length, getD, take, drop, length-append, take-append-drop}
+use lib.ListN.{length, take, drop, length-append, take-append-drop}
 use lib.Seq.{length-take-le, take-append-seam, drop-append-seam}
 use Rattle.octets.specs.Number.{number, four, Bytes}
 use Rattle.octets.proofs.Numbers.{number-lt, number-four, four-number}
 use Rattle.message.specs.declared.Refusal.the-variants.{WrongSize}
-use Rattle.message.specs.Answer.{Answer, refused, answered, refuseIf, andThen}
+use Rattle.message.specs.Answer.{answered, refuseIf}
 use Rattle.message.specs.Frame.{sizeBytes, partBytes, joined}
 use Rattle.message.specs.Reading.{cutPart, firstPart, partsIn}
 use Rattle.message.proofs.Answers.{passed, pass, both, answered-same, not-answered, or-left, or-right, or-neither}
@@ -43,16 +43,17 @@ pub record First (b : List ℕ) (cut : List ℕ × List ℕ) : Type 0 where
   pub same : b ≡ partBytes (cut .0) ++ cut .1
   pub sized : Sized (cut .0)
 
-part-short : (p : List ℕ) → length p < 255 → partBytes p ≡ length p ∷ p
+-- a part's bytes, by its length
+pub part-short : (p : List ℕ) → length p < 255 → partBytes p ≡ length p ∷ p
 part-short p h = rw (lt-ltb (length p) 255 h)
 
-part-long : (p : List ℕ) → 255 ≤ length p → partBytes p ≡ 255 ∷ (four (length p) ++ p)
+pub part-long : (p : List ℕ) → 255 ≤ length p → partBytes p ≡ 255 ∷ (four (length p) ++ p)
 part-long p h = rw (le-ltb (length p) 255 h)
 
 first-short : (size : ℕ) (xs : List ℕ) (cut : List ℕ × List ℕ) → size < 255 → Cut size xs cut → First (size ∷ xs) cut
 first-short size xs cut h c =
     record {
-      same = rw (c .long, lt-ltb size 255 h) (ap (λ (l : List ℕ). size ∷ l) (c .same));
+      same = rw (part-short (cut .0) (omega (arith, c .long)), c .long) (ap (λ (t : List ℕ). size ∷ t) (c .same));
       sized = omega (arith, c .long);
     }
 
@@ -69,7 +70,9 @@ pub first-split : (size : ℕ) (xs : List ℕ) (cut : List ℕ × List ℕ) → 
 unfolding firstPart
 first-split size xs cut b e = go (ltb size 255) refl e
   where
-    go : (t : Bool) → ltb size 255 ≡ t → cond t (cutPart size xs) (refuseIf (ltb (length xs) 4 || ltb (number xs) 255) WrongSize (cutPart (number xs) (drop 4 xs))) ≡ answered cut → First (size ∷ xs) cut
+    go : (t : Bool) → ltb size 255 ≡ t →
+        cond t (cutPart size xs) (refuseIf (ltb (length xs) 4 || ltb (number xs) 255) WrongSize (cutPart (number xs) (drop 4 xs))) ≡ answered cut →
+        First (size ∷ xs) cut
     go true t e = first-short size xs cut (ltb-true _ _ t) (cut-part size xs cut e)
     go false t e =
         let full : 255 ≡ size = omega (arith, ltb-false size 255 t, b .0) in
@@ -89,7 +92,8 @@ pub record Split (most : ℕ) (b : List ℕ) (ps : List (List ℕ)) : Type 0 whe
 split-none : (most : ℕ) (ps : List (List ℕ)) → answered [] ≡ answered ps → Split most [] ps
 split-none most ps e = rw (← answered-same e) (record { same = refl; few = omega arith; sized = tt; bytes = tt })
 
-split-more : (most : ℕ) (b : List ℕ) (cut : List ℕ × List ℕ) (ps : List (List ℕ)) → Bytes b → First b cut → (Bytes (cut .1) → Split most (cut .1) ps) → Split (suc most) b (cut .0 ∷ ps)
+split-more : (most : ℕ) (b : List ℕ) (cut : List ℕ × List ℕ) (ps : List (List ℕ)) → Bytes b → First b cut → (Bytes (cut .1) → Split most (cut .1) ps) →
+    Split (suc most) b (cut .0 ∷ ps)
 split-more most b cut ps h first more =
     let bytes : Bytes (partBytes (cut .0) ++ cut .1) = rw (first .same) at h in
     let rest = more (bytes-back (partBytes (cut .0)) (cut .1) bytes) in
@@ -118,7 +122,8 @@ cut-join : (p rest : List ℕ) → cutPart (length p) (p ++ rest) ≡ answered (
 cut-join p rest =
     pass _ _ _ (le-ltb (length (p ++ rest)) (length p) (simp length-append (omega arith))) ∙ rw (take-append-seam p rest, drop-append-seam p rest)
 
-long-join : (n : ℕ) (xs : List ℕ) (cut : List ℕ × List ℕ) → 4 ≤ length xs → number xs ≡ n → 255 ≤ n → cutPart n (drop 4 xs) ≡ answered cut → firstPart 255 xs ≡ answered cut
+long-join : (n : ℕ) (xs : List ℕ) (cut : List ℕ × List ℕ) → 4 ≤ length xs → number xs ≡ n → 255 ≤ n → cutPart n (drop 4 xs) ≡ answered cut →
+    firstPart 255 xs ≡ answered cut
 unfolding firstPart
 long-join n xs cut l e h k =
     pass _ _ _ (or-neither _ _ (le-ltb (length xs) 4 l) (le-ltb (number xs) 255 (omega arith))) ∙ subst (λ (m : ℕ). cutPart m (drop 4 xs) ≡ answered cut) (sym e) k

@@ -1,18 +1,18 @@
 -- Where the parts in front of the header lie, by the flags that stand for them: routes and delimiter, topic, payload.
 -- Assumes nothing.
-use mathlib.Core.Path.{_≡_, refl, sym, ap, ap₂, _∙_}
-use Prim.Native.Nat.{ℕ, zero, suc, _+_, _-_, _<_, _≤_}
+use mathlib.Core.Path.{_≡_, refl, sym, ap, _∙_}
+use Prim.Native.Nat.{ℕ, _+_, _<_, _≤_}
 use native.Mathlib.Nat.{add-zero}
-use mathlib.Core.Bool.{Bool, true, false, cond, not, _&&_, _||_}
-use mathlib.Core.List.{List, [], _∷_, _++_, append-assoc, append-nil}
+use mathlib.Core.Bool.{Bool, true, false, cond, _||_}
+use mathlib.Core.List.{List, [], _∷_, _++_, append-assoc}
 use native.Mathlib.Numerals.{add-one}
 use native.Mathlib.Omega.{arith}
-use lib.ListN.{length, getD, take, drop, length-append, length-drop}
+use lib.ListN.{length, getD, drop, length-append, length-drop}
 use lib.Seq.{getD-drop, getD-append-add}
 use Rattle.message.specs.Frame.{partIf}
 use Rattle.message.specs.Writing.{isEmpty}
 use Rattle.message.specs.Count.{one}
-use Rattle.message.specs.Reading.{front, beforeEmpty}
+use Rattle.message.specs.Reading.{beforeEmpty}
 use Rattle.message.proofs.Answers.{true-false}
 use Rattle.message.proofs.Lists.{Each, before-empty, before-split}
 
@@ -79,11 +79,13 @@ behind-all false true (x ∷ y ∷ qs) e = absurd (omega arith)
 behind-all false false [] e = refl
 behind-all false false (x ∷ qs) e = absurd (omega arith)
 
-stack-all : (r : Bool) (ps : List (List ℕ)) → length (cond r (beforeEmpty ps) []) + one r ≤ length ps → stack r (beforeEmpty ps) ++ drop (length (cond r (beforeEmpty ps) []) + one r) ps ≡ ps
+stack-all : (r : Bool) (ps : List (List ℕ)) → length (cond r (beforeEmpty ps) []) + one r ≤ length ps →
+    stack r (beforeEmpty ps) ++ drop (length (cond r (beforeEmpty ps) []) + one r) ps ≡ ps
 stack-all true ps h = rw (append-assoc, add-one) (before-split ps (omega arith))
 stack-all false ps h = refl
 
-pub before-all : (r t p : Bool) (ps : List (List ℕ)) (k : ℕ) → k ≡ length (cond r (beforeEmpty ps) []) + one r → length ps ≡ k + one t + one p → before r t p (beforeEmpty ps) (getD ps k []) (getD ps (k + one t) []) ≡ ps
+pub before-all : (r t p : Bool) (ps : List (List ℕ)) (k : ℕ) → k ≡ length (cond r (beforeEmpty ps) []) + one r → length ps ≡ k + one t + one p →
+    before r t p (beforeEmpty ps) (getD ps k []) (getD ps (k + one t) []) ≡ ps
 before-all r t p ps k place long =
     let topic : getD (drop k ps) 0 [] ≡ getD ps k [] = getD-drop k ps 0 [] ∙ ap (λ (n : ℕ). getD ps n []) (add-zero k) in
     let payload : getD (drop k ps) (one t) [] ≡ getD ps (k + one t) [] = getD-drop k ps (one t) [] in
@@ -110,7 +112,8 @@ kept-part true p q same = ap (λ (x : List ℕ). x ∷ []) (same refl)
 kept-part false p q same = refl
 
 -- what is kept without its flag is no part
-pub before-kept : (r t p : Bool) (rs : List (List ℕ)) (topic shown payload : List ℕ) → (t ≡ true → shown ≡ topic) → before r t p (cond r rs []) shown (cond p payload []) ≡ before r t p rs topic payload
+pub before-kept : (r t p : Bool) (rs : List (List ℕ)) (topic shown payload : List ℕ) → (t ≡ true → shown ≡ topic) →
+    before r t p (cond r rs []) shown (cond p payload []) ≡ before r t p rs topic payload
 before-kept r t p rs topic shown payload same =
     let paid : partIf p (cond p payload []) ≡ partIf p payload = kept-part p payload _ (λ e. rw e) in
     rw (kept-stack r rs, kept-part t topic shown same, paid)

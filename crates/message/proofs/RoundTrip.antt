@@ -1,40 +1,26 @@
--- The two laws that carry the project, for every message and every bytes.
+-- The two laws that carry the project, for every message and for all bytes.
 -- read-back: what the writer writes is read as the message that was written, whatever is behind it.
--- write-back: what the reader reads is written as the bytes that were read, and the reader takes no others.
+-- write-back: what the reader reads is written as the bytes that were read. So a message has one frame, and the reader takes no other for it.
 -- Assumes nothing.
-use mathlib.Core.Path.{_≡_, refl, sym, ap, ap₂, _∙_}
-use Prim.Native.Nat.{ℕ, _+_, _<_, _≤_}
-use mathlib.Core.Bool.{Bool, true, false}
-use mathlib.Core.List.{List, [], _∷_, _++_}
+use mathlib.Core.Path.{_≡_, sym, ap, _∙_}
+use Prim.Native.Nat.{ℕ, _+_, _≤_}
+use mathlib.Core.List.{List, _++_}
 use native.Mathlib.Omega.{arith}
-use lib.ListN.{length, getD, take, drop, length-append}
+use lib.ListN.{length, take, drop}
 use Rattle.octets.specs.Number.{Bytes}
 use Rattle.octets.proofs.Numbers.{bytes-take, bytes-drop}
 use Rattle.message.specs.Answer.{Answer, answered, andThen}
-use Rattle.message.specs.Header.{hasTopic, hasPayload, hasRoute, headerBytes}
 use Rattle.message.specs.Message.{Message, FieldsFit}
 use Rattle.message.specs.Frame.{joined, partsOf, bodyOf, frameOf}
 use Rattle.message.specs.Writing.{writing}
-use Rattle.message.specs.Count.{one}
-use Rattle.message.specs.Reading.{final, partsIn, judged, bodyLength, readingOf}
+use Rattle.message.specs.Reading.{partsIn, judged, bodyLength, readingOf}
 use Rattle.message.proofs.Answers.{both}
 use Rattle.message.proofs.Lists.{bytes-part}
-use Rattle.message.proofs.Forms.{routes-few}
 use Rattle.message.proofs.Parts.{split, join, joined-sized}
-use Rattle.message.proofs.Messages.{Passes, written, write, parts-fore, fore-length, foreParts, judge, held}
-use Rattle.message.proofs.Frames.{Framed, framed, read-frame, reading, framed-in}
+use Rattle.message.proofs.Messages.{written, write, parts-few, judge, held}
+use Rattle.message.proofs.Frames.{read-frame, reading, framed-in, frame-same, frame-length, body-short}
 
 -- ---- read back
-
-one-most : (flag : Bool) → one flag ≤ 1
-one-most true = omega arith
-one-most false = omega arith
-
--- 64 routes, a delimiter, a topic, a payload and a header
-parts-few : (m : Message) → Passes m → length (partsOf m) ≤ 68
-parts-few m p =
-    let flags = m .header .flags in
-    omega (arith, ap length (parts-fore m), length-append (foreParts m) (headerBytes (m .header) ∷ []), fore-length m p, routes-few (m .routes) (p .routes), one-most (hasRoute flags), one-most (hasTopic flags), one-most (hasPayload flags))
 
 pub read-back : (m : Message) → FieldsFit (m .header) → writing m ≡ answered (frameOf m) → (rest : List ℕ) → readingOf (frameOf m ++ rest) ≡ answered m
 unfolding frameOf bodyOf
@@ -52,18 +38,6 @@ pub record WrittenBack (b : List ℕ) (m : Message) : Type 0 where
   pub within : length (frameOf m) ≤ length b
   pub writable : writing m ≡ answered (frameOf m)
   pub fits : FieldsFit (m .header)
-
-module _ (b : List ℕ) (m : Message) (body : List ℕ) (same : bodyOf m ≡ body) (f : Framed b body) where
-  frame-same : frameOf m ≡ take (8 + bodyLength b) b
-  unfolding frameOf
-  frame-same = ap framed same ∙ f .same
-
-  frame-length : length (frameOf m) ≡ 8 + bodyLength b
-  unfolding frameOf
-  frame-length = omega (arith, ap length same, f .size)
-
-  body-short : bodyLength b ≤ 32768 → length (bodyOf m) ≤ 32768
-  body-short h = omega (arith, ap length same, f .size)
 
 pub write-back : (b : List ℕ) (m : Message) → Bytes b → readingOf b ≡ answered m → WrittenBack b m
 unfolding bodyOf
