@@ -8,7 +8,7 @@ use native.Mathlib.Omega.{arith}
 use native.Mathlib.Numerals.{add-one}
 use lib.Dec.{eqb, eqb·suc-suc, eqb·zero-suc, eqb·suc-zero}
 use lib.ListN.{length, getD, take, drop, length-append, length-drop, drop-of-length-le}
-use lib.Seq.{drop-drop, drop-at, drop-cons, append-snoc}
+use lib.Seq.{drop-drop, drop-at, drop-cons, append-snoc, take-all}
 use Rattle.octets.specs.Number.{Bytes}
 use Rattle.octets.proofs.Numbers.{bytes-drop}
 use Rattle.message.specs.declared.Refusal.the-variants.{WrongSize, ManyParts}
@@ -21,6 +21,10 @@ use Rattle.reader.specs.declared.size.Size.the-variants.{Wrong, Data}
 use Rattle.reader.specs.declared.walk.Walk.the-variants.{Refused, Counted}
 use Rattle.reader.specs.Walk.{sizeAt, walkedAs, nextEmpty}
 use Rattle.reader.proofs.Sizes.{CutBy, part-wrong, part-cut}
+
+-- what is left behind a place, as a part of a slice has it
+pub part-from : (b : List ℕ) (at : ℕ) → take (length b - at) (drop at b) ≡ drop at b
+part-from b at = take-all (length b - at) (drop at b) (omega (arith, length-drop at b))
 
 -- ---- lists of parts
 
@@ -83,6 +87,14 @@ pub record Passed (body : List ℕ) (at count empty last : ℕ) : Type 0 where
   pub lasted : last ≡ length (joined (front done))
   pub here : at ≡ length (joined done)
   pub within : at ≤ length body
+
+before-few : (ps : List (List ℕ)) → length (beforeEmpty ps) ≤ length ps
+before-few [] = omega arith
+before-few ([] ∷ ps) = omega arith
+before-few ((x ∷ p) ∷ ps) = omega (arith, before-few ps)
+
+pub empty-few : (body : List ℕ) (at count empty last : ℕ) → Passed body at count empty last → empty ≤ count
+empty-few body at count empty last p = omega (arith, before-few (p .done), p .counted, p .emptied)
 
 pub passed-none : (body : List ℕ) → Passed body 0 0 0 0
 passed-none body = record { done = []; rest = sym (behind-none (partsIn 68 body)); counted = refl; few = omega arith; emptied = refl; lasted = refl; here = refl; within = omega arith }

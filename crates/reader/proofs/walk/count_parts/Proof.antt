@@ -1,3 +1,11 @@
+use native.Mathlib.Omega.{arith}
+use mathlib.Core.Path.{_≡_, sym, ap, _∙_, subst}
+use Prim.Native.Nat.{ℕ, _+_, _-_}
+use lib.ListN.{drop}
+use borrow.Author.Needs.{needs}
+use Rattle.reader.proofs.Passing.{Passed, passed-none, passed-all, passed-many, passed-wrong, passed-more, part-from, empty-few}
+use Rattle.reader.specs.Walk.{sizeAt}
+use Rattle.octets.proofs.Numbers.{bytes-of}
 use Rattle.reader.proofs.walk.count_parts.Statement.{statement}
 use Rattle.reader.proofs.walk.count_parts.Tie as tie
 use Rattle.reader.proofs.walk.count_parts.Reads as reads
@@ -6,74 +14,86 @@ use Rattle.reader.proofs.size.size_at.Reads as size-at-reads
 use Rattle.reader.proofs.walk.next_empty.Reads as next-empty-reads
 
 abbrev Inv-loop : tie.InvT-loop
-Inv-loop body at₀ count₀ empty₀ last₀ at count empty last = ?
+Inv-loop body at₀ count₀ empty₀ last₀ at count empty last = Passed body at count empty last
 
 abbrev μ-loop : tie.MeasureT-loop
-μ-loop body at₀ count₀ empty₀ last₀ at count empty last = ?
+μ-loop body at₀ count₀ empty₀ last₀ at count empty last = 68 - count
+
+-- what is known of the size that was found, of the bytes that are left
+found : (c : tie.After-size-at Inv-loop μ-loop) → c .size-at .result ≡ sizeAt (drop (c .before .before .before .before .loop .at) (c .before .before .before .before .before .before .args .body .now))
+found c = c .size-at .ensures ∙ ap sizeAt (part-from (c .before .before .before .before .before .before .args .body .now) (c .before .before .before .before .loop .at))
+
+-- the parts passed after one more
+more : (c : tie.After-next-empty Inv-loop μ-loop) → Inv-loop (c .before .before .before .before .before .before .before .before .before .before .args .body .now) 0 0 0 0 (c .before .before .before .before .before .before .before .before .loop .at + c .before .before .size .given .0 .0 + c .before .before .size .given .0 .1 .0) (c .before .before .before .before .before .before .before .before .loop .count + 1) (c .next-empty .result) (c .before .before .before .before .before .before .before .before .loop .at)
+more c = let v = c .before .before .before .before .before .before .before .before .loop in
+    let body = c .before .before .before .before .before .before .before .before .before .before .args .body .now in
+    let size = c .before .before .size .given in
+    subst (λ (e : ℕ). Passed body (v .at + size .0 .0 + size .0 .1 .0) (v .count + 1) e (v .at)) (sym (c .next-empty .ensures))
+    (passed-more body (v .at) (v .count) (v .empty) (v .last) (v .inv) (c .before .before .before .before .before .before .before .if1 .left) (c .before .before .before .before .before .before .if2 .left) (bytes-of body (λ i. c .before .before .before .before .before .before .before .before .before .shared-slice-known .given i .fits)) (size .0 .0) (size .0 .1 .0) (sym (size .1) ∙ found (c .before .before .before .before)))
 
 -- src/walk.rt:44:5
 loop-holds : tie.Need-loop-holds Inv-loop μ-loop
-loop-holds c = ?
+loop-holds c = passed-none (c .before .args .body .now)
 
 -- src/walk.rt:51:28
 sub-size-at : tie.Need-sub-size-at Inv-loop μ-loop
-sub-size-at c = ?
+sub-size-at c = c .before .before .loop .inv .within
 
 -- src/walk.rt:51:28
 part-size-at-start : tie.Need-part-size-at-start Inv-loop μ-loop
-part-size-at-start c = ?
+part-size-at-start c = c .before .before .loop .inv .within
 
 -- src/walk.rt:51:28
 part-size-at-end : tie.Need-part-size-at-end Inv-loop μ-loop
-part-size-at-end c = ?
+part-size-at-end c = search needs
 
 -- src/walk.rt:51:13
 size-at-requires : tie.Need-size-at-requires Inv-loop μ-loop
-size-at-requires c κs = ?
+size-at-requires c κs = tt
 
 -- src/walk.rt:54:37
 enum-told : tie.Need-enum-told Inv-loop μ-loop
-enum-told c = ?
+enum-told c = search needs
 
 -- src/walk.rt:56:24
 enum-known-size : tie.Need-enum-known-size Inv-loop μ-loop
-enum-known-size c = ?
+enum-known-size c = search needs
 
 -- src/walk.rt:57:17
 next-empty-requires : tie.Need-next-empty-requires Inv-loop μ-loop
-next-empty-requires c κs = ?
+next-empty-requires c κs = (empty-few _ _ _ _ _ (c .before .before .before .before .before .before .before .loop .inv), omega (arith, c .before .before .before .before .before .before .before .loop .inv .few))
 
 -- src/walk.rt:58:17
 add-count : tie.Need-add-count Inv-loop μ-loop
-add-count c = ?
+add-count c = omega (arith, c .before .before .before .before .before .before .before .before .loop .inv .few)
 
 -- src/walk.rt:60:22
 add-at : tie.Need-add-at Inv-loop μ-loop
-add-at c = ?
+add-at c = omega (arith, more c .within)
 
 -- src/walk.rt:60:22
 add-at-2 : tie.Need-add-at-2 Inv-loop μ-loop
-add-at-2 c = ?
+add-at-2 c = omega (arith, more c .within)
 
 -- src/walk.rt:44:5
 loop-less : tie.Need-loop-less Inv-loop μ-loop
-loop-less c = ?
+loop-less c = omega (arith, c .before .before .before .before .before .before .before .before .loop .inv .few)
 
 -- src/walk.rt:44:5
 loop-again : tie.Need-loop-again Inv-loop μ-loop
-loop-again c = ?
+loop-again c = more c
 
 -- src/walk.rt:36:1
 returns : tie.Need-returns Inv-loop μ-loop
-returns c = ?
+returns c = let v = c .before .loop in passed-all (c .before .before .before .args .body .now) (v .at) (v .count) (v .empty) (v .last) (v .inv) (c .if1 .taken)
 
 -- src/walk.rt:36:1
 returns-2 : tie.Need-returns-2 Inv-loop μ-loop
-returns-2 c = ?
+returns-2 c = let v = c .before .before .loop in passed-many (c .before .before .before .before .args .body .now) (v .at) (v .count) (v .empty) (v .last) (v .inv) (c .before .if1 .left) (c .if2 .taken)
 
 -- src/walk.rt:36:1
 returns-3 : tie.Need-returns-3 Inv-loop μ-loop
-returns-3 c = ?
+returns-3 c = let v = c .before .before .before .before .before .before .loop in passed-wrong (c .before .before .before .before .before .before .before .before .args .body .now) (v .at) (v .count) (v .empty) (v .last) (v .inv) (c .before .before .before .before .before .if1 .left) (c .before .before .before .before .if2 .left) (sym (c .enum-told .given .1) ∙ found (c .before .before))
 
 pub count-parts-spec : {M : Type 1} → statement M
 count-parts-spec =
