@@ -1,2 +1,4 @@
 -- What the clauses of this crate's functions cite.
 pub mod Walk
+pub mod Places
+pub mod Judging

@@ -1,7 +1,75 @@
 // The reader: says where the parts of a framed message lie in the caller's bytes, or why there is no message. It copies nothing.
+use judge::judge;
 use message::Header;
 use message::Refusal;
 ghost use mathlib.Core.Path.{_≡_};
+ghost use Prim.Native.Nat.{_≤_};
+ghost use lib.ListN.{length};
+ghost use Rattle.message.specs.Answer.{andThen};
+ghost use Rattle.message.specs.Reading.{startsRight, partsIn, judged, readingOf};
+ghost use Rattle.reader.specs.Places.{readAs};
 
+mod header;
+mod judge;
 mod size;
 mod walk;
+
+// Where bytes lie, counted from the frame's front. Both are 0 where there are none to speak of.
+pub struct Stretch {
+    pub start: usize,
+    pub len: usize,
+}
+
+// A message in the caller's bytes: how many bytes its frame took, the header's fields, how many routes there are, where the first
+// one's data starts (0 without routes; they lie 38 bytes apart), the topic without its zero byte, and the payload.
+pub struct Frame {
+    pub taken: usize,
+    pub header: Header,
+    pub routes: usize,
+    pub route: usize,
+    pub topic: Stretch,
+    pub payload: Stretch,
+}
+
+pub enum Reading {
+    Refused(Refusal),
+    Accepted(Frame),
+}
+
+// Whether a frame's four bytes stand in front.
+fn starts_right(bytes: &[u8]) -> bool
+    requires { ⌜ 4 ≤ length (now bytes) ⌝ }
+    ensures { λ r. ⌜ r ≡ startsRight (now (bytes .entry)) ⌝ }
+{
+    if bytes[0] != 255 {
+        return false;
+    }
+    if bytes[1] != 238 {
+        return false;
+    }
+    if bytes[2] != 0 {
+        return false;
+    }
+    bytes[3] == 18
+}
+
+// Reads the frame at the front of bytes. What lies behind it is ignored.
+pub fn read(bytes: &[u8]) -> Reading
+    ensures { λ r. ⌜ r ≡ readAs (readingOf (now (bytes .entry))) ⌝ }
+{
+    if bytes.len() < 8 {
+        return Reading::Refused(Refusal::ShortInput);
+    }
+    if !starts_right(bytes) {
+        return Reading::Refused(Refusal::WrongStart);
+    }
+    let size = octets::number_of(bytes[4], bytes[5], bytes[6], bytes[7]) as usize;
+    if 32768 < size {
+        return Reading::Refused(Refusal::LongBody);
+    }
+    let end = 8 + size;
+    if bytes.len() < end {
+        return Reading::Refused(Refusal::ShortInput);
+    }
+    judge(&bytes[8..end])
+}

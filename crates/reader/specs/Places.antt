@@ -1,0 +1,52 @@
+-- Where a message lies in the caller's bytes. Assumes nothing.
+use Prim.Native.Nat.{ℕ, _+_}
+use mathlib.Core.Bool.{Bool, cond}
+use mathlib.Core.List.{List, [], _∷_, _++_}
+use lib.ListN.{length}
+use Rattle.message.specs.Answer.{Answer, refused, answered}
+use Rattle.message.specs.Header.{hasTopic, hasPayload, hasRoute, headerIn, isHeader}
+use Rattle.message.specs.Message.{Message}
+use Rattle.message.specs.Frame.{sizeBytes, joined, partIf, frameOf}
+use Rattle.message.specs.Writing.{isEmpty}
+use Rattle.reader.specs.declared.Stretch.{Stretch}
+use Rattle.reader.specs.declared.Frame.{Frame}
+use Rattle.reader.specs.declared.Reading.{Reading}
+use Rattle.reader.specs.declared.Reading.the-variants.{Refused, Accepted}
+use Rattle.reader.specs.declared.header.Head.{Head}
+use Rattle.reader.specs.declared.header.Head.the-variants.{Wrong, Fields}
+
+-- where the data of a part starts that stands behind other parts: behind the frame's eight bytes, those parts, and its own size
+abbrev pub dataAt : List (List ℕ) → List ℕ → ℕ
+dataAt before p = 8 + length (joined before) + length (sizeBytes (length p))
+
+-- a part's data where its flag is set, as many bytes as are shown of it
+abbrev pub stretchIf : Bool → ℕ → ℕ → Stretch
+stretchIf flag start len = record { start = cond flag start 0; len = len }
+
+-- the parts in front of the topic, and in front of the payload
+unfoldable pub routing : Message → List (List ℕ)
+routing m = cond (hasRoute (m .header .flags)) (m .routes) [] ++ partIf (hasRoute (m .header .flags)) []
+
+unfoldable pub topicPart : Message → List (List ℕ)
+topicPart m = partIf (hasTopic (m .header .flags)) (m .topic ++ (0 ∷ []))
+
+-- "the answer says how many bytes the frame took", and where each part lies; the topic is shown without its zero byte
+unfoldable pub placesOf : Message → Frame
+placesOf m =
+    record {
+      taken = length (frameOf m);
+      header = m .header;
+      routes = length (m .routes);
+      route = cond (isEmpty (m .routes)) 0 9;
+      topic = stretchIf (hasTopic (m .header .flags)) (dataAt (routing m) (m .topic ++ (0 ∷ []))) (length (m .topic));
+      payload = stretchIf (hasPayload (m .header .flags)) (dataAt (routing m ++ topicPart m) (m .payload)) (length (m .payload));
+    }
+
+-- the refusal, or where the message lies
+abbrev pub readAs : Answer Message → Reading
+readAs (refused r) = Refused r
+readAs (answered m) = Accepted (placesOf m)
+
+-- the fields of a header that is right
+abbrev pub headAs : List ℕ → Head
+headAs p = cond (isHeader p) (Fields (headerIn p)) Wrong

@@ -1,0 +1,201 @@
+// What the parts of a body are: the header first, then 7 to 10 in the paper's order.
+use crate::Frame;
+use crate::Reading;
+use crate::Stretch;
+use crate::header::Head;
+use crate::header::read_header;
+use crate::walk::Walk;
+use crate::walk::Walked;
+use crate::walk::count_parts;
+use message::Header;
+use message::Refusal;
+ghost use mathlib.Core.Path.{_≡_};
+ghost use mathlib.Core.Bool.{true, cond};
+ghost use mathlib.Core.List.{[]};
+ghost use Prim.Native.Nat.{_<_, _≤_};
+ghost use lib.ListN.{length, getD, take, drop};
+ghost use Rattle.message.specs.Answer.{andThen};
+ghost use Rattle.message.specs.Writing.{allRoutes};
+ghost use Rattle.message.specs.Reading.{partsIn, front, judged, judgedAs, isTopicPart};
+ghost use Rattle.reader.specs.Places.{readAs};
+ghost use Rattle.reader.specs.Judging.{partsFound, Found, HasSize, stretchAt, firstRoute, pieceIf, Headed, Sorted};
+
+// Where a part's data lies in the body, and where the next part begins.
+struct Piece {
+    at: usize,
+    len: usize,
+    next: usize,
+}
+
+// n where the flag is set, else 0.
+fn if_set(flag: bool, n: usize) -> usize
+    ensures { λ r. ⌜ r ≡ cond flag n 0 ⌝ }
+{
+    if flag { n } else { 0 }
+}
+
+// The data of the part that begins s, whose size is known to be right.
+fn stretch_at(s: &[u8]) -> Stretch
+    requires { ⌜ HasSize (now s) ⌝ }
+    ensures { λ r. ⌜ r ≡ stretchAt (now (s .entry)) ⌝ }
+{
+    let short = octets::wide(s[0]) as usize;
+    if short < 255 {
+        return Stretch {
+            start: 1,
+            len: short,
+        };
+    }
+    Stretch {
+        start: 5,
+        len: octets::number_of(s[1], s[2], s[3], s[4]) as usize,
+    }
+}
+
+// Where the part that begins at a place of the body lies, if its flag is set.
+fn piece_if(body: &[u8], flag: bool, at: usize) -> Piece
+    requires { ⌜ (at ≤ length (now body)) × (length (now body) ≤ 32768) ⌝ }
+    requires { ⌜ Found (drop at (now body)) ⌝ }
+    requires { ⌜ (flag ≡ true → 0 < length (drop at (now body))) ⌝ }
+    ensures { λ r. ⌜ r ≡ pieceIf flag at (partsFound (drop at (now (body .entry)))) ⌝ }
+{
+    if flag {
+        let part = stretch_at(&body[at..]);
+        let data = at + part.start;
+        Piece {
+            at: data,
+            len: part.len,
+            next: data + part.len,
+        }
+    } else {
+        Piece {
+            at: 0,
+            len: 0,
+            next: at,
+        }
+    }
+}
+
+// Whether a part holds a topic with its zero byte.
+fn is_topic_part(p: &[u8]) -> bool
+    ensures { λ r. ⌜ r ≡ isTopicPart (now (p .entry)) ⌝ }
+{
+    if p.len() == 0 {
+        return false;
+    }
+    let end = p.len() - 1;
+    if p[end] != 0 {
+        return false;
+    }
+    message::form::is_topic(&p[..end])
+}
+
+// Whether the first so many parts are routes. Those in front of a part that is looked at have 38 bytes each.
+fn are_routes(body: &[u8], routes: usize) -> bool
+    requires { ⌜ Found (now body) ⌝ }
+    requires { ⌜ (length (now body) ≤ 32768) × (routes ≤ length (partsFound (now body))) ⌝ }
+    ensures { λ r. ⌜ r ≡ allRoutes (take routes (partsFound (now (body .entry)))) ⌝ }
+{
+    let mut i = 0;
+    let mut at = 0;
+    while i < routes {
+        if body[at] != 37 {
+            return false;
+        }
+        if !message::form::is_route(&body[at + 1..at + 38]) {
+            return false;
+        }
+        at += 38;
+        i += 1;
+    }
+    true
+}
+
+// Where the first route's data starts.
+fn first_route(routes: usize) -> usize
+    ensures { λ r. ⌜ r ≡ firstRoute routes ⌝ }
+{
+    if routes == 0 { 0 } else { 9 }
+}
+
+// 9 and 10, and then the message: the parts are as many as they should be, and the routes are right.
+fn judge_rest(body: &[u8], h: Header, routes: usize) -> Reading
+    requires { ⌜ Sorted (now body) h routes ⌝ }
+    ensures { λ r. ⌜ r ≡ readAs (judgedAs h (front (partsFound (now (body .entry))))) ⌝ }
+{
+    let has_topic = message::has_topic(h.flags);
+    let has_payload = message::has_payload(h.flags);
+    let at = 38 * routes + if_set(message::has_route(h.flags), 1);
+    let topic = piece_if(body, has_topic, at);
+    if has_topic {
+        let from = topic.at;
+        let to = topic.next;
+        if !is_topic_part(&body[from..to]) {
+            return Reading::Refused(Refusal::WrongTopic);
+        }
+    }
+    if !message::fields_good(h) {
+        return Reading::Refused(Refusal::WrongField);
+    }
+    let payload = piece_if(body, has_payload, topic.next);
+    Reading::Accepted(Frame {
+        taken: 8 + body.len(),
+        header: h,
+        routes,
+        route: first_route(routes),
+        topic: Stretch {
+            start: if_set(has_topic, 8 + topic.at),
+            len: topic.len - if_set(has_topic, 1),
+        },
+        payload: Stretch {
+            start: if_set(has_payload, 8 + payload.at),
+            len: payload.len,
+        },
+    })
+}
+
+// 7 and 8: whether the parts are those that type and flags ask for, and then the routes.
+fn judge_parts(body: &[u8], w: Walked, h: Header) -> Reading
+    requires { ⌜ Headed (now body) w h ⌝ }
+    ensures { λ r. ⌜ r ≡ readAs (judgedAs h (front (partsFound (now (body .entry))))) ⌝ }
+{
+    if !message::parts_fit(h) {
+        return Reading::Refused(Refusal::WrongParts);
+    }
+    let has_route = message::has_route(h.flags);
+    let routes = if_set(has_route, w.empty);
+    let topics = if_set(message::has_topic(h.flags), 1);
+    let payloads = if_set(message::has_payload(h.flags), 1);
+    if w.count != routes + if_set(has_route, 1) + topics + payloads + 1 {
+        return Reading::Refused(Refusal::WrongParts);
+    }
+    if 64 < routes {
+        return Reading::Refused(Refusal::WrongRoute);
+    }
+    if are_routes(body, routes) {
+        judge_rest(body, h, routes)
+    } else {
+        Reading::Refused(Refusal::WrongRoute)
+    }
+}
+
+// Reads a body: its parts, the header, which is the last of them, and the rest.
+pub(crate) fn judge(body: &[u8]) -> Reading
+    requires { ⌜ length (now body) ≤ 32768 ⌝ }
+    ensures { λ r. ⌜ r ≡ readAs (andThen (partsIn 68 (now (body .entry))) judged) ⌝ }
+{
+    match count_parts(body) {
+        Walk::Refused(r) => Reading::Refused(r),
+        Walk::Counted(w) => {
+            let last = w.last;
+            if body.len() - last != 21 {
+                return Reading::Refused(Refusal::WrongHeader);
+            }
+            let start = last + 1;
+            match read_header(&body[start..]) {
+                Head::Wrong => Reading::Refused(Refusal::WrongHeader),
+                Head::Fields(h) => judge_parts(body, w, h),
+            }
+        }
+    }
+}
