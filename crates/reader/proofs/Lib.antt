@@ -4,3 +4,8 @@ pub mod Passing
 pub mod Heads
 pub mod Stretches
 pub mod Routing
+pub mod Cursors
+pub mod Sorting
+pub mod Accepting
+pub mod Heading
+pub mod Agreeing

@@ -41,7 +41,7 @@ suc-cond : (t : Bool) (n : ℕ) → suc (cond t (n + 1) n) ≡ cond t (suc n + 1
 suc-cond true n = omega arith
 suc-cond false n = refl
 
-empty-snoc : (ps : List (List ℕ)) (p : List ℕ) → length (beforeEmpty (ps ++ (p ∷ []))) ≡ nextEmpty (length ps) (length (beforeEmpty ps)) (length p)
+pub empty-snoc : (ps : List (List ℕ)) (p : List ℕ) → length (beforeEmpty (ps ++ (p ∷ []))) ≡ nextEmpty (length ps) (length (beforeEmpty ps)) (length p)
 empty-snoc [] [] = refl
 empty-snoc [] (x ∷ p) = rw (eqb·suc-zero (length p))
 empty-snoc ([] ∷ ps) p = rw (eqb·zero-suc (length ps))
@@ -88,7 +88,7 @@ pub record Passed (body : List ℕ) (at count empty last : ℕ) : Type 0 where
   pub here : at ≡ length (joined done)
   pub within : at ≤ length body
 
-before-few : (ps : List (List ℕ)) → length (beforeEmpty ps) ≤ length ps
+pub before-few : (ps : List (List ℕ)) → length (beforeEmpty ps) ≤ length ps
 before-few [] = omega arith
 before-few ([] ∷ ps) = omega arith
 before-few ((x ∷ p) ∷ ps) = omega (arith, before-few ps)

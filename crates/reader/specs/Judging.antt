@@ -1,18 +1,21 @@
 -- What is known of a body while its parts are judged: the clauses of the functions inside the reader. Assumes nothing.
 use mathlib.Core.Path.{_≡_}
-use Prim.Native.Nat.{ℕ, _+_, _≤_}
-use mathlib.Core.Bool.{Bool, true, cond}
+use Prim.Native.Nat.{ℕ, _+_, _-_, _≤_}
+use mathlib.Core.Bool.{Bool, true, cond, not, _&&_}
 use mathlib.Core.List.{List, [], _∷_}
 use lib.Dec.{eqb, ltb}
-use lib.ListN.{length, getD, drop}
+use lib.ListN.{length, getD, take, drop}
 use Rattle.octets.specs.Number.{number}
 use Rattle.message.specs.declared.Header.{Header}
 use Rattle.message.specs.Answer.{Answer, refused, answered}
-use Rattle.message.specs.Header.{headerIn, isHeader}
+use Rattle.message.specs.Count.{one}
+use Rattle.message.specs.Header.{hasTopic, hasPayload, headerIn, isHeader}
 use Rattle.message.specs.Frame.{sizeBytes, partBytes}
 use Rattle.message.specs.Writing.{routesGood}
-use Rattle.message.specs.Reading.{partsIn, front, final, beforeEmpty, routesIn, partsAgree}
+use Rattle.message.specs.Reading.{partsIn, front, final, beforeEmpty, routesIn, partsAgree, isTopicPart}
 use Rattle.reader.specs.declared.Stretch.{Stretch}
+use Rattle.reader.specs.declared.Frame.{Frame}
+use Rattle.reader.specs.Places.{stretchIf}
 use Rattle.reader.specs.declared.walk.Walked.{Walked}
 use Rattle.reader.specs.declared.judge.Piece.{Piece}
 
@@ -48,6 +51,33 @@ pieceIf flag place ps = cond flag (pieceAt place (getD ps 0 [])) (record { at = 
 -- behind the frame's eight bytes and the first route's size
 abbrev pub firstRoute : ℕ → ℕ
 firstRoute routes = cond (eqb routes 0) 0 9
+
+-- a topic's piece lies within the body
+pub record Within (flags : ℕ) (topic : Piece) (size : ℕ) : Type 0 where
+  pub starts : hasTopic flags ≡ true → topic .at ≤ topic .next
+  pub ends : hasTopic flags ≡ true → topic .next ≤ size
+
+-- 9, of the bytes in that piece
+abbrev pub topicWrong : ℕ → Piece → List ℕ → Bool
+topicWrong flags topic body = hasTopic flags && not (isTopicPart (take (topic .next - topic .at) (drop (topic .at) body)))
+
+-- the answer from the pieces, counted from the frame's front
+pub record Placeable (size : ℕ) (h : Header) (topic payload : Piece) : Type 0 where
+  pub short : size ≤ 32768
+  pub topic-in : topic .at ≤ size
+  pub topic-some : one (hasTopic (h .flags)) ≤ topic .len
+  pub payload-in : payload .at ≤ size
+
+abbrev pub placedAs : ℕ → Header → ℕ → Piece → Piece → Frame
+placedAs size h routes topic payload =
+    record {
+      taken = 8 + size;
+      header = h;
+      routes = routes;
+      route = firstRoute routes;
+      topic = stretchIf (hasTopic (h .flags)) (8 + topic .at) (topic .len - one (hasTopic (h .flags)));
+      payload = stretchIf (hasPayload (h .flags)) (8 + payload .at) (payload .len);
+    }
 
 -- ---- the state of the judging
 

@@ -18,7 +18,7 @@ ghost use Rattle.message.specs.Answer.{andThen};
 ghost use Rattle.message.specs.Writing.{allRoutes};
 ghost use Rattle.message.specs.Reading.{partsIn, front, judged, judgedAs, isTopicPart};
 ghost use Rattle.reader.specs.Places.{readAs};
-ghost use Rattle.reader.specs.Judging.{partsFound, Found, HasSize, stretchAt, firstRoute, pieceIf, Headed, Sorted};
+ghost use Rattle.reader.specs.Judging.{partsFound, Found, HasSize, stretchAt, firstRoute, pieceIf, Within, topicWrong, Placeable, placedAs, Headed, Sorted};
 
 // Where a part's data lies in the body, and where the next part begins.
 struct Piece {
@@ -118,28 +118,28 @@ fn first_route(routes: usize) -> usize
     if routes == 0 { 0 } else { 9 }
 }
 
-// 9 and 10, and then the message: the parts are as many as they should be, and the routes are right.
-fn judge_rest(body: &[u8], h: Header, routes: usize) -> Reading
-    requires { ⌜ Sorted (now body) h routes ⌝ }
-    ensures { λ r. ⌜ r ≡ readAs (judgedAs h (front (partsFound (now (body .entry))))) ⌝ }
+// 9: whether there is to be a topic, and the part is none.
+fn topic_wrong(body: &[u8], flags: u8, topic: Piece) -> bool
+    requires { ⌜ Within flags topic (length (now body)) ⌝ }
+    ensures { λ r. ⌜ r ≡ topicWrong flags topic (now (body .entry)) ⌝ }
+{
+    let from = topic.at;
+    let to = topic.next;
+    if message::has_topic(flags) {
+        !is_topic_part(&body[from..to])
+    } else {
+        false
+    }
+}
+
+// The answer, counted from the frame's front: the body lies behind its first eight bytes.
+fn placed(size: usize, h: Header, routes: usize, topic: Piece, payload: Piece) -> Frame
+    requires { ⌜ Placeable size h topic payload ⌝ }
+    ensures { λ r. ⌜ r ≡ placedAs size h routes topic payload ⌝ }
 {
     let has_topic = message::has_topic(h.flags);
-    let has_payload = message::has_payload(h.flags);
-    let at = 38 * routes + if_set(message::has_route(h.flags), 1);
-    let topic = piece_if(body, has_topic, at);
-    if has_topic {
-        let from = topic.at;
-        let to = topic.next;
-        if !is_topic_part(&body[from..to]) {
-            return Reading::Refused(Refusal::WrongTopic);
-        }
-    }
-    if !message::fields_good(h) {
-        return Reading::Refused(Refusal::WrongField);
-    }
-    let payload = piece_if(body, has_payload, topic.next);
-    Reading::Accepted(Frame {
-        taken: 8 + body.len(),
+    Frame {
+        taken: 8 + size,
         header: h,
         routes,
         route: first_route(routes),
@@ -148,10 +148,28 @@ fn judge_rest(body: &[u8], h: Header, routes: usize) -> Reading
             len: topic.len - if_set(has_topic, 1),
         },
         payload: Stretch {
-            start: if_set(has_payload, 8 + payload.at),
+            start: if_set(message::has_payload(h.flags), 8 + payload.at),
             len: payload.len,
         },
-    })
+    }
+}
+
+// 9 and 10, and then the message: the parts are as many as they should be, and the routes are right.
+fn judge_rest(body: &[u8], h: Header, routes: usize) -> Reading
+    requires { ⌜ Sorted (now body) h routes ⌝ }
+    ensures { λ r. ⌜ r ≡ readAs (judgedAs h (front (partsFound (now (body .entry))))) ⌝ }
+{
+    let at = 38 * routes + if_set(message::has_route(h.flags), 1);
+    let topic = piece_if(body, message::has_topic(h.flags), at);
+    if topic_wrong(body, h.flags, topic) {
+        return Reading::Refused(Refusal::WrongTopic);
+    }
+    if message::fields_good(h) {
+        let payload = piece_if(body, message::has_payload(h.flags), topic.next);
+        Reading::Accepted(placed(body.len(), h, routes, topic, payload))
+    } else {
+        Reading::Refused(Refusal::WrongField)
+    }
 }
 
 // 7 and 8: whether the parts are those that type and flags ask for, and then the routes.

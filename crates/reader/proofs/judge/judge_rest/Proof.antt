@@ -1,4 +1,20 @@
 use borrow.Author.Needs.{needs}
+use native.Mathlib.Omega.{arith}
+use mathlib.Core.Path.{_≡_, sym, ap, _∙_}
+use mathlib.Core.Bool.{Bool, true, false, not, _&&_}
+use Prim.Native.Nat.{ℕ, _+_, _*_}
+use lib.ListN.{drop}
+use Rattle.reader.proofs.Accepting.{topic-in, topic-found, topic-some, topic-within, topic-tested, payload-in, payload-found, payload-some, placeable, answer-is, placed-is}
+use Rattle.reader.proofs.Sorting.{judged-topic, judged-field, topicData, few-routes}
+use Rattle.reader.specs.Judging.{partsFound, pieceIf}
+use Rattle.reader.specs.Places.{readAs}
+use Rattle.reader.specs.declared.Reading.the-variants.{Accepted}
+use Rattle.message.specs.Reading.{front, isTopicPart}
+use Rattle.message.specs.Header.{hasTopic, hasPayload, hasRoute}
+use Rattle.message.specs.Message.{Message}
+use Rattle.message.specs.Answer.{Answer}
+use Rattle.message.specs.Count.{one}
+use Rattle.octets.proofs.Numbers.{bytes-of}
 use Rattle.reader.proofs.judge.judge_rest.Statement.{statement}
 use Rattle.reader.proofs.judge.judge_rest.Tie as tie
 use Rattle.reader.proofs.judge.judge_rest.Reads as reads
@@ -7,132 +23,152 @@ use Rattle.message.proofs.fields_good.Reads as fields-good-reads
 use Rattle.message.proofs.has_payload.Reads as has-payload-reads
 use Rattle.message.proofs.has_route.Reads as has-route-reads
 use Rattle.message.proofs.has_topic.Reads as has-topic-reads
-use Rattle.reader.proofs.judge.first_route.Reads as first-route-reads
 use Rattle.reader.proofs.judge.if_set.Reads as if-set-reads
-use Rattle.reader.proofs.judge.is_topic_part.Reads as is-topic-part-reads
 use Rattle.reader.proofs.judge.piece_if.Reads as piece-if-reads
+use Rattle.reader.proofs.judge.placed.Reads as placed-reads
+use Rattle.reader.proofs.judge.topic_wrong.Reads as topic-wrong-reads
 
--- src/judge.rt:126:9
-has-topic-requires : tie.Need-has-topic-requires
-has-topic-requires c κs = search needs
-
--- src/judge.rt:127:9
-has-payload-requires : tie.Need-has-payload-requires
-has-payload-requires c κs = search needs
-
--- src/judge.rt:128:14
+-- src/judge.rt:162:14
 mul-at : tie.Need-mul-at
-mul-at c = ?
+mul-at c = omega (arith, few-routes (c .before .args .body .now) (c .before .args .h) (c .before .args .routes) (c .before .pre) (bytes-of (c .before .args .body .now) (λ i. c .shared-slice-known .given i .fits)))
 
--- src/judge.rt:128:35
+-- src/judge.rt:162:35
 has-route-requires : tie.Need-has-route-requires
 has-route-requires c κs = search needs
 
--- src/judge.rt:128:28
+-- src/judge.rt:162:28
 if-set-requires : tie.Need-if-set-requires
 if-set-requires c κs = search needs
 
--- src/judge.rt:128:14
+-- src/judge.rt:162:14
 add-at : tie.Need-add-at
-add-at c = ?
+add-at c = let args = c .before .before .before .args in
+    let body = args .body .now in
+    let h = args .h in
+    let at = 38 * args .routes + c .if-set .result in
+    let bytes = bytes-of body (λ i. c .before .before .shared-slice-known .given i .fits) in
+    let place : at ≡ 38 * args .routes + one (hasRoute (h .flags)) = ap (λ (n : ℕ). 38 * args .routes + n) (c .if-set .ensures ∙ ap one (c .before .has-route .ensures)) in
+    omega (arith, topic-in body h (args .routes) (c .before .before .before .pre) bytes at place , c .before .before .before .pre .short)
 
--- src/judge.rt:129:9
+-- src/judge.rt:163:32
+has-topic-requires : tie.Need-has-topic-requires
+has-topic-requires c κs = search needs
+
+-- src/judge.rt:163:9
 piece-if-requires : tie.Need-piece-if-requires
-piece-if-requires c κs = ?
+piece-if-requires c κs = let args = c .before .before .before .before .args in
+    let body = args .body .now in
+    let h = args .h in
+    let at = 38 * args .routes + c .before .if-set .result in
+    let bytes = bytes-of body (λ i. c .before .before .before .shared-slice-known .given i .fits) in
+    let place : at ≡ 38 * args .routes + one (hasRoute (h .flags)) = ap (λ (n : ℕ). 38 * args .routes + n) (c .before .if-set .ensures ∙ ap one (c .before .before .has-route .ensures)) in
+    ((topic-in body h (args .routes) (c .before .before .before .before .pre) bytes at place , c .before .before .before .before .pre .short), (topic-found body h (args .routes) (c .before .before .before .before .pre) bytes at place , (λ _. topic-some body h (args .routes) (c .before .before .before .before .pre) bytes at place )))
 
--- src/judge.rt:133:27
-sub-is-topic-part : tie.Need-sub-is-topic-part
-sub-is-topic-part c = ?
+-- src/judge.rt:164:8
+topic-wrong-requires : tie.Need-topic-wrong-requires
+topic-wrong-requires c κs = let args = c .before .before .before .before .before .args in
+    let body = args .body .now in
+    let h = args .h in
+    let at = 38 * args .routes + c .before .before .if-set .result in
+    let bytes = bytes-of body (λ i. c .before .before .before .before .shared-slice-known .given i .fits) in
+    let place : at ≡ 38 * args .routes + one (hasRoute (h .flags)) = ap (λ (n : ℕ). 38 * args .routes + n) (c .before .before .if-set .ensures ∙ ap one (c .before .before .before .has-route .ensures)) in
+    let topic = c .piece-if .result in
+    let is-topic : topic ≡ pieceIf (hasTopic (h .flags)) at (partsFound (drop at body)) = c .piece-if .ensures ∙ ap (λ (t : Bool). pieceIf t at (partsFound (drop at body))) (c .before .has-topic .ensures) in
+    topic-within body h (args .routes) (c .before .before .before .before .before .pre) bytes at place topic is-topic
 
--- src/judge.rt:133:27
-part-is-topic-part-start : tie.Need-part-is-topic-part-start
-part-is-topic-part-start c = ?
-
--- src/judge.rt:133:27
-part-is-topic-part-end : tie.Need-part-is-topic-part-end
-part-is-topic-part-end c = ?
-
--- src/judge.rt:133:13
-is-topic-part-requires : tie.Need-is-topic-part-requires
-is-topic-part-requires c κs = search needs
-
--- src/judge.rt:134:13
+-- src/judge.rt:165:9
 returns : tie.Need-returns
-returns c = ?
+returns c = let args = c .before .before .before .before .before .before .before .args in
+    let body = args .body .now in
+    let h = args .h in
+    let at = 38 * args .routes + c .before .before .before .before .if-set .result in
+    let bytes = bytes-of body (λ i. c .before .before .before .before .before .before .shared-slice-known .given i .fits) in
+    let place : at ≡ 38 * args .routes + one (hasRoute (h .flags)) = ap (λ (n : ℕ). 38 * args .routes + n) (c .before .before .before .before .if-set .ensures ∙ ap one (c .before .before .before .before .before .has-route .ensures)) in
+    let topic = c .before .before .piece-if .result in
+    let is-topic : topic ≡ pieceIf (hasTopic (h .flags)) at (partsFound (drop at body)) = c .before .before .piece-if .ensures ∙ ap (λ (t : Bool). pieceIf t at (partsFound (drop at body))) (c .before .before .before .has-topic .ensures) in
+    let s = c .before .before .before .before .before .before .before .pre in
+    sym (ap readAs (judged-topic h (front (partsFound body)) (s .agree) (s .good) (sym (topic-tested body h (args .routes) (c .before .before .before .before .before .before .before .pre) bytes at place topic is-topic) ∙ sym (c .before .topic-wrong .ensures) ∙ c .if1 .taken)))
 
--- src/judge.rt:137:9
+-- src/judge.rt:167:8
 fields-good-requires : tie.Need-fields-good-requires
 fields-good-requires c κs = search needs
 
--- src/judge.rt:138:9
-returns-2 : tie.Need-returns-2
-returns-2 c = ?
+-- src/judge.rt:168:38
+has-payload-requires : tie.Need-has-payload-requires
+has-payload-requires c κs = search needs
 
--- src/judge.rt:140:9
+-- src/judge.rt:168:13
 piece-if-requires-2 : tie.Need-piece-if-requires-2
-piece-if-requires-2 c κs = ?
+piece-if-requires-2 c κs = let args = c .before .before .before .before .before .before .before .before .before .before .args in
+    let body = args .body .now in
+    let h = args .h in
+    let at = 38 * args .routes + c .before .before .before .before .before .before .before .if-set .result in
+    let bytes = bytes-of body (λ i. c .before .before .before .before .before .before .before .before .before .shared-slice-known .given i .fits) in
+    let place : at ≡ 38 * args .routes + one (hasRoute (h .flags)) = ap (λ (n : ℕ). 38 * args .routes + n) (c .before .before .before .before .before .before .before .if-set .ensures ∙ ap one (c .before .before .before .before .before .before .before .before .has-route .ensures)) in
+    let topic = c .before .before .before .before .before .piece-if .result in
+    let is-topic : topic ≡ pieceIf (hasTopic (h .flags)) at (partsFound (drop at body)) = c .before .before .before .before .before .piece-if .ensures ∙ ap (λ (t : Bool). pieceIf t at (partsFound (drop at body))) (c .before .before .before .before .before .before .has-topic .ensures) in
+    ((payload-in body h (args .routes) (c .before .before .before .before .before .before .before .before .before .before .pre) bytes at place topic is-topic, c .before .before .before .before .before .before .before .before .before .before .pre .short), (payload-found body h (args .routes) (c .before .before .before .before .before .before .before .before .before .before .pre) bytes at place topic is-topic, (λ _. payload-some body h (args .routes) (c .before .before .before .before .before .before .before .before .before .before .pre) bytes at place topic is-topic)))
 
--- src/judge.rt:142:16
-add-t12 : tie.Need-add-t12
-add-t12 c = search needs
+-- src/judge.rt:169:27
+placed-requires : tie.Need-placed-requires
+placed-requires c κs = let args = c .before .before .before .before .before .before .before .before .before .before .before .args in
+    let body = args .body .now in
+    let h = args .h in
+    let at = 38 * args .routes + c .before .before .before .before .before .before .before .before .if-set .result in
+    let bytes = bytes-of body (λ i. c .before .before .before .before .before .before .before .before .before .before .shared-slice-known .given i .fits) in
+    let place : at ≡ 38 * args .routes + one (hasRoute (h .flags)) = ap (λ (n : ℕ). 38 * args .routes + n) (c .before .before .before .before .before .before .before .before .if-set .ensures ∙ ap one (c .before .before .before .before .before .before .before .before .before .has-route .ensures)) in
+    let topic = c .before .before .before .before .before .before .piece-if .result in
+    let is-topic : topic ≡ pieceIf (hasTopic (h .flags)) at (partsFound (drop at body)) = c .before .before .before .before .before .before .piece-if .ensures ∙ ap (λ (t : Bool). pieceIf t at (partsFound (drop at body))) (c .before .before .before .before .before .before .before .has-topic .ensures) in
+    let payload = c .piece-if2 .result in
+    let is-payload : payload ≡ pieceIf (hasPayload (h .flags)) (topic .next) (partsFound (drop (topic .next) body)) = c .piece-if2 .ensures ∙ ap (λ (t : Bool). pieceIf t (topic .next) (partsFound (drop (topic .next) body))) (c .before .has-payload .ensures) in
+    let good : (hasTopic (h .flags) && not (isTopicPart (topicData body h (args .routes) (c .before .before .before .before .before .before .before .before .before .before .before .pre) bytes))) ≡ false = sym (topic-tested body h (args .routes) (c .before .before .before .before .before .before .before .before .before .before .before .pre) bytes at place topic is-topic) ∙ sym (c .before .before .before .before .before .topic-wrong .ensures) ∙ c .before .before .before .before .if1 .left in
+    placeable body h (args .routes) (c .before .before .before .before .before .before .before .before .before .before .before .pre) bytes at place topic is-topic payload is-payload good
 
--- src/judge.rt:145:16
-first-route-requires : tie.Need-first-route-requires
-first-route-requires c κs = search needs
+-- src/judge.rt:158:1
+returns-2 : tie.Need-returns-2
+returns-2 c = let args = c .before .before .before .before .before .before .before .before .before .before .before .before .args in
+    let body = args .body .now in
+    let h = args .h in
+    let at = 38 * args .routes + c .before .before .before .before .before .before .before .before .before .if-set .result in
+    let bytes = bytes-of body (λ i. c .before .before .before .before .before .before .before .before .before .before .before .shared-slice-known .given i .fits) in
+    let place : at ≡ 38 * args .routes + one (hasRoute (h .flags)) = ap (λ (n : ℕ). 38 * args .routes + n) (c .before .before .before .before .before .before .before .before .before .if-set .ensures ∙ ap one (c .before .before .before .before .before .before .before .before .before .before .has-route .ensures)) in
+    let topic = c .before .before .before .before .before .before .before .piece-if .result in
+    let is-topic : topic ≡ pieceIf (hasTopic (h .flags)) at (partsFound (drop at body)) = c .before .before .before .before .before .before .before .piece-if .ensures ∙ ap (λ (t : Bool). pieceIf t at (partsFound (drop at body))) (c .before .before .before .before .before .before .before .before .has-topic .ensures) in
+    let payload = c .before .piece-if2 .result in
+    let is-payload : payload ≡ pieceIf (hasPayload (h .flags)) (topic .next) (partsFound (drop (topic .next) body)) = c .before .piece-if2 .ensures ∙ ap (λ (t : Bool). pieceIf t (topic .next) (partsFound (drop (topic .next) body))) (c .before .before .has-payload .ensures) in
+    let good : (hasTopic (h .flags) && not (isTopicPart (topicData body h (args .routes) (c .before .before .before .before .before .before .before .before .before .before .before .before .pre) bytes))) ≡ false = sym (topic-tested body h (args .routes) (c .before .before .before .before .before .before .before .before .before .before .before .before .pre) bytes at place topic is-topic) ∙ sym (c .before .before .before .before .before .before .topic-wrong .ensures) ∙ c .before .before .before .before .before .if1 .left in
+    let fields = sym (c .before .before .before .before .fields-good .ensures) ∙ c .before .before .before .if2 .taken in
+    ap Accepted (c .placed .ensures ∙ placed-is body h (args .routes) (c .before .before .before .before .before .before .before .before .before .before .before .before .pre) bytes at place topic is-topic payload is-payload good fields) ∙ sym (ap readAs (answer-is body h (args .routes) (c .before .before .before .before .before .before .before .before .before .before .before .before .pre) bytes at place topic is-topic payload is-payload good fields))
 
--- src/judge.rt:147:38
-add-if-set : tie.Need-add-if-set
-add-if-set c = ?
-
--- src/judge.rt:147:20
-if-set-requires-2 : tie.Need-if-set-requires-2
-if-set-requires-2 c κs = search needs
-
--- src/judge.rt:148:30
-if-set-requires-3 : tie.Need-if-set-requires-3
-if-set-requires-3 c κs = search needs
-
--- src/judge.rt:148:18
-sub-t27 : tie.Need-sub-t27
-sub-t27 c = ?
-
--- src/judge.rt:151:40
-add-if-set-2 : tie.Need-add-if-set-2
-add-if-set-2 c = ?
-
--- src/judge.rt:151:20
-if-set-requires-4 : tie.Need-if-set-requires-4
-if-set-requires-4 c κs = search needs
-
--- src/judge.rt:122:1
+-- src/judge.rt:158:1
 returns-3 : tie.Need-returns-3
-returns-3 c = ?
+returns-3 c = let args = c .before .before .before .before .before .before .before .before .before .args in
+    let body = args .body .now in
+    let h = args .h in
+    let at = 38 * args .routes + c .before .before .before .before .before .before .if-set .result in
+    let bytes = bytes-of body (λ i. c .before .before .before .before .before .before .before .before .shared-slice-known .given i .fits) in
+    let place : at ≡ 38 * args .routes + one (hasRoute (h .flags)) = ap (λ (n : ℕ). 38 * args .routes + n) (c .before .before .before .before .before .before .if-set .ensures ∙ ap one (c .before .before .before .before .before .before .before .has-route .ensures)) in
+    let topic = c .before .before .before .before .piece-if .result in
+    let is-topic : topic ≡ pieceIf (hasTopic (h .flags)) at (partsFound (drop at body)) = c .before .before .before .before .piece-if .ensures ∙ ap (λ (t : Bool). pieceIf t at (partsFound (drop at body))) (c .before .before .before .before .before .has-topic .ensures) in
+    let good : (hasTopic (h .flags) && not (isTopicPart (topicData body h (args .routes) (c .before .before .before .before .before .before .before .before .before .pre) bytes))) ≡ false = sym (topic-tested body h (args .routes) (c .before .before .before .before .before .before .before .before .before .pre) bytes at place topic is-topic) ∙ sym (c .before .before .before .topic-wrong .ensures) ∙ c .before .before .if1 .left in
+    let s = c .before .before .before .before .before .before .before .before .before .pre in
+    sym (ap readAs (judged-field h (front (partsFound body)) (s .agree) (s .good) good (sym (c .before .fields-good .ensures) ∙ c .if2 .left)))
 
 pub judge-rest-spec : {M : Type 1} → statement M
 judge-rest-spec =
     tie.close
     (tie.spec
-    has-topic-requires
-    has-payload-requires
     mul-at
     has-route-requires
     if-set-requires
     add-at
+    has-topic-requires
     piece-if-requires
-    sub-is-topic-part
-    part-is-topic-part-start
-    part-is-topic-part-end
-    is-topic-part-requires
+    topic-wrong-requires
     returns
     fields-good-requires
-    returns-2
+    has-payload-requires
     piece-if-requires-2
-    add-t12
-    first-route-requires
-    add-if-set
-    if-set-requires-2
-    if-set-requires-3
-    sub-t27
-    add-if-set-2
-    if-set-requires-4
+    placed-requires
+    returns-2
     returns-3)

@@ -1,0 +1,98 @@
+use borrow.Author.Needs.{needs}
+use Rattle.reader.proofs.read.Statement.{statement}
+use Rattle.reader.proofs.read.Tie as tie
+use Rattle.reader.proofs.read.Reads as reads
+use Rattle.reader.proofs.read.Lts as lts
+use Rattle.octets.proofs.number_of.Reads as number-of-reads
+use Rattle.reader.proofs.judge.judge.Reads as judge-reads
+use Rattle.reader.proofs.starts_right.Reads as starts-right-reads
+
+-- src/lib.rt:61:9
+returns : tie.Need-returns
+returns c = ?
+
+-- src/lib.rt:63:9
+starts-right-requires : tie.Need-starts-right-requires
+starts-right-requires c κs = search needs
+
+-- src/lib.rt:64:9
+returns-2 : tie.Need-returns-2
+returns-2 c = ?
+
+-- src/lib.rt:66:34
+shared-slice-read-number-of : tie.Need-shared-slice-read-number-of
+shared-slice-read-number-of c = search needs
+
+-- src/lib.rt:66:44
+shared-slice-read-number-of-2 : tie.Need-shared-slice-read-number-of-2
+shared-slice-read-number-of-2 c = search needs
+
+-- src/lib.rt:66:54
+shared-slice-read-number-of-3 : tie.Need-shared-slice-read-number-of-3
+shared-slice-read-number-of-3 c = search needs
+
+-- src/lib.rt:66:64
+shared-slice-read-number-of-4 : tie.Need-shared-slice-read-number-of-4
+shared-slice-read-number-of-4 c = search needs
+
+-- src/lib.rt:66:16
+number-of-requires : tie.Need-number-of-requires
+number-of-requires c κs = search needs
+
+-- src/lib.rt:66:16
+cast-size : tie.Need-cast-size
+cast-size c = search needs
+
+-- src/lib.rt:68:9
+returns-3 : tie.Need-returns-3
+returns-3 c = ?
+
+-- src/lib.rt:70:15
+add-end : tie.Need-add-end
+add-end c = search needs
+
+-- src/lib.rt:72:9
+returns-4 : tie.Need-returns-4
+returns-4 c = ?
+
+-- src/lib.rt:74:11
+sub-judge : tie.Need-sub-judge
+sub-judge c = search needs
+
+-- src/lib.rt:74:11
+part-judge-start : tie.Need-part-judge-start
+part-judge-start c = search needs
+
+-- src/lib.rt:74:11
+part-judge-end : tie.Need-part-judge-end
+part-judge-end c = search needs
+
+-- src/lib.rt:74:5
+judge-requires : tie.Need-judge-requires
+judge-requires c κs = search needs
+
+-- src/lib.rt:57:1
+returns-5 : tie.Need-returns-5
+returns-5 c = ?
+
+pub read-spec : {M : Type 1} → statement M
+read-spec =
+    tie.close
+    (tie.spec
+    returns
+    starts-right-requires
+    returns-2
+    shared-slice-read-number-of
+    shared-slice-read-number-of-2
+    shared-slice-read-number-of-3
+    shared-slice-read-number-of-4
+    number-of-requires
+    cast-size
+    returns-3
+    add-end
+    returns-4
+    sub-judge
+    part-judge-start
+    part-judge-end
+    judge-requires
+    returns-5)
