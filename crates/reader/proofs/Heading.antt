@@ -126,9 +126,9 @@ module _ (body : List ℕ) (b : Bytes body) (w : Walked) (o : WalkedOver body w)
     -- the header's bytes, as a part of the slice has them
     pub head-bytes : take (length body - (w .last + 1)) (drop (w .last + 1) body) ≡ final [] ps
     head-bytes =
-        let behind : drop (w .last) body ≡ partBytes (final [] ps) = rw (halves some, o .last) (drop-at (joined (front ps)) (partBytes (final [] ps)) _ refl) in
-        let data : drop (w .last + 1) body ≡ final [] ps = sym (drop-drop 1 (w .last) body) ∙ rw (behind, part-short (final [] ps) (omega (arith, head-size))) in
-        rw data (take-all (length body - (w .last + 1)) (final [] ps) (omega (arith, head-size)))
+        let behind : drop (w .last) body ≡ partBytes (final [] ps) = ap (drop (w .last)) (halves some) ∙ drop-at (joined (front ps)) (partBytes (final [] ps)) (w .last) (sym (o .last)) in
+        let bytes : drop (w .last + 1) body ≡ final [] ps = sym (drop-drop 1 (w .last) body) ∙ rw (behind, part-short (final [] ps) (omega (arith, head-size))) in
+        rw bytes (take-all (length body - (w .last + 1)) (final [] ps) (omega (arith, head-size)))
 
     pub head-wrong : Wrong ≡ headAs (take (length body - (w .last + 1)) (drop (w .last + 1) body)) → andThen (partsIn 68 body) judged ≡ refused WrongHeader
     head-wrong e = header-refused (go (isHeader (final [] ps)) (e ∙ ap headAs head-bytes))

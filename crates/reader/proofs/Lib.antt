@@ -9,3 +9,4 @@ pub mod Sorting
 pub mod Accepting
 pub mod Heading
 pub mod Agreeing
+pub mod Opening

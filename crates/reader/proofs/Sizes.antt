@@ -108,15 +108,19 @@ first-case x xs = short (decLt x 255)
     short-fits : x < 255 → Dec (length xs < x) → FirstCase x xs
     short-fits h (yes k) = passes (short-passes x xs h k)
     short-fits h (no k) = cuts _ (short-cut x xs h (omega arith))
+
     long-fits : 255 ≤ x → 4 ≤ length xs → 255 ≤ number xs → Dec (length (drop 4 xs) < number xs) → FirstCase x xs
     long-fits h k l (yes m) = passes (long-passes x xs h k l m)
     long-fits h k l (no m) = cuts _ (long-cut x xs h k l (omega arith))
+
     long-enough : 255 ≤ x → 4 ≤ length xs → Dec (number xs < 255) → FirstCase x xs
     long-enough h k (yes l) = passes (small-size x xs h k l)
     long-enough h k (no l) = long-fits h k (omega arith) (decLt (length (drop 4 xs)) (number xs))
+
     long : 255 ≤ x → Dec (length xs < 4) → FirstCase x xs
     long h (yes k) = passes (no-size x xs h k)
     long h (no k) = long-enough h (omega arith) (decLt (number xs) 255)
+
     short : Dec (x < 255) → FirstCase x xs
     short (yes h) = short-fits h (decLt (length xs) x)
     short (no h) = long (omega arith) (decLt (length xs) 4)

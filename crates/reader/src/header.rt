@@ -40,5 +40,9 @@ pub(crate) fn read_header(p: &[u8]) -> Head
         return Head::Wrong;
     }
     let h = fields(p);
-    if message::is_known(h) { Head::Fields(h) } else { Head::Wrong }
+    if message::is_known(h) {
+        Head::Fields(h)
+    } else {
+        Head::Wrong
+    }
 }

@@ -1,4 +1,13 @@
 use borrow.Author.Needs.{needs}
+use native.Mathlib.Omega.{arith}
+use mathlib.Core.Path.{_≡_, sym, ap, _∙_}
+use borrow.Author.Tests.{not-true, not-false}
+use Prim.Native.Nat.{ℕ, _+_, _-_}
+use lib.ListN.{take, drop}
+use Rattle.message.specs.Reading.{partsIn, judged}
+use Rattle.message.specs.Answer.{andThen}
+use Rattle.reader.proofs.Opening.{open-short, open-start, open-long, open-cut, open-body}
+use Rattle.reader.specs.Places.{readAs}
 use Rattle.reader.proofs.read.Statement.{statement}
 use Rattle.reader.proofs.read.Tie as tie
 use Rattle.reader.proofs.read.Reads as reads
@@ -9,7 +18,7 @@ use Rattle.reader.proofs.starts_right.Reads as starts-right-reads
 
 -- src/lib.rt:61:9
 returns : tie.Need-returns
-returns c = ?
+returns c = sym (ap readAs (open-short (c .before .before .args .bytes .now) (c .if1 .taken)))
 
 -- src/lib.rt:63:9
 starts-right-requires : tie.Need-starts-right-requires
@@ -17,7 +26,7 @@ starts-right-requires c κs = search needs
 
 -- src/lib.rt:64:9
 returns-2 : tie.Need-returns-2
-returns-2 c = ?
+returns-2 c = sym (ap readAs (open-start (c .before .before .before .before .args .bytes .now) (c .before .before .if1 .left) (sym (c .before .starts-right .ensures) ∙ not-true _ (c .if2 .taken))))
 
 -- src/lib.rt:66:34
 shared-slice-read-number-of : tie.Need-shared-slice-read-number-of
@@ -45,7 +54,7 @@ cast-size c = search needs
 
 -- src/lib.rt:68:9
 returns-3 : tie.Need-returns-3
-returns-3 c = ?
+returns-3 c = sym (ap readAs (open-long (c .before .before .before .before .before .before .before .before .before .before .args .bytes .now) (c .before .before .before .before .before .before .before .before .if1 .left) (sym (c .before .before .before .before .before .before .before .starts-right .ensures) ∙ not-false _ (c .before .before .before .before .before .before .if2 .left)) (c .before .number-of .result) (c .before .number-of .ensures) (c .if3 .taken)))
 
 -- src/lib.rt:70:15
 add-end : tie.Need-add-end
@@ -53,7 +62,7 @@ add-end c = search needs
 
 -- src/lib.rt:72:9
 returns-4 : tie.Need-returns-4
-returns-4 c = ?
+returns-4 c = sym (ap readAs (open-cut (c .before .before .before .before .before .before .before .before .before .before .before .args .bytes .now) (c .before .before .before .before .before .before .before .before .before .if1 .left) (sym (c .before .before .before .before .before .before .before .before .starts-right .ensures) ∙ not-false _ (c .before .before .before .before .before .before .before .if2 .left)) (c .before .before .number-of .result) (c .before .before .number-of .ensures) (c .before .if3 .left) (c .if4 .taken)))
 
 -- src/lib.rt:74:11
 sub-judge : tie.Need-sub-judge
@@ -73,7 +82,11 @@ judge-requires c κs = search needs
 
 -- src/lib.rt:57:1
 returns-5 : tie.Need-returns-5
-returns-5 c = ?
+returns-5 c = let bytes = c .before .before .before .before .before .before .before .before .before .before .before .before .before .args .bytes .now in
+    let n = c .before .before .before .before .number-of .result in
+    let size : 8 + n - 8 ≡ n = omega arith in
+    c .judge .ensures ∙ ap (λ (k : ℕ). readAs (andThen (partsIn 68 (take k (drop 8 bytes))) judged)) size
+    ∙ sym (ap readAs (open-body bytes (c .before .before .before .before .before .before .before .before .before .before .before .if1 .left) (sym (c .before .before .before .before .before .before .before .before .before .before .starts-right .ensures) ∙ not-false _ (c .before .before .before .before .before .before .before .before .before .if2 .left)) n (c .before .before .before .before .number-of .ensures) (c .before .before .before .if3 .left) (c .before .before .if4 .left)))
 
 pub read-spec : {M : Type 1} → statement M
 read-spec =

@@ -48,7 +48,7 @@ add-at c = let args = c .before .before .before .args in
     let at = 38 * args .routes + c .if-set .result in
     let bytes = bytes-of body (λ i. c .before .before .shared-slice-known .given i .fits) in
     let place : at ≡ 38 * args .routes + one (hasRoute (h .flags)) = ap (λ (n : ℕ). 38 * args .routes + n) (c .if-set .ensures ∙ ap one (c .before .has-route .ensures)) in
-    omega (arith, topic-in body h (args .routes) (c .before .before .before .pre) bytes at place , c .before .before .before .pre .short)
+    omega (arith, topic-in body h (args .routes) (c .before .before .before .pre) bytes at place, c .before .before .before .pre .short)
 
 -- src/judge.rt:163:32
 has-topic-requires : tie.Need-has-topic-requires
@@ -62,7 +62,7 @@ piece-if-requires c κs = let args = c .before .before .before .before .args in
     let at = 38 * args .routes + c .before .if-set .result in
     let bytes = bytes-of body (λ i. c .before .before .before .shared-slice-known .given i .fits) in
     let place : at ≡ 38 * args .routes + one (hasRoute (h .flags)) = ap (λ (n : ℕ). 38 * args .routes + n) (c .before .if-set .ensures ∙ ap one (c .before .before .has-route .ensures)) in
-    ((topic-in body h (args .routes) (c .before .before .before .before .pre) bytes at place , c .before .before .before .before .pre .short), (topic-found body h (args .routes) (c .before .before .before .before .pre) bytes at place , (λ _. topic-some body h (args .routes) (c .before .before .before .before .pre) bytes at place )))
+    ((topic-in body h (args .routes) (c .before .before .before .before .pre) bytes at place, c .before .before .before .before .pre .short), (topic-found body h (args .routes) (c .before .before .before .before .pre) bytes at place, (λ _. topic-some body h (args .routes) (c .before .before .before .before .pre) bytes at place)))
 
 -- src/judge.rt:164:8
 topic-wrong-requires : tie.Need-topic-wrong-requires
