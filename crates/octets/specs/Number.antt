@@ -1,7 +1,7 @@
 -- Numbers of four bytes. "All integers are big endian." (paper 01, A frame)
 -- Assumes nothing.
 use Prim.Native.Nat.{ℕ, _+_, _*_, _/_, _%_, _<_}
-use mathlib.Core.List.{List, [], _∷_}
+use mathlib.Core.List.{List, [], _∷_, _++_}
 use lib.ListN.{getD}
 
 -- the number in the first four bytes of xs
@@ -11,6 +11,11 @@ number xs = getD xs 0 0 * 16777216 + getD xs 1 0 * 65536 + getD xs 2 0 * 256 + g
 -- the four bytes of n
 abbrev pub four : ℕ → List ℕ
 four n = (n / 16777216 % 256) ∷ (n / 65536 % 256) ∷ (n / 256 % 256) ∷ (n % 256) ∷ []
+
+-- a row of numbers: "four big-endian numbers" (paper 01), one after another
+abbrev pub rowBytes : List ℕ → List ℕ
+rowBytes [] = []
+rowBytes (n ∷ ns) = four n ++ rowBytes ns
 
 -- each element is a byte: true of whatever stands in a slice of bytes
 abbrev pub Bytes : List ℕ → Type 0

@@ -1,7 +1,7 @@
 // Bytes: numbers of four bytes, and bytes copied to the front of a lent slice. Every function is total.
 ghost use mathlib.Core.Path.{_≡_};
 ghost use mathlib.Core.List.{_∷_, []};
-ghost use Rattle.octets.specs.Number.{number, four};
+ghost use Rattle.octets.specs.Number.{number, four, rowBytes};
 ghost use Rattle.octets.specs.Laid.{laidIfRoom};
 
 // A byte as a wider number. A call of its own, so that a byte read from a slice carries its range along.
@@ -38,6 +38,21 @@ pub fn copy(src: &[u8], dst: &mut [u8])
         let mut i = 0;
         while i < src.len() {
             dst[i] = src[i];
+            i += 1;
+        }
+    }
+}
+
+// Writes a row of numbers to the front of out, four bytes each, if there is room for all of them.
+pub fn put_row(out: &mut [u8], row: &[usize])
+    ensures { λ _. ⌜ now (out .exit) ≡ laidIfRoom (rowBytes (now (row .entry))) (now (out .entry)) ⌝ }
+{
+    if 4 * row.len() <= out.len() {
+        let mut at = 0;
+        let mut i = 0;
+        while i < row.len() {
+            put_number(&mut out[at..], row[i]);
+            at += 4;
             i += 1;
         }
     }
