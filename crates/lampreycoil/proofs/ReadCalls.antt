@@ -1,0 +1,41 @@
+-- The read call: one law for each way that it ends.
+-- Assumes nothing.
+use mathlib.Core.Path.{_≡_, refl, sym, ap, _∙_}
+use Prim.Native.Nat.{ℕ, _<_, _≤_}
+use mathlib.Core.List.{List}
+use native.Mathlib.Omega.{arith}
+use borrow.Author.Tests.{lt-ltb, le-ltb}
+use Rattle.message.specs.declared.Refusal.{Refusal}
+use Rattle.message.specs.declared.Refusal.the-variants.{ShortOutput}
+use Rattle.message.specs.Answer.{Answer, refused, answered, andThen}
+use Rattle.message.specs.Message.{Message}
+use Rattle.message.specs.Reading.{readingOf}
+use Rattle.reader.specs.declared.Frame.{Frame}
+use Rattle.reader.specs.declared.Reading.the-variants.{Refused, Accepted}
+use Rattle.reader.specs.Places.{readAs, placesOf}
+use Rattle.lampreycoil.specs.Calls.{readRow, readCall}
+
+never : {r : Refusal} {f : Frame} → Refused r ≡ Accepted f → ⊥
+never e = let z : _≡_ {A = ℕ} 0 1 = cc in omega arith
+
+module _ (b : List ℕ) (room : ℕ) where
+  pub read-short : room < 52 → readCall b room ≡ refused ShortOutput
+  unfolding readCall
+  read-short h = rw (lt-ltb room 52 h)
+
+  module _ (h : 52 ≤ room) where
+    pub read-refused : (r : Refusal) → Refused r ≡ readAs (readingOf b) → readCall b room ≡ refused r
+    unfolding readCall
+    read-refused r e = rw (le-ltb room 52 h) (go (readingOf b) e)
+      where
+        go : (a : Answer Message) → Refused r ≡ readAs a → andThen a (λ m. answered (readRow (placesOf m))) ≡ refused r
+        go (refused q) e = cc
+        go (answered m) e = absurd (never e)
+
+    pub read-accepted : (f : Frame) → Accepted f ≡ readAs (readingOf b) → readCall b room ≡ answered (readRow f)
+    unfolding readCall
+    read-accepted f e = rw (le-ltb room 52 h) (go (readingOf b) e)
+      where
+        go : (a : Answer Message) → Accepted f ≡ readAs a → andThen a (λ m. answered (readRow (placesOf m))) ≡ answered (readRow f)
+        go (refused q) e = absurd (never (sym e))
+        go (answered m) e = let same : f ≡ placesOf m = cc in ap (λ (g : Frame). answered (readRow g)) (sym same)

@@ -1,0 +1,56 @@
+// The library that the rack daemon links. Every call takes numbers and byte slices, returns 0 or the refusal's number, and lists its
+// answer as a row of four-byte numbers in a lent slice. include/lampreycoil.h declares them for C.
+use message::Header;
+use message::Refusal;
+use reader::Frame;
+use reader::Reading;
+ghost use mathlib.Core.Path.{_≡_};
+ghost use Prim.Native.Nat.{_≤_};
+ghost use lib.ListN.{length};
+ghost use Rattle.octets.specs.Number.{rowBytes};
+ghost use Rattle.octets.specs.Laid.{laid};
+ghost use Rattle.lampreycoil.specs.Calls.{returned, recorded, readRow, readCall};
+
+// Lists where a message lies.
+fn put_frame(row: &mut [u8], f: Frame)
+    requires { ⌜ 52 ≤ length (now row) ⌝ }
+    ensures { λ _. ⌜ now (row .exit) ≡ laid (rowBytes (readRow f)) (now (row .entry)) ⌝ }
+{
+    let h = f.header;
+    let topic = f.topic;
+    let payload = f.payload;
+    let numbers = [
+        f.taken,
+        h.kind as usize,
+        h.flags as usize,
+        h.userid as usize,
+        h.rolemask as usize,
+        h.first as usize,
+        h.second as usize,
+        f.routes,
+        f.route,
+        topic.start,
+        topic.len,
+        payload.start,
+        payload.len,
+    ];
+    octets::put_row(row, &numbers);
+}
+
+// Reads the frame at the front of bytes, and lists where its parts lie.
+#[no_mangle]
+pub extern "C" fn lampreycoil_read(bytes: &[u8], row: &mut [u8]) -> u32
+    ensures { λ r. ⌜ r ≡ returned (readCall (now (bytes .entry)) (length (now (row .entry)))) ⌝ }
+    ensures { λ _. ⌜ now (row .exit) ≡ recorded (readCall (now (bytes .entry)) (length (now (row .entry)))) (now (row .entry)) ⌝ }
+{
+    if row.len() < 52 {
+        return message::number(Refusal::ShortOutput);
+    }
+    match reader::read(bytes) {
+        Reading::Refused(r) => message::number(r),
+        Reading::Accepted(f) => {
+            put_frame(row, f);
+            0
+        }
+    }
+}
