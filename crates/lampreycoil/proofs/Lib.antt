@@ -1,2 +1,3 @@
 -- Laws about this crate's definitions.
 pub mod ReadCalls
+pub mod WriteCalls

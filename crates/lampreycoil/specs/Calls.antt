@@ -5,10 +5,13 @@ use lib.Dec.{ltb}
 use lib.ListN.{length}
 use Rattle.octets.specs.Number.{rowBytes}
 use Rattle.octets.specs.Laid.{laid}
+use Rattle.message.specs.declared.Header.{Header}
 use Rattle.message.specs.declared.Refusal.the-variants.{ShortOutput}
 use Rattle.message.specs.Refusals.{numberOf}
 use Rattle.message.specs.Answer.{Answer, refused, answered, refuseIf, andThen}
+use Rattle.message.specs.Message.{Message}
 use Rattle.message.specs.Reading.{readingOf}
+use Rattle.message.specs.Writing.{writingInto}
 use Rattle.reader.specs.declared.Frame.{Frame}
 use Rattle.reader.specs.Places.{placesOf}
 
@@ -32,3 +35,15 @@ readRow f =
 -- "a record slice that is too short is refused with 11 before anything else": room is its length
 unfoldable pub readCall : List ℕ → ℕ → Answer (List ℕ)
 readCall bytes room = refuseIf (ltb room 52) ShortOutput (andThen (readingOf bytes) (λ m. answered (readRow (placesOf m))))
+
+-- the header's fields, one by one
+abbrev pub headerOf : ℕ → ℕ → ℕ → ℕ → ℕ → ℕ → Header
+headerOf kind flags userid rolemask first second = record { kind = kind; flags = flags; userid = userid; rolemask = rolemask; first = first; second = second }
+
+-- the frame, or why it is not written; the record has one number. room is the output's length
+unfoldable pub writeCall : Message → ℕ → ℕ → Answer (List ℕ)
+writeCall m room rowRoom = refuseIf (ltb rowRoom 4) ShortOutput (writingInto room m)
+
+-- "the frame's length"
+abbrev pub told : Answer (List ℕ) → Answer (List ℕ)
+told frame = andThen frame (λ bytes. answered (length bytes ∷ []))

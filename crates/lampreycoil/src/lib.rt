@@ -4,12 +4,15 @@ use message::Header;
 use message::Refusal;
 use reader::Frame;
 use reader::Reading;
+use writer::Written;
 ghost use mathlib.Core.Path.{_≡_};
 ghost use Prim.Native.Nat.{_≤_};
 ghost use lib.ListN.{length};
 ghost use Rattle.octets.specs.Number.{rowBytes};
 ghost use Rattle.octets.specs.Laid.{laid};
-ghost use Rattle.lampreycoil.specs.Calls.{returned, recorded, readRow, readCall};
+ghost use Rattle.lampreycoil.specs.Calls.{returned, recorded, readRow, readCall, headerOf, writeCall, told};
+ghost use Rattle.message.specs.Writing.{givenMessage};
+ghost use Rattle.writer.specs.Written.{outputOf};
 
 // Lists where a message lies.
 fn put_frame(row: &mut [u8], f: Frame)
@@ -50,6 +53,45 @@ pub extern "C" fn lampreycoil_read(bytes: &[u8], row: &mut [u8]) -> u32
         Reading::Refused(r) => message::number(r),
         Reading::Accepted(f) => {
             put_frame(row, f);
+            0
+        }
+    }
+}
+
+// Writes a message's frame to the front of out, and lists its length. The header's fields come one by one, in the header's order.
+#[no_mangle]
+pub extern "C" fn lampreycoil_write(
+    kind: u8,
+    flags: u8,
+    userid: u32,
+    rolemask: u32,
+    first: u32,
+    second: u32,
+    routes: &[u8],
+    topic: &[u8],
+    payload: &[u8],
+    out: &mut [u8],
+    row: &mut [u8],
+) -> u32
+    ensures { λ r. ⌜ r ≡ returned (writeCall (givenMessage (headerOf kind flags userid rolemask first second) (now (routes .entry)) (now (topic .entry)) (now (payload .entry))) (length (now (out .entry))) (length (now (row .entry)))) ⌝ }
+    ensures { λ _. ⌜ now (out .exit) ≡ outputOf (writeCall (givenMessage (headerOf kind flags userid rolemask first second) (now (routes .entry)) (now (topic .entry)) (now (payload .entry))) (length (now (out .entry))) (length (now (row .entry)))) (now (out .entry)) ⌝ }
+    ensures { λ _. ⌜ now (row .exit) ≡ recorded (told (writeCall (givenMessage (headerOf kind flags userid rolemask first second) (now (routes .entry)) (now (topic .entry)) (now (payload .entry))) (length (now (out .entry))) (length (now (row .entry))))) (now (row .entry)) ⌝ }
+{
+    if row.len() < 4 {
+        return message::number(Refusal::ShortOutput);
+    }
+    let header = Header {
+        kind,
+        flags,
+        userid,
+        rolemask,
+        first,
+        second,
+    };
+    match writer::write(header, routes, topic, payload, out) {
+        Written::Refused(r) => message::number(r),
+        Written::Frame(n) => {
+            octets::put_row(row, &[n]);
             0
         }
     }

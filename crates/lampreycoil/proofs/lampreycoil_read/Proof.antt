@@ -4,7 +4,6 @@ use mathlib.Core.List.{List}
 use Prim.Native.Nat.{ℕ}
 use lib.ListN.{length}
 use Rattle.lampreycoil.proofs.ReadCalls.{read-short, read-refused, read-accepted}
-use Rattle.lampreycoil.proofs.ReadCalls.{read-short, read-refused, read-accepted}
 use Rattle.lampreycoil.specs.Calls.{returned, recorded}
 use Rattle.message.specs.Answer.{Answer}
 use Rattle.lampreycoil.proofs.lampreycoil_read.Statement.{statement}

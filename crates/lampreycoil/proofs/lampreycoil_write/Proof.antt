@@ -1,0 +1,110 @@
+use borrow.Author.Needs.{needs}
+use mathlib.Core.Path.{_≡_, refl, sym, ap, _∙_}
+use mathlib.Core.List.{List, [], _∷_}
+use Prim.Native.Nat.{ℕ}
+use lib.ListN.{length}
+use Rattle.lampreycoil.proofs.WriteCalls.{write-short, write-on, write-refused, write-returned, write-told}
+use Rattle.lampreycoil.specs.Calls.{returned, recorded, headerOf, told}
+use Rattle.writer.specs.Written.{outputOf}
+use Rattle.message.specs.Writing.{givenMessage, writingInto}
+use Rattle.message.specs.Answer.{Answer}
+use Rattle.octets.proofs.Buffers.{laid-room}
+use Rattle.octets.specs.Number.{rowBytes}
+use Rattle.lampreycoil.proofs.lampreycoil_write.Statement.{statement}
+use Rattle.lampreycoil.proofs.lampreycoil_write.Tie as tie
+use Rattle.lampreycoil.proofs.lampreycoil_write.Reads as reads
+use Rattle.lampreycoil.proofs.lampreycoil_write.Lts as lts
+use Rattle.message.proofs.number.Reads as number-reads
+use Rattle.octets.proofs.put_row.Reads as put-row-reads
+use Rattle.writer.proofs.write.Reads as write-reads
+
+-- src/lib.rt:69:9
+number-requires : tie.Need-number-requires
+number-requires c κs = search needs
+
+-- src/lib.rt:69:9
+returns : tie.Need-returns
+returns c = let args = c .before .before .before .before .before .before .before .args in
+    let out = args .out .now in
+    let row = args .row .now in
+    let m = givenMessage (headerOf (args .kind) (args .flags) (args .userid) (args .rolemask) (args .first) (args .second)) (args .routes .now) (args .topic .now) (args .payload .now) in
+    let call = write-short m (length out) (length row) (c .before .if1 .taken) in
+    (c .number .ensures ∙ sym (ap returned call), (sym (ap (λ (a : Answer (List ℕ)). outputOf a out) call), sym (ap (λ (a : Answer (List ℕ)). recorded (told a) row) call)))
+
+-- src/lib.rt:79:11
+write-requires : tie.Need-write-requires
+write-requires c κs = search needs
+
+-- src/lib.rt:80:26
+enum-known-r : tie.Need-enum-known-r
+enum-known-r c = search needs
+
+-- src/lib.rt:80:32
+number-requires-2 : tie.Need-number-requires-2
+number-requires-2 c κs = search needs
+
+-- src/lib.rt:81:24
+enum-known-n : tie.Need-enum-known-n
+enum-known-n c = search needs
+
+-- src/lib.rt:82:34
+slice-aggregate-put-row : tie.Need-slice-aggregate-put-row
+slice-aggregate-put-row c = search needs
+
+-- src/lib.rt:82:13
+put-row-requires : tie.Need-put-row-requires
+put-row-requires c κs = search needs
+
+-- src/lib.rt:62:1
+same-length : tie.Need-same-length
+same-length c = search needs
+
+-- src/lib.rt:62:1
+returns-2 : tie.Need-returns-2
+returns-2 c = let args = c .before .before .before .before .before .before .before .before .before .before .before .before .before .before .args in
+    let out = args .out .now in
+    let row = args .row .now in
+    let m = givenMessage (headerOf (args .kind) (args .flags) (args .userid) (args .rolemask) (args .first) (args .second)) (args .routes .now) (args .topic .now) (args .payload .now) in
+    let on = write-on m (length out) (length row) (c .before .before .before .before .before .before .before .before .if1 .left) in
+    let written = c .before .before .before .before .before .before .write in
+    let call = on ∙ write-refused (writingInto (length out) m) (c .before .before .r .given .0 .0) (sym (c .before .before .r .given .1) ∙ written .ensures .0) in
+    (c .number2 .ensures ∙ sym (ap returned call), (written .ensures .1 ∙ sym (ap (λ (a : Answer (List ℕ)). outputOf a out) on), sym (ap (λ (a : Answer (List ℕ)). recorded (told a) row) call)))
+
+-- src/lib.rt:62:1
+same-length-2 : tie.Need-same-length-2
+same-length-2 c = search needs
+
+-- src/lib.rt:62:1
+same-length-3 : tie.Need-same-length-3
+same-length-3 c = search needs
+
+-- src/lib.rt:62:1
+returns-3 : tie.Need-returns-3
+returns-3 c = let args = c .before .before .before .before .before .before .before .before .before .before .before .before .before .before .before .before .before .before .args in
+    let out = args .out .now in
+    let row = args .row .now in
+    let m = givenMessage (headerOf (args .kind) (args .flags) (args .userid) (args .rolemask) (args .first) (args .second)) (args .routes .now) (args .topic .now) (args .payload .now) in
+    let on = write-on m (length out) (length row) (c .before .before .before .before .before .before .before .before .before .before .before .before .if1 .left) in
+    let written = c .before .before .before .before .before .before .before .before .before .before .write in
+    let n = c .before .before .before .before .before .before .n .given .0 .0 in
+    let frame = sym (c .before .before .before .before .before .before .n .given .1) ∙ written .ensures .0 in
+    let a = writingInto (length out) m in
+    (write-returned a n frame ∙ sym (ap returned on), (written .ensures .1 ∙ sym (ap (λ (a : Answer (List ℕ)). outputOf a out) on), c .before .before .put-row .ensures ∙ laid-room (rowBytes (n ∷ [])) row (c .before .before .before .before .before .before .before .before .before .before .before .before .if1 .left) ∙ write-told a n row frame ∙ sym (ap (λ (a : Answer (List ℕ)). recorded (told a) row) on)))
+
+pub lampreycoil-write-spec : {M : Type 1} → statement M
+lampreycoil-write-spec =
+    tie.close
+    (tie.spec
+    number-requires
+    returns
+    write-requires
+    enum-known-r
+    number-requires-2
+    enum-known-n
+    slice-aggregate-put-row
+    put-row-requires
+    same-length
+    returns-2
+    same-length-2
+    same-length-3
+    returns-3)

@@ -1,0 +1,35 @@
+// The writer: a message's frame into a lent output, or the refusal that the paper's table names.
+ghost use mathlib.Core.Path.{_≡_};
+ghost use lib.ListN.{length};
+ghost use Rattle.message.specs.Writing.{writingInto, givenMessage};
+ghost use Rattle.writer.specs.Written.{writtenAs, outputOf};
+use message::Header;
+use message::Refusal;
+
+mod frame;
+mod judge;
+mod part;
+
+// What the writer tells: why it wrote nothing, or how long the frame is that it wrote.
+pub enum Written {
+    Refused(Refusal),
+    Frame(usize),
+}
+
+// Writes the message's frame to the front of out. What stands behind the frame stays as it was, and a refusal writes nothing.
+pub fn write(header: Header, routes: &[u8], topic: &[u8], payload: &[u8], out: &mut [u8]) -> Written
+    ensures { λ r. ⌜ r ≡ writtenAs (writingInto (length (now (out .entry))) (givenMessage header (now (routes .entry)) (now (topic .entry)) (now (payload .entry)))) ⌝ }
+    ensures { λ _. ⌜ now (out .exit) ≡ outputOf (writingInto (length (now (out .entry))) (givenMessage header (now (routes .entry)) (now (topic .entry)) (now (payload .entry)))) (now (out .entry)) ⌝ }
+{
+    let judged = judge::judge(header, routes, topic, payload);
+    match judged {
+        Written::Refused(r) => Written::Refused(r),
+        Written::Frame(n) => {
+            if out.len() < n {
+                return Written::Refused(Refusal::ShortOutput);
+            }
+            frame::write_frame(out, n, header, routes, topic, payload);
+            Written::Frame(n)
+        }
+    }
+}

@@ -1,0 +1,26 @@
+/* Whole files in and out, and what is said when something is wrong. */
+#ifndef HOST_FILES_H
+#define HOST_FILES_H
+
+#include <stddef.h>
+#include <stdint.h>
+
+/* What the program exits with. */
+enum { EXIT_DONE = 0, EXIT_REFUSED = 1, EXIT_TROUBLE = 2 };
+
+/* Far above the largest frame, so that the library and not this program judges a long input. */
+enum { INPUT_MAX = 1048576 };
+
+/* Prints "flux_frame: " and the message to standard error, and returns EXIT_TROUBLE. */
+int trouble(const char *format, ...);
+
+/*
+ * Reads all of the file, or of standard input if name is NULL or "-", and sets *length. bytes has
+ * room for INPUT_MAX + 1, so that a longer input shows. Returns 0, or has said what is wrong.
+ */
+int read_all(const char *name, uint8_t *bytes, size_t *length);
+
+/* Writes the file, or standard output if name is NULL. Returns 0, or has said what is wrong. */
+int write_all(const char *name, const uint8_t *bytes, size_t length);
+
+#endif

@@ -1,0 +1,65 @@
+/*
+ * flux_frame: writes a Flux message as a frame, and shows what a captured frame holds. A small
+ * example of a C program over Lampreycoil.
+ */
+#include <stdio.h>
+#include <string.h>
+
+#include "commands.h"
+#include "files.h"
+
+static const char usage[] =
+    "flux_frame: writes and reads framed Flux messages (RFC 3)\n"
+    "\n"
+    "  flux_frame write OPTIONS    write a message as a frame to standard output\n"
+    "  flux_frame dump [FILE]      show the frame in FILE, or on standard input\n"
+    "  flux_frame --help           show this text\n"
+    "\n"
+    "Options of write; a number is decimal, or hexadecimal behind 0x:\n"
+    "  --type TYPE          request, response, event or control; always needed\n"
+    "  --nodeid N           request: the rank, or 'any' (when not given: any)\n"
+    "  --errnum N           response: the error number (0)\n"
+    "  --seq N              event: the sequence number (0)\n"
+    "  --control-type N     control: its type (0)\n"
+    "  --matchtag N         request and response: the matchtag (0)\n"
+    "  --status N           control: its status (0)\n"
+    "  --first N            the first field, whatever the type\n"
+    "  --second N           the second field, whatever the type\n"
+    "  --userid N           the user, or 'unknown' (unknown)\n"
+    "  --rolemask N         the roles (0)\n"
+    "  --topic TEXT         the topic\n"
+    "  --payload FILE       the payload, from a file; - is standard input\n"
+    "  --payload-text TEXT  the payload, as given here\n"
+    "  --route UUID         a route; repeat it for more, the top of the stack first\n"
+    "  --noresponse --upstream --private --streaming\n"
+    "                       set the flag\n"
+    "  -o FILE              write to FILE and not to standard output\n"
+    "The flags topic, payload and route follow from the parts given; requests and\n"
+    "responses always have the flag route. To write what these options would not:\n"
+    "  --flags HEX          the whole flags byte, in place of what the options say\n"
+    "  --type-number N      the type byte, in place of --type\n"
+    "\n"
+    "Exit status: 0 done; 1 the library refused the message or the frame, and its\n"
+    "number and words are printed; 2 wrong usage, or a file that cannot be used.\n";
+
+static int is_help(const char *word)
+{
+    return strcmp(word, "--help") == 0 || strcmp(word, "-h") == 0;
+}
+
+int main(int argc, char **argv)
+{
+    if (argc < 2) {
+        fputs(usage, stderr);
+        return EXIT_TROUBLE;
+    }
+    if (is_help(argv[1]) || (argc == 3 && is_help(argv[2]))) {
+        fputs(usage, stdout);
+        return EXIT_DONE;
+    }
+    if (strcmp(argv[1], "write") == 0)
+        return command_write(argc - 2, argv + 2);
+    if (strcmp(argv[1], "dump") == 0)
+        return command_dump(argc - 2, argv + 2);
+    return trouble("unknown command '%s': write or dump (see flux_frame --help)", argv[1]);
+}

@@ -1,0 +1,30 @@
+/* The names and words that a person reads, for the numbers that the library uses. */
+#ifndef HOST_NAMES_H
+#define HOST_NAMES_H
+
+#include <stddef.h>
+#include <stdint.h>
+
+struct type_names {
+    uint8_t number;
+    const char *name;
+    const char *first;  /* name of the first field */
+    const char *second; /* name of the second field */
+};
+
+struct flag_name {
+    uint8_t bit;
+    const char *name;
+};
+
+enum { FLAG_NAMES = 7 };
+extern const struct flag_name flag_names[FLAG_NAMES];
+
+/* NULL where there is no such type. */
+const struct type_names *type_by_number(uint32_t number);
+const struct type_names *type_by_name(const char *name);
+
+/* When the refusal is given, in the words of paper 01. */
+const char *refusal_words(uint32_t number);
+
+#endif

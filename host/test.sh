@@ -1,0 +1,266 @@
+#!/usr/bin/env bash
+# Tests the host program: the bytes of paper 01, each refusal that it can meet, files and wrong usage.
+# The program is FLUX_FRAME, or else what `make host` builds. The last line is 'N passed, M failed'.
+set -u
+cd "$(dirname "$0")/.." || exit 2
+
+if [ -z "${FLUX_FRAME:-}" ]; then
+    FLUX_FRAME=target/host/flux_frame
+    make --no-print-directory -s host >&2 || { echo "host/test.sh: make host failed" >&2; exit 2; }
+fi
+
+room=$(mktemp -d) || exit 2
+trap 'rm -rf "$room"' EXIT
+passed=0 failed=0
+
+# ---- what the tests are written with
+
+unhex() { printf '%b' "$(printf '%s' "$*" | tr -d ' \n' | sed 's/../\\x&/g')"; }
+tohex() { od -An -v -tx1 | tr -d ' \n' | tr a-f A-F; }
+bytes() { head -c "$1" /dev/zero | tr '\0' 'x'; }
+
+# Runs the program with the words given; leaves its status, and the files out and err.
+run() {
+    "$FLUX_FRAME" "$@" >"$room/out" 2>"$room/err"
+    status=$?
+}
+
+report() { # GOOD LABEL
+    if [ "$1" -eq 0 ]; then
+        passed=$((passed + 1))
+    else
+        failed=$((failed + 1))
+        echo "FAILED: $2 (status $status)"
+        sed 's/^/  out: /' "$room/out" | head -n 15 | tr -d '\0'
+        sed 's/^/  err: /' "$room/err" | head -n 5
+    fi
+}
+
+# The frame written by the words is this one.
+writes() { # LABEL HEX WORDS...
+    local label=$1 want
+    want=$(printf '%s' "$2" | tr -d ' \n')
+    shift 2
+    run write "$@"
+    [ "$status" -eq 0 ] && [ "$(tohex <"$room/out")" = "$want" ] && [ ! -s "$room/err" ]
+    report $? "$label"
+}
+
+# The words are refused with this number and text, and nothing is written.
+refuses() { # LABEL NUMBER TEXT WORDS...
+    local label=$1 line="flux_frame: refused, $2: $3"
+    shift 3
+    run write "$@"
+    [ "$status" -eq 1 ] && [ ! -s "$room/out" ] && [ "$(cat "$room/err")" = "$line" ]
+    report $? "$label"
+}
+
+# The dump of these bytes, on standard input, is exactly this text.
+dumps() { # LABEL HEX TEXT
+    unhex "$2" >"$room/in"
+    run dump <"$room/in"
+    [ "$status" -eq 0 ] && [ "$(cat "$room/out")" = "$3" ] && [ ! -s "$room/err" ]
+    report $? "$1"
+}
+
+# The dump of these bytes is the refusal with this number and text.
+dump_refuses() { # LABEL NUMBER TEXT HEX
+    unhex "$4" >"$room/in"
+    run dump "$room/in"
+    [ "$status" -eq 1 ] && grep -qxF "refused       $2: $3" "$room/out" && [ ! -s "$room/err" ]
+    report $? "$1"
+}
+
+# The words are wrong usage, or name a file that cannot be used; what is said has this text in it.
+wrong() { # LABEL TEXT WORDS...
+    local label=$1 text=$2
+    shift 2
+    run "$@" </dev/null
+    [ "$status" -eq 2 ] && [ ! -s "$room/out" ] && grep -qF -- "$text" "$room/err"
+    report $? "$label"
+}
+
+# ---- the words of paper 01
+
+n1='fewer than 8 bytes, or fewer than 8 plus the body length'
+n2='first four bytes wrong'
+n3='body above 32,768'
+n4="a part's size or data passes the body's end, or a 4-byte size below 255"
+n5='a 69th part begins'
+n6='no part at all; last part not 20 bytes; its magic, version, type or flag 80 wrong'
+n7='parts disagree with type or flags'
+n8='a route not of the form, or above 64'
+n9='topic not of the form'
+n10="request nodeid 4294967294; event's unused field not zero"
+
+# ---- the bytes of paper 01
+
+control='FF EE 00 12 00 00 00 15 14 8E 01 08 00 FF FF FF FF 00 00 00 00 00 00 00 02 00 00 00 03'
+log='FF EE 00 12 00 00 00 1B 00 04 6C 6F 67 00 14 8E 01 01 09 FF FF FF FF 00 00 00 00 FF FF FF FF 00 00 00 01'
+
+writes 'control, as in paper 01' "$control" --type control --control-type 2 --status 3
+writes 'log, as in paper 01' "$log" --type request --topic log --matchtag 1
+writes 'log, every option written out' "$log" --type request --topic log --matchtag 1 --nodeid any --userid unknown --rolemask 0
+writes 'log, by raw type and flags' "$log" --type-number 1 --flags 09 --first 0xFFFFFFFF --second 1 --topic log
+
+dumps 'dump of control' "$control" 'frame         29 bytes
+type          8 control
+flags         00
+userid        4294967295 unknown
+rolemask      00000000
+control type  2
+status        3
+routes        0
+topic         none
+payload       none'
+
+dumps 'dump of log, with bytes behind it' "$log 01 02 03" 'frame         35 bytes
+type          1 request
+flags         09 topic route
+userid        4294967295 unknown
+rolemask      00000000
+nodeid        4294967295 any
+matchtag      1
+routes        0
+topic         "log" (3 bytes)
+payload       none
+left behind   3 bytes, not part of the frame'
+
+bytes 32736 >"$room/most"
+bytes 32737 >"$room/over"
+run write --type request --topic log --matchtag 1 --payload "$room/most"
+[ "$status" -eq 0 ] && [ "$(wc -c <"$room/out")" -eq 32776 ]
+report $? 'log with 32,736 bytes of payload is written'
+cp "$room/out" "$room/most.frame"
+run dump "$room/most.frame"
+[ "$status" -eq 0 ] && grep -qx 'payload       32736 bytes, from byte 19' "$room/out" && grep -qx ' *32672 bytes more' "$room/out"
+report $? 'log with 32,736 bytes of payload is read'
+refuses 'log with 32,737 bytes of payload is 3' 3 "$n3" --type request --topic log --matchtag 1 --payload "$room/over"
+
+# The size of a payload of 254 and of 255 bytes, which stands behind the topic, at byte 14.
+run write --type request --topic log --payload-text "$(bytes 254)"
+[ "$status" -eq 0 ] && [ "$(tail -c +15 "$room/out" | head -c 2 | tohex)" = FE78 ]
+report $? '254 bytes have size FE'
+run write --type request --topic log --payload-text "$(bytes 255)"
+[ "$status" -eq 0 ] && [ "$(tail -c +15 "$room/out" | head -c 6 | tohex)" = FF000000FF78 ]
+report $? '255 bytes have size FF 00 00 00 FF'
+tail254=$(bytes 254 | tohex)
+header='14 8E 01 01 0B FF FF FF FF 00 00 00 00 FF FF FF FF 00 00 00 01'
+dump_refuses 'size FF 00 00 00 FE is 4' 4 "$n4" "FF EE 00 12 00 00 01 1E 00 04 6C 6F 67 00 FF 00 00 00 FE $tail254 $header"
+
+# ---- other messages
+
+one=00000000-0000-0000-0000-000000000001
+two=deadbeef-0123-4567-89ab-cdef01234567
+run write --type response --errnum 38 --matchtag 7 --topic 'kvs."get' --route $two --route $one \
+    --payload-text hi --userid 1000 --rolemask 0x11 --noresponse --upstream --private --streaming -o "$room/response"
+[ "$status" -eq 0 ] && [ ! -s "$room/out" ]
+report $? 'a response goes to the file named by -o'
+dumps 'dump of a response with two routes' "$(tohex <"$room/response")" "frame         119 bytes
+type          2 response
+flags         7F topic payload noresponse route upstream private streaming
+userid        1000
+rolemask      00000011
+errnum        38
+matchtag      7
+routes        2 (top of the stack first)
+  0           $two
+  1           $one
+topic         \"kvs.\\\"get\" (8 bytes)
+payload       2 bytes, from byte 96
+  0000        68 69                                            |hi|"
+unhex "$log" >"$room/log"
+run dump - <"$room/log"
+[ "$status" -eq 0 ] && grep -qx 'matchtag      1' "$room/out"
+report $? 'dump - reads standard input'
+
+event='FF EE 00 12 00 00 00 1B 04 75 70 FF 00 00 14 8E 01 04 03 00 00 00 00 00 00 00 00 00 00 00 05 00 00 00 00'
+writes 'an event with an empty payload' "$event" --type event --seq 5 --userid 0 --topic $'up\xFF' --payload-text ''
+dumps 'dump of an event' "$event" 'frame         35 bytes
+type          4 event
+flags         03 topic payload
+userid        0
+rolemask      00000000
+sequence      5
+unused        0
+routes        0
+topic         "up\xFF" (3 bytes)
+payload       0 bytes, from byte 14'
+printf hi | "$FLUX_FRAME" write --type event --topic up --payload - -o "$room/piped"
+run dump "$room/piped"
+[ "$status" -eq 0 ] && grep -qx 'payload       2 bytes, from byte 13' "$room/out"
+report $? 'a payload from standard input'
+
+# ---- refusals of the writer
+
+refuses 'type 3 is 6' 6 "$n6" --type-number 3
+refuses 'flag 80 is 6' 6 "$n6" --type control --flags 80
+refuses 'a control with a topic is 7' 7 "$n7" --type control --topic x
+refuses 'a request without a topic is 7' 7 "$n7" --type request
+refuses 'a topic without its flag is 7' 7 "$n7" --type event --topic x --flags 0x00
+refuses 'an event with a route is 7' 7 "$n7" --type event --topic x --route $one
+refuses 'a route in capitals is 8' 8 "$n8" --type request --topic x --route 00000000-0000-0000-0000-00000000000A
+refuses 'a short route is 8' 8 "$n8" --type request --topic x --route abc
+routes=()
+for _ in $(seq 65); do routes+=(--route "$one"); done
+refuses '65 routes are 8' 8 "$n8" --type request --topic x "${routes[@]}"
+refuses 'an empty topic is 9' 9 "$n9" --type event --topic ''
+refuses 'a topic of 256 bytes is 9' 9 "$n9" --type event --topic "$(bytes 256)"
+refuses 'nodeid 4294967294 is 10' 10 "$n10" --type request --topic x --nodeid 4294967294
+refuses "an event's second field is 10" 10 "$n10" --type event --topic x --second 1
+run write --type event --topic '' -o "$room/none"
+[ "$status" -eq 1 ] && [ ! -e "$room/none" ]
+report $? 'a refusal makes no file'
+
+# ---- refusals of the reader
+
+start='FF EE 00 12'
+fields='00 00 00 00 00 00 00 00 00 00 00 02 00 00 00 03'
+parts68=$(for _ in $(seq 68); do printf '00'; done)
+dump_refuses 'no bytes are 1' 1 "$n1" ''
+dump_refuses '7 bytes are 1' 1 "$n1" "$start 00 00 00"
+dump_refuses 'a body cut short is 1' 1 "$n1" "${control% 03}"
+dump_refuses 'a wrong start is 2' 2 "$n2" "FF EE 00 13 ${control#"$start "}"
+dump_refuses 'a body of 32,769 is 3' 3 "$n3" "$start 00 00 80 01"
+dump_refuses 'a part past the body is 4' 4 "$n4" "$start 00 00 00 01 01 00 00"
+dump_refuses 'a 69th part is 5' 5 "$n5" "$start 00 00 00 45 $parts68 00"
+dump_refuses 'no part is 6' 6 "$n6" "$start 00 00 00 00"
+dump_refuses 'a wrong magic is 6' 6 "$n6" "$start 00 00 00 15 14 8F 01 08 00 $fields"
+dump_refuses 'a control with a topic flag is 7' 7 "$n7" "$start 00 00 00 15 14 8E 01 08 01 $fields"
+dump_refuses 'a route of one byte is 8' 8 "$n8" "$start 00 00 00 1B 01 41 00 02 41 00 14 8E 01 01 09 $fields"
+dump_refuses 'a topic without its zero is 9' 9 "$n9" "$start 00 00 00 17 01 41 14 8E 01 04 01 $fields"
+dump_refuses "an event's unused field is 10" 10 "$n10" "$start 00 00 00 18 02 41 00 14 8E 01 04 01 $fields"
+
+# ---- usage
+
+run --help
+[ "$status" -eq 0 ] && grep -q -- '--payload-text' "$room/out" && [ ! -s "$room/err" ]
+report $? '--help'
+run write --help
+[ "$status" -eq 0 ] && grep -q -- '--payload-text' "$room/out"
+report $? 'write --help'
+wrong 'no command' 'flux_frame dump [FILE]'
+wrong 'an unknown command' "unknown command 'send'" send
+wrong 'an unknown option of write' "unknown option '--colour'" write --type event --colour red
+wrong 'an unknown option of dump' "unknown option '--all'" dump --all
+wrong 'two files to dump' 'one file' dump "$room/log" "$room/log"
+wrong 'no type' 'needs --type' write --topic x
+wrong 'two types' 'twice' write --type event --type-number 4
+wrong 'an unknown type' "not 'keepalive'" write --type keepalive
+wrong 'an option without its value' '--topic needs a value' write --type event --topic
+wrong 'a number with a tail' "not '12x'" write --type request --topic x --matchtag 12x
+wrong 'a negative number' "not '-1'" write --type request --topic x --matchtag -1
+wrong 'a number above 4 bytes' "not '4294967296'" write --type request --topic x --nodeid 4294967296
+wrong 'flags above one byte' "not '100'" write --type event --topic x --flags 100
+wrong "another type's field" '--errnum does not belong' write --type request --topic x --errnum 1
+wrong 'one field given twice' '--nodeid has already given' write --type request --topic x --nodeid 1 --first 2
+wrong 'two payloads' 'not both' write --type event --topic x --payload "$room/log" --payload-text x
+wrong 'a payload that is not there' "cannot read $room/missing" write --type event --topic x --payload "$room/missing"
+wrong 'a frame that is not there' "cannot read $room/missing" dump "$room/missing"
+wrong 'a folder for a frame' "cannot read $room" dump "$room"
+wrong 'an output that cannot be made' "cannot write $room/no/where" write --type event --topic x -o "$room/no/where"
+bytes 1048577 >"$room/huge"
+wrong 'an input that is too long' 'longer than 1048576 bytes' dump "$room/huge"
+
+echo "$passed passed, $failed failed"
+[ "$failed" -eq 0 ]

@@ -1,0 +1,40 @@
+/* What `flux_frame write` was asked to write. */
+#ifndef HOST_WRITE_OPTIONS_H
+#define HOST_WRITE_OPTIONS_H
+
+#include <stddef.h>
+#include <stdint.h>
+
+/* Room for more than the 64 routes that are allowed, so that the library refuses the 65th. */
+enum { ROUTES_ROOM = 8192 };
+
+/* One of a message's two fields. */
+struct field_value {
+    uint32_t value;
+    const char *option; /* the option that gave it; NULL where none did */
+    uint8_t types;      /* the types, as bits, to which that option belongs */
+};
+
+struct write_options {
+    const char *type_name; /* NULL where --type-number gave the type */
+    int type_given;
+    uint8_t type;
+    uint8_t marks; /* flags given by name, which no part stands for */
+    int flags_given;
+    uint8_t flags; /* --flags, in place of all that the other options say */
+    uint32_t userid;
+    uint32_t rolemask;
+    struct field_value first;
+    struct field_value second;
+    uint8_t routes[ROUTES_ROOM];
+    size_t routes_length;
+    const char *topic; /* here and below: NULL where not given */
+    const char *payload_text;
+    const char *payload_file;
+    const char *output;
+};
+
+/* Fills options from the words. Returns 0, or has said what is wrong. */
+int parse_write_options(struct write_options *options, int count, char **words);
+
+#endif

@@ -1,0 +1,156 @@
+/*
+ * lampreycoil.h: the C calls of Lampreycoil, which reads and writes framed Flux messages (RFC 3).
+ * The functions are in the archive liblampreycoil.a. Usable from C99 and from C++.
+ *
+ * How every call works
+ *
+ * - Bytes pass as a slice: a pointer, then a length (size_t). An empty slice's pointer is never
+ *   followed, but it should not be NULL.
+ * - The slices lent to one call must not overlap, except that two slices which the call only reads
+ *   may. Nobody else may write to a lent slice until the call returns. No call keeps a pointer.
+ * - A call answers 0, or the number of its refusal (enum lampreycoil_refusal).
+ * - A call's results are a record: a row of 4-byte big-endian numbers, which it writes to the
+ *   front of a slice lent for it. lampreycoil_number() reads one of them. A record slice that is
+ *   too short is refused with 11 before anything else; a longer one keeps its tail as it was.
+ * - A refusal writes nothing, to any slice.
+ */
+#ifndef LAMPREYCOIL_H
+#define LAMPREYCOIL_H
+
+#include <stddef.h>
+#include <stdint.h>
+
+#ifdef __cplusplus
+extern "C" {
+#endif
+
+/* Why a call said no. The words are those of the scope document, paper 01. */
+enum lampreycoil_refusal {
+    /* no refusal */
+    LAMPREYCOIL_OK = 0,
+    /* fewer than 8 bytes, or fewer than 8 plus the body length */
+    LAMPREYCOIL_INPUT_SHORT = 1,
+    /* first four bytes wrong */
+    LAMPREYCOIL_START_WRONG = 2,
+    /* body above 32,768 */
+    LAMPREYCOIL_BODY_LONG = 3,
+    /* a part's size or data passes the body's end, or a 4-byte size below 255 */
+    LAMPREYCOIL_PART_WRONG = 4,
+    /* a 69th part begins */
+    LAMPREYCOIL_PARTS_MANY = 5,
+    /* no part at all; last part not 20 bytes; its magic, version, type or flag 80 wrong */
+    LAMPREYCOIL_HEADER_WRONG = 6,
+    /* parts disagree with type or flags */
+    LAMPREYCOIL_PARTS_DISAGREE = 7,
+    /* a route not of the form, or above 64 */
+    LAMPREYCOIL_ROUTE_WRONG = 8,
+    /* topic not of the form */
+    LAMPREYCOIL_TOPIC_WRONG = 9,
+    /* request nodeid 4294967294; event's unused field not zero */
+    LAMPREYCOIL_FIELD_WRONG = 10,
+    /* a lent output too short */
+    LAMPREYCOIL_OUTPUT_SHORT = 11
+};
+
+/* A message's type, with the names of its two fields. */
+enum lampreycoil_type {
+    LAMPREYCOIL_REQUEST = 1,  /* first field nodeid, second matchtag */
+    LAMPREYCOIL_RESPONSE = 2, /* first field errnum, second matchtag */
+    LAMPREYCOIL_EVENT = 4,    /* first field sequence, second unused: zero */
+    LAMPREYCOIL_CONTROL = 8   /* first field type, second status */
+};
+
+/* A message's flags. The first, second and fourth agree exactly with the parts present. */
+enum lampreycoil_flag {
+    LAMPREYCOIL_TOPIC = 0x01,
+    LAMPREYCOIL_PAYLOAD = 0x02,
+    LAMPREYCOIL_NORESPONSE = 0x04,
+    LAMPREYCOIL_ROUTE = 0x08, /* requests and responses have it, even with no route */
+    LAMPREYCOIL_UPSTREAM = 0x10,
+    LAMPREYCOIL_PRIVATE = 0x20,
+    LAMPREYCOIL_STREAMING = 0x40
+};
+
+/* Sizes, in bytes where nothing else is said. */
+enum lampreycoil_size {
+    LAMPREYCOIL_ROUTE_SIZE = 37, /* 36 characters and a zero byte */
+    LAMPREYCOIL_ROUTE_STEP = 38, /* from one route's data to the next one's, in a frame */
+    LAMPREYCOIL_ROUTES_MAX = 64, /* routes */
+    LAMPREYCOIL_TOPIC_MAX = 255, /* without the zero byte */
+    LAMPREYCOIL_BODY_MAX = 32768,
+    LAMPREYCOIL_FRAME_MAX = 32776 /* an output of this size is never too short */
+};
+
+#define LAMPREYCOIL_NODEID_ANY 0xFFFFFFFFu     /* a request's nodeid: any rank */
+#define LAMPREYCOIL_USERID_UNKNOWN 0xFFFFFFFFu /* userid: not known */
+
+/*
+ * The numbers of lampreycoil_read's record, by index. Starts count from the frame's front, so
+ * bytes + start is the part's data. A part that is absent has start 0 and length 0. A payload that
+ * is present and empty has its real start; LAMPREYCOIL_PAYLOAD in the flags tells it from none.
+ */
+enum lampreycoil_read_index {
+    LAMPREYCOIL_READ_TOOK = 0, /* bytes that the frame took; those behind it are ignored */
+    LAMPREYCOIL_READ_TYPE = 1,
+    LAMPREYCOIL_READ_FLAGS = 2,
+    LAMPREYCOIL_READ_USERID = 3,
+    LAMPREYCOIL_READ_ROLEMASK = 4,
+    LAMPREYCOIL_READ_FIRST = 5,       /* first field */
+    LAMPREYCOIL_READ_SECOND = 6,      /* second field */
+    LAMPREYCOIL_READ_ROUTES = 7,      /* number of routes */
+    LAMPREYCOIL_READ_ROUTE_START = 8, /* of the top route; the next is LAMPREYCOIL_ROUTE_STEP on */
+    LAMPREYCOIL_READ_TOPIC_START = 9,
+    LAMPREYCOIL_READ_TOPIC_LENGTH = 10, /* without the zero byte */
+    LAMPREYCOIL_READ_PAYLOAD_START = 11,
+    LAMPREYCOIL_READ_PAYLOAD_LENGTH = 12,
+    LAMPREYCOIL_READ_RECORD = 52 /* no index: the record's size in bytes, 13 numbers */
+};
+
+/* The number of lampreycoil_write's record. */
+enum lampreycoil_write_index {
+    LAMPREYCOIL_WRITE_LENGTH = 0, /* bytes of the frame written */
+    LAMPREYCOIL_WRITE_RECORD = 4  /* no index: the record's size in bytes, 1 number */
+};
+
+/*
+ * Reads the frame at the front of bytes and writes where its parts are to record, which takes
+ * LAMPREYCOIL_READ_RECORD bytes. Copies no part, and changes nothing but the record.
+ *
+ * Refusals, in the order in which they are looked for: 11 for the record; 1 for the 8 bytes; 2; 3;
+ * 1 for the body; 4 and 5 as the parts come; then 6 to 10.
+ */
+uint32_t lampreycoil_read(const uint8_t *bytes, size_t bytes_length, uint8_t *record,
+                          size_t record_length);
+
+/*
+ * Writes a message as a frame to the front of out, and the frame's length to record, which takes
+ * LAMPREYCOIL_WRITE_RECORD bytes. Bytes of out behind the frame stay as they were.
+ *
+ * routes holds LAMPREYCOIL_ROUTE_SIZE bytes a route, the top of the stack first; topic goes
+ * without its zero byte. A part is given if its slice is not empty. A flag whose slice is empty
+ * stands for: no routes (LAMPREYCOIL_ROUTE), an empty payload (LAMPREYCOIL_PAYLOAD), an empty
+ * topic, which is refused with 9 (LAMPREYCOIL_TOPIC).
+ *
+ * Refusals, in the order in which they are looked for: 11 for the record; 6 (type and flag 80
+ * only); 7, also for a part given without its flag; 8, also for routes that are not a multiple of
+ * 37 bytes; 9; 10; 3; 11 for out.
+ */
+uint32_t lampreycoil_write(uint8_t type, uint8_t flags, uint32_t userid, uint32_t rolemask,
+                           uint32_t first, uint32_t second, const uint8_t *routes,
+                           size_t routes_length, const uint8_t *topic, size_t topic_length,
+                           const uint8_t *payload, size_t payload_length, uint8_t *out,
+                           size_t out_length, uint8_t *record, size_t record_length);
+
+/* The number at index of a record that a call has filled. */
+static inline uint32_t lampreycoil_number(const uint8_t *record, size_t index)
+{
+    const uint8_t *at = record + 4 * index;
+
+    return (uint32_t)at[0] << 24 | (uint32_t)at[1] << 16 | (uint32_t)at[2] << 8 | at[3];
+}
+
+#ifdef __cplusplus
+}
+#endif
+
+#endif

@@ -1,0 +1,145 @@
+//! Compares the library with the second program, call by call and byte by byte.
+//!
+//!     compare [--seed N] [--cases N] [--group NAME] [--from N]
+//!
+//! `--cases` is the number of seeded cases over all seeded groups, or in the one group that
+//! `--group` names; `--from` is the number of the first. The last line is the score; the exit
+//! status is 1 if a case failed.
+
+mod arena;
+mod draft;
+mod long_lengths;
+mod messages;
+mod paper;
+mod reader_bounds;
+mod reader_order;
+mod rng;
+mod seeded;
+#[cfg(feature = "tables")]
+mod seeded_tables;
+#[cfg(feature = "tables")]
+mod table_bounds;
+#[cfg(feature = "tables")]
+mod table_calls;
+mod tester;
+mod writer_bounds;
+mod writer_order;
+
+use std::env;
+use std::process::exit;
+
+use seeded::Run;
+use tester::Tester;
+
+const DEFAULT_SEED: u64 = 1;
+const DEFAULT_CASES: u64 = 1_200_000;
+
+struct Group {
+    name: &'static str,
+    /// Its part of the seeded cases; 0 if it has none.
+    weight: u64,
+    run: fn(&mut Tester, &Run),
+}
+
+fn group(name: &'static str, weight: u64, run: fn(&mut Tester, &Run)) -> Group {
+    Group { name, weight, run }
+}
+
+fn groups() -> Vec<Group> {
+    vec![
+        group("paper", 0, |tester, _| paper::run(tester)),
+        group("reader-bounds", 0, |tester, _| reader_bounds::run(tester)),
+        group("reader-order", 0, |tester, _| reader_order::run(tester)),
+        group("writer-bounds", 0, |tester, _| writer_bounds::run(tester)),
+        group("writer-order", 0, |tester, _| writer_order::run(tester)),
+        group("long-lengths", 0, |tester, _| long_lengths::run(tester)),
+        group("structured", 8, seeded::structured),
+        group("damaged", 8, seeded::damaged),
+        group("random", 8, seeded::random),
+        #[cfg(feature = "tables")]
+        group("tree-bounds", 0, |tester, _| table_bounds::trees(tester)),
+        #[cfg(feature = "tables")]
+        group("service-bounds", 0, |tester, _| {
+            table_bounds::services(tester)
+        }),
+        #[cfg(feature = "tables")]
+        group("identity-bounds", 0, |tester, _| {
+            table_bounds::identities(tester)
+        }),
+        #[cfg(feature = "tables")]
+        group("trees", 1, seeded_tables::trees),
+        #[cfg(feature = "tables")]
+        group("services", 1, seeded_tables::services),
+        #[cfg(feature = "tables")]
+        group("identities", 1, seeded_tables::identities),
+    ]
+}
+
+struct Options {
+    seed: u64,
+    cases: u64,
+    from: u64,
+    group: Option<String>,
+}
+
+fn main() {
+    let options = options().unwrap_or_else(|fault| {
+        eprintln!("{fault}");
+        eprintln!("usage: compare [--seed N] [--cases N] [--group NAME] [--from N]");
+        exit(2);
+    });
+    let wanted: Vec<Group> = groups()
+        .into_iter()
+        .filter(|group| {
+            options
+                .group
+                .as_deref()
+                .is_none_or(|name| name == group.name)
+        })
+        .collect();
+    if wanted.is_empty() {
+        let names: Vec<_> = groups().iter().map(|group| group.name).collect();
+        eprintln!("the groups are {}", names.join(", "));
+        exit(2);
+    }
+    let weights: u64 = wanted.iter().map(|group| group.weight).sum();
+    let mut tester = Tester::new();
+    println!("seed {}, {} seeded cases", options.seed, options.cases);
+    for group in wanted {
+        let run = Run {
+            seed: options.seed,
+            from: options.from,
+            cases: (options.cases * group.weight).div_ceil(weights.max(1)),
+        };
+        (group.run)(&mut tester, &run);
+    }
+    let (passed, failed) = tester.score();
+    println!("{passed} passed, {failed} failed");
+    exit((failed > 0) as i32);
+}
+
+fn options() -> Result<Options, String> {
+    let mut options = Options {
+        seed: DEFAULT_SEED,
+        cases: DEFAULT_CASES,
+        from: 0,
+        group: None,
+    };
+    let mut words = env::args().skip(1);
+    while let Some(word) = words.next() {
+        let value = words.next().ok_or(format!("{word} needs a value"))?;
+        let number = || {
+            value
+                .parse::<u64>()
+                .map_err(|_| format!("{value} is no number"))
+        };
+        match word.as_str() {
+            "--seed" => options.seed = number()?,
+            "--cases" => options.cases = number()?,
+            "--from" => options.from = number()?,
+            "--group" => options.group = Some(value),
+            _ => return Err(format!("{word} is not known")),
+        }
+    }
+    Ok(options)
+}

@@ -1,0 +1,294 @@
+//! The reader's order of refusals: every fault alone, and every two together.
+
+use crate::draft::{route, Draft};
+use crate::tester::{Expect, ReadCase, Tester};
+
+/// A frame with faults and the record that it is read into.
+#[derive(Clone)]
+struct Attempt {
+    draft: Draft,
+    record_len: usize,
+}
+
+/// Where a fault stands in the reader's order.
+#[derive(Clone, Copy, PartialEq, Eq, PartialOrd, Ord)]
+enum Stage {
+    Record,
+    EightBytes,
+    Magic,
+    BodyTooLong,
+    BodyMissing,
+    FirstPart,
+    Part69,
+    PartBehindHeader,
+    NoPart,
+    Header,
+    PartsDisagree,
+    Route,
+    Topic,
+    Field,
+}
+
+struct Fault {
+    stage: Stage,
+    number: u32,
+    /// Whether it can be put into this frame.
+    fits: fn(&Draft) -> bool,
+    apply: fn(&mut Attempt),
+}
+
+pub fn run(tester: &mut Tester) {
+    tester.begin_group("reader-order");
+    let faults = faults();
+    let mut pairs = [[false; 12]; 12];
+    for (base, draft) in bases().into_iter().enumerate() {
+        let attempt = Attempt {
+            draft,
+            record_len: 52,
+        };
+        let fitting = |fault: &&Fault| (fault.fits)(&attempt.draft);
+        for first in faults.iter().filter(fitting) {
+            alone(tester, base, &attempt, first);
+            for second in faults.iter().filter(fitting) {
+                if first.stage < second.stage && both_can_be(first, second) {
+                    together(tester, base, &attempt, [first, second]);
+                    let [low, high] = in_order(first.number, second.number);
+                    pairs[low][high] = true;
+                }
+            }
+        }
+    }
+    let numbers: Vec<usize> = (1..=11).collect();
+    let remark = covered(tester, &pairs, &numbers);
+    tester.end_group(&remark);
+}
+
+/// Every two of the numbers must have met in some frame.
+pub fn covered(tester: &mut Tester, pairs: &[[bool; 12]; 12], numbers: &[usize]) -> String {
+    let mut met = 0;
+    for &low in numbers {
+        for &high in numbers.iter().filter(|&&high| high > low) {
+            tester.case("two numbers met", low as u64, high as u64, |tester| {
+                tester.require(pairs[low][high], || "no case has both".to_string());
+            });
+            met += pairs[low][high] as u32;
+        }
+    }
+    format!("{met} pairs of numbers met")
+}
+
+pub fn in_order(a: u32, b: u32) -> [usize; 2] {
+    [a.min(b) as usize, a.max(b) as usize]
+}
+
+fn bases() -> Vec<Draft> {
+    vec![
+        Draft::request(2, b"kvs.get", Some(b"some payload")),
+        Draft::request(0, b"log", None),
+        Draft::request(3, b"kvs.get", None),
+        Draft::routed(2, 1, b"kvs.get", Some(b"")),
+        Draft::event(b"hb", Some(b"beat")),
+        Draft::event(b"hb", None),
+        Draft::control(),
+    ]
+}
+
+fn alone(tester: &mut Tester, base: usize, attempt: &Attempt, fault: &Fault) {
+    let mut attempt = attempt.clone();
+    (fault.apply)(&mut attempt);
+    check(tester, ("alone", base as u64, 0), &attempt, fault.number);
+}
+
+/// The earlier stage wins. It is put in last, so that the other fault cannot undo it. Two faults
+/// may bring a 69th part with them, which then takes part.
+fn together(tester: &mut Tester, base: usize, attempt: &Attempt, faults: [&Fault; 2]) {
+    let mut both = attempt.clone();
+    (faults[1].apply)(&mut both);
+    (faults[0].apply)(&mut both);
+    let parts = both.draft.parts();
+    if faults[0].stage == Stage::FirstPart && parts[0].len() >= 255 {
+        // Here a 4-byte size is right.
+        return;
+    }
+    let behind = !both.draft.raw.is_empty() as usize;
+    let number = if parts.len() + behind > 68 && faults[0].stage > Stage::Part69 {
+        5
+    } else {
+        faults[0].number
+    };
+    let stages = 100 * faults[0].stage as u64 + faults[1].stage as u64;
+    check(tester, ("together", base as u64, stages), &both, number);
+}
+
+fn check(tester: &mut Tester, label: (&'static str, u64, u64), attempt: &Attempt, number: u32) {
+    let bytes = attempt.draft.bytes();
+    let case = ReadCase {
+        bytes: &bytes,
+        behind: &[],
+        record_len: attempt.record_len,
+    };
+    tester.read_case(label, &case, Expect::Number(number));
+}
+
+/// With no part at all there is no part to be wrong, and no body to be missing.
+fn both_can_be(first: &Fault, second: &Fault) -> bool {
+    second.stage != Stage::NoPart || first.stage < Stage::BodyMissing
+}
+
+fn no_part(attempt: &mut Attempt) {
+    let draft = &mut attempt.draft;
+    draft.routes.clear();
+    draft.delimiter = false;
+    draft.topic = None;
+    draft.payload = None;
+    draft.no_header = true;
+}
+
+fn any(_: &Draft) -> bool {
+    true
+}
+
+fn routed(draft: &Draft) -> bool {
+    draft.kind() <= 2
+}
+
+fn has_routes(draft: &Draft) -> bool {
+    !draft.routes.is_empty()
+}
+
+fn has_topic(draft: &Draft) -> bool {
+    draft.topic.is_some()
+}
+
+fn fault(stage: Stage, number: u32, fits: fn(&Draft) -> bool, apply: fn(&mut Attempt)) -> Fault {
+    Fault {
+        stage,
+        number,
+        fits,
+        apply,
+    }
+}
+
+fn faults() -> Vec<Fault> {
+    let mut all = outer_faults();
+    all.extend(part_faults());
+    all.extend(header_faults());
+    all.extend(disagreements());
+    all.extend(content_faults());
+    all
+}
+
+fn outer_faults() -> Vec<Fault> {
+    use Stage::*;
+    vec![
+        fault(Record, 11, any, |a| a.record_len = 51),
+        fault(Record, 11, any, |a| a.record_len = 0),
+        fault(EightBytes, 1, any, |a| a.draft.keep = Some(0)),
+        fault(EightBytes, 1, any, |a| a.draft.keep = Some(3)),
+        fault(EightBytes, 1, any, |a| a.draft.keep = Some(7)),
+        fault(Magic, 2, any, |a| a.draft.magic[0] = 0xFE),
+        fault(Magic, 2, any, |a| a.draft.magic[3] = 0x13),
+        fault(BodyTooLong, 3, any, |a| a.draft.body_length = Some(32_769)),
+        fault(BodyTooLong, 3, any, |a| {
+            a.draft.body_length = Some(u32::MAX)
+        }),
+        fault(BodyTooLong, 3, any, |a| a.draft.extra.push(vec![1; 32_768])),
+        fault(BodyMissing, 1, any, |a| a.draft.keep = Some(8)),
+        fault(BodyMissing, 1, any, |a| a.draft.cut = 1),
+    ]
+}
+
+fn part_faults() -> Vec<Fault> {
+    use Stage::*;
+    vec![
+        fault(FirstPart, 4, any, |a| a.draft.long_first = true),
+        fault(Part69, 5, any, |a| a.draft.extra.resize(70, vec![])),
+        fault(Part69, 5, any, |a| a.draft.extra.resize(70, vec![0x14; 20])),
+        fault(Part69, 5, routed, |a| {
+            a.draft.routes = (0..68).map(route).collect()
+        }),
+        fault(PartBehindHeader, 4, any, |a| a.draft.raw = vec![5, 1, 2]),
+        fault(PartBehindHeader, 4, any, |a| a.draft.raw = vec![255]),
+        fault(PartBehindHeader, 4, any, |a| a.draft.raw = vec![255; 9]),
+        fault(PartBehindHeader, 4, any, |a| {
+            a.draft.raw = [&[255, 0, 0, 0, 254][..], &[0; 254]].concat()
+        }),
+    ]
+}
+
+fn header_faults() -> Vec<Fault> {
+    use Stage::{Header, NoPart};
+    vec![
+        fault(NoPart, 6, any, no_part),
+        fault(Header, 6, has_topic, |a| a.draft.no_header = true),
+        fault(Header, 6, any, |a| a.draft.header.truncate(19)),
+        fault(Header, 6, any, |a| a.draft.header.push(0)),
+        fault(Header, 6, any, |a| a.draft.raw.push(0)),
+        fault(Header, 6, any, |a| a.draft.header[0] = 0x8F),
+        fault(Header, 6, any, |a| a.draft.header[1] = 0),
+        fault(Header, 6, any, |a| a.draft.header[1] = 2),
+        fault(Header, 6, any, |a| a.draft.header[2] = 0),
+        fault(Header, 6, any, |a| a.draft.header[2] = 3),
+        fault(Header, 6, any, |a| a.draft.header[2] |= 0x10),
+        fault(Header, 6, any, |a| a.draft.header[3] |= 0x80),
+    ]
+}
+
+fn disagreements() -> Vec<Fault> {
+    use Stage::PartsDisagree;
+    let has_payload = |draft: &Draft| draft.payload.is_some();
+    vec![
+        fault(PartsDisagree, 7, any, |a| a.draft.header[3] ^= 0x01),
+        fault(PartsDisagree, 7, any, |a| a.draft.header[3] ^= 0x02),
+        fault(PartsDisagree, 7, any, |a| a.draft.header[3] ^= 0x08),
+        fault(PartsDisagree, 7, any, |a| a.draft.extra.push(vec![b'x'])),
+        fault(PartsDisagree, 7, any, |a| a.draft.extra.push(vec![])),
+        fault(PartsDisagree, 7, has_topic, |a| a.draft.topic = None),
+        fault(PartsDisagree, 7, has_payload, |a| a.draft.payload = None),
+        fault(PartsDisagree, 7, routed, |a| a.draft.header[2] = 4),
+        fault(PartsDisagree, 7, has_topic, |a| a.draft.header[2] = 8),
+        fault(
+            PartsDisagree,
+            7,
+            |draft| !routed(draft),
+            |a| a.draft.header[2] = 1,
+        ),
+    ]
+}
+
+fn content_faults() -> Vec<Fault> {
+    use Stage::*;
+    let no_payload = |draft: &Draft| routed(draft) && draft.payload.is_none();
+    let is_request = |draft: &Draft| draft.kind() == 1;
+    let is_event = |draft: &Draft| draft.kind() == 4;
+    vec![
+        fault(Route, 8, has_routes, |a| a.draft.routes[0].truncate(36)),
+        fault(Route, 8, has_routes, |a| a.draft.routes[0].push(0)),
+        fault(Route, 8, has_routes, |a| a.draft.routes[0][0] = b'A'),
+        fault(Route, 8, has_routes, |a| a.draft.routes[0][13] = b'0'),
+        fault(Route, 8, has_routes, |a| a.draft.routes[0][36] = b'0'),
+        fault(Route, 8, no_payload, |a| {
+            a.draft.routes = (0..65).map(route).collect()
+        }),
+        fault(Topic, 9, has_topic, |a| set_topic(a, b"")),
+        fault(Topic, 9, has_topic, |a| set_topic(a, b"\0")),
+        fault(Topic, 9, has_topic, |a| set_topic(a, b"kvs.get")),
+        fault(Topic, 9, has_topic, |a| set_topic(a, b"kvs\0get\0")),
+        fault(Topic, 9, has_topic, |a| set_topic(a, &[b't'; 255])),
+        fault(Topic, 9, has_topic, |a| {
+            set_topic(a, &[&[b't'; 256][..], &[0]].concat())
+        }),
+        fault(Field, 10, is_request, |a| {
+            a.draft.header[12..16].copy_from_slice(&[255, 255, 255, 254])
+        }),
+        fault(Field, 10, is_event, |a| a.draft.header[16] = 0x80),
+        fault(Field, 10, is_event, |a| a.draft.header[18] = 1),
+    ]
+}
+
+/// A topic that another fault has taken away stays away.
+fn set_topic(attempt: &mut Attempt, part: &[u8]) {
+    if let Some(topic) = &mut attempt.draft.topic {
+        *topic = part.to_vec();
+    }
+}

@@ -1,0 +1,129 @@
+//! Both programs behind one type, so that a test or a measurement treats them alike.
+
+use crate::write::Message;
+use crate::{calls, library};
+
+type ReadCall = unsafe extern "C" fn(*const u8, usize, *mut u8, usize) -> u32;
+#[rustfmt::skip]
+type WriteCall = unsafe extern "C" fn(
+    u8, u8, u32, u32, u32, u32,
+    *const u8, usize, *const u8, usize, *const u8, usize,
+    *mut u8, usize, *mut u8, usize,
+) -> u32;
+#[cfg(feature = "tables")]
+type TreeCall = unsafe extern "C" fn(*const u8, usize, *mut u8, usize, *mut u8, usize) -> u32;
+#[cfg(feature = "tables")]
+type TableCall = unsafe extern "C" fn(*const u8, usize, *const u8, usize) -> u32;
+
+/// One of the two programs.
+#[derive(Clone, Copy)]
+pub struct Side {
+    pub name: &'static str,
+    read: ReadCall,
+    write: WriteCall,
+    #[cfg(feature = "tables")]
+    check_tree: TreeCall,
+    #[cfg(feature = "tables")]
+    check_services: TableCall,
+    #[cfg(feature = "tables")]
+    check_identities: TableCall,
+}
+
+pub const LIBRARY: Side = Side {
+    name: "library",
+    read: library::lampreycoil_read,
+    write: library::lampreycoil_write,
+    #[cfg(feature = "tables")]
+    check_tree: library::lampreycoil_check_tree,
+    #[cfg(feature = "tables")]
+    check_services: library::lampreycoil_check_services,
+    #[cfg(feature = "tables")]
+    check_identities: library::lampreycoil_check_identities,
+};
+
+pub const SECOND: Side = Side {
+    name: "second",
+    read: calls::second_read,
+    write: calls::second_write,
+    #[cfg(feature = "tables")]
+    check_tree: calls::second_check_tree,
+    #[cfg(feature = "tables")]
+    check_services: calls::second_check_services,
+    #[cfg(feature = "tables")]
+    check_identities: calls::second_check_identities,
+};
+
+impl Side {
+    pub fn read(&self, bytes: &[u8], record: &mut [u8]) -> u32 {
+        // Safe: both slices live through the call, and record is lent to it alone.
+        unsafe {
+            (self.read)(
+                bytes.as_ptr(),
+                bytes.len(),
+                record.as_mut_ptr(),
+                record.len(),
+            )
+        }
+    }
+
+    pub fn write(&self, message: &Message, out: &mut [u8], record: &mut [u8]) -> u32 {
+        let header = &message.header;
+        // Safe: all slices live through the call; out and record are lent to it alone.
+        unsafe {
+            (self.write)(
+                header.kind,
+                header.flags,
+                header.userid,
+                header.rolemask,
+                header.first,
+                header.second,
+                message.routes.as_ptr(),
+                message.routes.len(),
+                message.topic.as_ptr(),
+                message.topic.len(),
+                message.payload.as_ptr(),
+                message.payload.len(),
+                out.as_mut_ptr(),
+                out.len(),
+                record.as_mut_ptr(),
+                record.len(),
+            )
+        }
+    }
+
+    #[cfg(feature = "tables")]
+    pub fn check_tree(&self, tree: &[u8], depths: &mut [u8], record: &mut [u8]) -> u32 {
+        // Safe: all slices live through the call; depths and record are lent to it alone.
+        unsafe {
+            (self.check_tree)(
+                tree.as_ptr(),
+                tree.len(),
+                depths.as_mut_ptr(),
+                depths.len(),
+                record.as_mut_ptr(),
+                record.len(),
+            )
+        }
+    }
+
+    #[cfg(feature = "tables")]
+    pub fn check_services(&self, tree: &[u8], services: &[u8]) -> u32 {
+        // Safe: both slices live through the call.
+        unsafe {
+            (self.check_services)(tree.as_ptr(), tree.len(), services.as_ptr(), services.len())
+        }
+    }
+
+    #[cfg(feature = "tables")]
+    pub fn check_identities(&self, tree: &[u8], identities: &[u8]) -> u32 {
+        // Safe: both slices live through the call.
+        unsafe {
+            (self.check_identities)(
+                tree.as_ptr(),
+                tree.len(),
+                identities.as_ptr(),
+                identities.len(),
+            )
+        }
+    }
+}
