@@ -7,7 +7,7 @@ use native.Mathlib.Omega.{arith}
 use native.Mathlib.Numerals.{add-one}
 use borrow.Author.Tests.{le-leb, lt-leb}
 use lib.ListN.{length, getD, take, drop, set, length-append, length-drop}
-use lib.Seq.{take-at, drop-at, drop-drop, drop-cons, set-at, take-suc, append-snoc, length-take-le}
+use lib.Seq.{take-at, drop-at, drop-drop, drop-cons, set-at, take-suc, take-suc-set, getD-take, append-snoc, length-take-le}
 use Rattle.octets.specs.Laid.{laid, laidIfRoom}
 
 pub laid-room : (xs out : List ℕ) → length xs ≤ length out → laidIfRoom xs out ≡ laid xs out
@@ -36,3 +36,11 @@ four-stores (p ∷ []) a b c d h = absurd (omega arith)
 four-stores (p ∷ q ∷ []) a b c d h = absurd (omega arith)
 four-stores (p ∷ q ∷ r ∷ []) a b c d h = absurd (omega arith)
 four-stores (p ∷ q ∷ r ∷ s ∷ rest) a b c d h = refl
+
+-- a turn of a copy into an array of one's own: the bytes in front of i are those of the source, whatever was there
+pub held-more : (src held : List ℕ) (i : ℕ) → i < length src → i < length held → take i held ≡ take i src → take (i + 1) (set held i (getD src i 0)) ≡ take (i + 1) src
+held-more src held i hs hh e = rw (add-one, take-suc-set held i (getD src i 0) hh, take-suc src i 0 hs, e)
+
+-- what the array then holds at a place of the source
+pub held-at : (src held : List ℕ) (j : ℕ) → j < length src → take (length src) held ≡ take (length src) src → getD held j 0 ≡ getD src j 0
+held-at src held j h e = sym (getD-take (length src) held j 0 h) ∙ ap (λ (l : List ℕ). getD l j 0) e ∙ getD-take (length src) src j 0 h

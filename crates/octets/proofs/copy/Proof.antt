@@ -1,53 +1,111 @@
--- `octets::copy` meets its contract: the bytes in front of i are the source's, and the others are as they were.
--- Assumes nothing.
-use Prim.Native.Nat.{_≤_, _-_}
-use mathlib.Core.Path.{_≡_, refl, sym, ap, _∙_}
-use mathlib.Core.List.{_++_}
 use native.Mathlib.Omega.{arith}
-use lib.ListN.{length, take, drop, length-set}
-use lib.Seq.{take-length, take-all}
-use Rattle.octets.proofs.Buffers.{laid-room, laid-none, copy-more}
+use mathlib.Core.Path.{sym}
+use Prim.Native.Nat.{_+_, _-_}
+use lib.ListN.{length}
+use borrow.Author.Needs.{needs}
+use Rattle.octets.proofs.Copying.{Copied, copied-none, copied-length, block-long, block-fits, copied-more, copied-all}
+use Rattle.octets.proofs.Buffers.{laid-none}
 use Rattle.octets.proofs.copy.Statement.{statement}
 use Rattle.octets.proofs.copy.Tie as tie
+use Rattle.octets.proofs.copy.Reads as reads
+use Rattle.octets.proofs.copy.Lts as lts
+use Rattle.octets.proofs.copy_block.Reads as copy-block-reads
 
 abbrev Inv-loop : tie.InvT-loop
-Inv-loop src dst₀ i₀ dst i = (i ≤ length src) × (length dst ≡ length dst₀) × (dst ≡ take i src ++ drop i dst₀)
+Inv-loop src dst₀ at₀ dst at = Copied src dst₀ dst at
 
 abbrev μ-loop : tie.MeasureT-loop
-μ-loop src dst₀ i₀ dst i = length src - i
+μ-loop src dst₀ at₀ dst at = length src - at
 
+-- src/lib.rt:61:9
 loop-holds : tie.Need-loop-holds Inv-loop μ-loop
-loop-holds c = (omega arith, refl, refl)
+loop-holds c = copied-none (c .before .before .before .args .src .now) (c .before .before .before .args .dst .now)
 
-shared-slice-read-dst : tie.Need-shared-slice-read-dst Inv-loop μ-loop
-shared-slice-read-dst c = omega arith
+-- src/lib.rt:61:23
+sub-loop : tie.Need-sub-loop Inv-loop μ-loop
+sub-loop c = c .loop .inv .most
 
-slice-write-dst : tie.Need-slice-write-dst Inv-loop μ-loop
-slice-write-dst c = omega arith
+-- src/lib.rt:62:23
+add-end : tie.Need-add-end Inv-loop μ-loop
+add-end c = omega (arith, c .before .loop .inv .most, c .loop-test .taken)
 
-add-i : tie.Need-add-i Inv-loop μ-loop
-add-i c = omega arith
+-- src/lib.rt:63:24
+sub-copy-block : tie.Need-sub-copy-block Inv-loop μ-loop
+sub-copy-block c = omega arith
 
+-- src/lib.rt:63:24
+part-copy-block-start : tie.Need-part-copy-block-start Inv-loop μ-loop
+part-copy-block-start c = omega arith
+
+-- src/lib.rt:63:24
+part-copy-block-end : tie.Need-part-copy-block-end Inv-loop μ-loop
+part-copy-block-end c = omega (arith, c .before .loop .inv .most, c .loop-test .taken)
+
+-- src/lib.rt:63:39
+sub-copy-block-2 : tie.Need-sub-copy-block-2 Inv-loop μ-loop
+sub-copy-block-2 c = omega (arith, copied-length (c .before .before .before .before .before .before .args .src .now) (c .before .before .before .before .before .before .args .dst .now) (c .before .before .loop .dst) (c .before .before .loop .at) (c .before .before .loop .inv) (c .before .before .before .if1 .taken), c .before .before .loop .inv .most, c .before .before .before .if1 .taken, c .before .loop-test .taken)
+
+-- src/lib.rt:63:39
+part-copy-block-start-2 : tie.Need-part-copy-block-start-2 Inv-loop μ-loop
+part-copy-block-start-2 c = omega (arith, copied-length (c .before .before .before .before .before .before .args .src .now) (c .before .before .before .before .before .before .args .dst .now) (c .before .before .loop .dst) (c .before .before .loop .at) (c .before .before .loop .inv) (c .before .before .before .if1 .taken), c .before .before .loop .inv .most, c .before .before .before .if1 .taken, c .before .loop-test .taken)
+
+-- src/lib.rt:63:39
+part-copy-block-end-2 : tie.Need-part-copy-block-end-2 Inv-loop μ-loop
+part-copy-block-end-2 c = search needs
+
+-- src/lib.rt:63:13
+copy-block-requires : tie.Need-copy-block-requires Inv-loop μ-loop
+copy-block-requires c κs = (omega (arith, block-long (c .before .before .before .before .before .before .before .args .src .now) (c .before .before .before .before .before .before .before .args .dst .now) (c .before .before .before .loop .dst) (c .before .before .before .loop .at) (c .before .before .before .loop .inv) (c .before .before .before .before .if1 .taken) (c .before .before .before .loop .at + 32768) (omega arith) (omega (arith, c .before .before .before .loop .inv .most, c .before .before .loop-test .taken))), block-fits (c .before .before .before .before .before .before .before .args .src .now) (c .before .before .before .before .before .before .before .args .dst .now) (c .before .before .before .loop .dst) (c .before .before .before .loop .at) (c .before .before .before .loop .inv) (c .before .before .before .before .if1 .taken) (c .before .before .before .loop .at + 32768) (omega arith) (omega (arith, c .before .before .before .loop .inv .most, c .before .before .loop-test .taken)))
+
+-- src/lib.rt:61:9
 loop-less : tie.Need-loop-less Inv-loop μ-loop
-loop-less c = omega arith
+loop-less c = omega (arith, c .before .before .before .before .before .before .loop .inv .most, c .before .before .before .before .before .loop-test .taken)
 
+-- src/lib.rt:61:9
 loop-again : tie.Need-loop-again Inv-loop μ-loop
-loop-again c =
-    let at-loop = c .before .before in
-    let args = at-loop .before .before .args in
-    (omega arith, simp length-set (omega arith), rw (at-loop .loop .inv .2) (copy-more (args .src .now) (args .dst .now) (at-loop .loop .i) (omega arith) (omega arith)))
+loop-again c = copied-more (c .before .before .before .before .before .before .before .before .before .before .args .src .now) (c .before .before .before .before .before .before .before .before .before .before .args .dst .now) (c .before .before .before .before .before .before .loop .dst) (c .before .before .before .before .before .before .loop .at) (c .before .before .before .before .before .before .loop .inv) (c .before .before .before .before .before .before .before .if1 .taken) (c .before .before .before .before .before .before .loop .at + 32768) (omega arith) (omega (arith, c .before .before .before .before .before .before .loop .inv .most, c .before .before .before .before .before .loop-test .taken)) (c .before .before .copy-block .last .1 .0) (c .before .before .copy-block .ensures)
 
+-- src/lib.rt:66:20
+sub-copy-block-3 : tie.Need-sub-copy-block-3 Inv-loop μ-loop
+sub-copy-block-3 c = c .before .loop .inv .most
+
+-- src/lib.rt:66:20
+part-copy-block-start-3 : tie.Need-part-copy-block-start-3 Inv-loop μ-loop
+part-copy-block-start-3 c = c .before .loop .inv .most
+
+-- src/lib.rt:66:20
+part-copy-block-end-3 : tie.Need-part-copy-block-end-3 Inv-loop μ-loop
+part-copy-block-end-3 c = search needs
+
+-- src/lib.rt:66:32
+sub-copy-block-4 : tie.Need-sub-copy-block-4 Inv-loop μ-loop
+sub-copy-block-4 c = omega (arith, copied-length (c .before .before .before .before .before .before .args .src .now) (c .before .before .before .before .before .before .args .dst .now) (c .before .before .loop .dst) (c .before .before .loop .at) (c .before .before .loop .inv) (c .before .before .before .if1 .taken), c .before .before .loop .inv .most, c .before .before .before .if1 .taken)
+
+-- src/lib.rt:66:32
+part-copy-block-start-4 : tie.Need-part-copy-block-start-4 Inv-loop μ-loop
+part-copy-block-start-4 c = omega (arith, copied-length (c .before .before .before .before .before .before .args .src .now) (c .before .before .before .before .before .before .args .dst .now) (c .before .before .loop .dst) (c .before .before .loop .at) (c .before .before .loop .inv) (c .before .before .before .if1 .taken), c .before .before .loop .inv .most, c .before .before .before .if1 .taken)
+
+-- src/lib.rt:66:32
+part-copy-block-end-4 : tie.Need-part-copy-block-end-4 Inv-loop μ-loop
+part-copy-block-end-4 c = search needs
+
+-- src/lib.rt:66:9
+copy-block-requires-2 : tie.Need-copy-block-requires-2 Inv-loop μ-loop
+copy-block-requires-2 c κs = (omega (arith, block-long (c .before .before .before .before .before .before .before .args .src .now) (c .before .before .before .before .before .before .before .args .dst .now) (c .before .before .before .loop .dst) (c .before .before .before .loop .at) (c .before .before .before .loop .inv) (c .before .before .before .before .if1 .taken) (length (c .before .before .before .before .before .before .before .args .src .now)) (c .before .before .before .loop .inv .most) (omega arith), c .before .before .loop-test .left), block-fits (c .before .before .before .before .before .before .before .args .src .now) (c .before .before .before .before .before .before .before .args .dst .now) (c .before .before .before .loop .dst) (c .before .before .before .loop .at) (c .before .before .before .loop .inv) (c .before .before .before .before .if1 .taken) (length (c .before .before .before .before .before .before .before .args .src .now)) (c .before .before .before .loop .inv .most) (omega arith))
+
+-- src/lib.rt:56:1
 same-length : tie.Need-same-length Inv-loop μ-loop
-same-length c = c .before .loop .inv .1
+same-length c = let done = copied-more (c .before .before .before .before .before .before .before .before .before .before .args .src .now) (c .before .before .before .before .before .before .before .before .before .before .args .dst .now) (c .before .before .before .before .before .before .loop .dst) (c .before .before .before .before .before .before .loop .at) (c .before .before .before .before .before .before .loop .inv) (c .before .before .before .before .before .before .before .if1 .taken) (length (c .before .before .before .before .before .before .before .before .before .before .args .src .now)) (c .before .before .before .before .before .before .loop .inv .most) (omega arith) (c .before .before .copy-block2 .last .1 .0) (c .before .before .copy-block2 .ensures) in
+    copied-length (c .before .before .before .before .before .before .before .before .before .before .args .src .now) (c .before .before .before .before .before .before .before .before .before .before .args .dst .now) _ (length (c .before .before .before .before .before .before .before .before .before .before .args .src .now)) done (c .before .before .before .before .before .before .before .if1 .taken)
 
+-- src/lib.rt:56:1
 returns : tie.Need-returns Inv-loop μ-loop
-returns c =
-    let args = c .before .before .before .args in
-    let all : c .before .loop .i ≡ length (args .src .now) = omega arith in
-    c .before .loop .inv .2 ∙ rw (all, take-length (args .src .now)) (sym (laid-room (args .src .now) (args .dst .now) (omega arith)))
+returns c = let done = copied-more (c .before .before .before .before .before .before .before .before .before .before .args .src .now) (c .before .before .before .before .before .before .before .before .before .before .args .dst .now) (c .before .before .before .before .before .before .loop .dst) (c .before .before .before .before .before .before .loop .at) (c .before .before .before .before .before .before .loop .inv) (c .before .before .before .before .before .before .before .if1 .taken) (length (c .before .before .before .before .before .before .before .before .before .before .args .src .now)) (c .before .before .before .before .before .before .loop .inv .most) (omega arith) (c .before .before .copy-block2 .last .1 .0) (c .before .before .copy-block2 .ensures) in
+    copied-all (c .before .before .before .before .before .before .before .before .before .before .args .src .now) (c .before .before .before .before .before .before .before .before .before .before .args .dst .now) _ (c .before .before .before .before .before .before .before .if1 .taken) done
 
+-- src/lib.rt:56:1
 returns-2 : tie.Need-returns-2 Inv-loop μ-loop
-returns-2 c = sym (laid-none (c .before .args .src .now) (c .before .args .dst .now) (omega arith))
+returns-2 c = sym (laid-none (c .before .before .before .args .src .now) (c .before .before .before .args .dst .now) (omega arith))
 
 pub copy-spec : {M : Type 1} → statement M
 copy-spec =
@@ -56,11 +114,24 @@ copy-spec =
     Inv-loop
     μ-loop
     loop-holds
-    shared-slice-read-dst
-    slice-write-dst
-    add-i
+    sub-loop
+    add-end
+    sub-copy-block
+    part-copy-block-start
+    part-copy-block-end
+    sub-copy-block-2
+    part-copy-block-start-2
+    part-copy-block-end-2
+    copy-block-requires
     loop-less
     loop-again
+    sub-copy-block-3
+    part-copy-block-start-3
+    part-copy-block-end-3
+    sub-copy-block-4
+    part-copy-block-start-4
+    part-copy-block-end-4
+    copy-block-requires-2
     same-length
     returns
     returns-2)
