@@ -1,7 +1,7 @@
 -- Laws on the body and the frame of the message that the writer is given: the body is the routing group, the topic's part, the payload's
 -- part and the header's part, one after another.
 -- Assumes nothing.
-use mathlib.Core.Path.{_≡_, refl, sym, ap, _∙_}
+use mathlib.Core.Path.{_≡_}
 use mathlib.Core.Bool.{Bool, true}
 use Prim.Native.Nat.{ℕ, _+_, _-_, _%_, _≤_}
 use mathlib.Core.List.{List, [], _∷_, _++_, append-nil, append-assoc}
@@ -11,10 +11,10 @@ use Rattle.octets.specs.Number.{four}
 use Rattle.message.specs.declared.Header.{Header}
 use Rattle.message.specs.Header.{hasTopic, hasPayload, hasRoute, headerBytes}
 use Rattle.message.specs.Message.{Message}
-use Rattle.message.specs.Frame.{partBytes, joined, partIf, partsOf, bodyOf, frameStart, frameOf}
+use Rattle.message.specs.Frame.{partBytes, joined, partIf, partsOf, bodyOf, frameOf}
 use Rattle.message.specs.Writing.{givenMessage}
 use Rattle.writer.specs.Parts.{groupOf, groupLength, partLength}
-use Rattle.writer.proofs.Parts.{joined-append, part-takes, group-takes}
+use Rattle.writer.proofs.Parts.{joined-append, part-takes, group-takes, part-most, group-most}
 
 -- bytes that fit with others behind them fit
 pub front-fits : (w x : List ℕ) {n : ℕ} → length (w ++ x) ≤ n → length w ≤ n
@@ -43,6 +43,9 @@ module _ (h : Header) (routes topic payload : List ℕ) {r t p : Bool} (er : r �
   pub body-length : length routes % 37 ≡ 0 → length (bodyOf (givenMessage h routes topic payload)) ≡ groupLength r (length routes) + partLength t (length topic + 1) + partLength p (length payload) + 21
   unfolding headerBytes
   body-length e = rw (body-parts, length-append, length-append, length-append, group-takes r routes e, part-takes t, part-takes p, length-append topic (0 ∷ []))
+
+  pub body-most : length routes % 37 ≡ 0 → length routes ≤ 2368 → length topic ≤ 255 → length payload ≤ 32768 → length (bodyOf (givenMessage h routes topic payload)) ≤ 40000
+  body-most e hr ht hp = rw (body-length e) (omega (arith, group-most r (length routes), part-most t (length topic + 1), part-most p (length payload)))
 
   -- a body is longer than its payload
   pub payload-shorter : p ≡ true → length payload ≤ length (bodyOf (givenMessage h routes topic payload))

@@ -1,14 +1,14 @@
 // What the writer refuses, in the paper's order, before it writes anything.
 ghost use mathlib.Core.Path.{_≡_};
-ghost use mathlib.Core.Bool.{_&&_, _||_, not};
+ghost use mathlib.Core.Bool.{true, false, _&&_, _||_, not};
 ghost use Prim.Native.Nat.{_+_, _≤_, _%_};
 ghost use lib.ListN.{length};
 ghost use Rattle.message.specs.Header.{hasTopic, partsFit};
 ghost use Rattle.message.specs.Forms.{isTopic};
 ghost use Rattle.message.specs.Frame.{bodyOf};
-ghost use Rattle.message.specs.Writing.{isEmpty, partsGivenFit, routesGood, cutRoutes, writing, givenMessage};
+ghost use Rattle.message.specs.Writing.{isEmpty, partsGivenFit, routesGood, cutRoutes, writingInto, givenMessage};
 ghost use Rattle.writer.specs.Parts.{partLength, groupLength};
-ghost use Rattle.writer.specs.Written.{writtenAs};
+ghost use Rattle.writer.specs.Written.{writtenAs, measured};
 use crate::Written;
 use message::Header;
 use message::Refusal;
@@ -100,31 +100,57 @@ fn body_length(header: Header, routes: &[u8], topic: &[u8], payload: &[u8]) -> u
     upto + part_length(message::has_payload(flags), payload.len()) + 21
 }
 
-// The refusal, or the length of the frame to be written. A payload above 32,768 bytes makes a body above that, and is not added up.
-pub(crate) fn judge(header: Header, routes: &[u8], topic: &[u8], payload: &[u8]) -> Written
-    ensures { λ r. ⌜ r ≡ writtenAs (writing (givenMessage header (now (routes .entry)) (now (topic .entry)) (now (payload .entry)))) ⌝ }
+// 3 and 11, of a message that 6 to 10 let through. A payload above 32,768 bytes makes a body above that, and is not added up.
+fn measure(header: Header, routes: &[u8], topic: &[u8], payload: &[u8], room: usize) -> Written
+    requires { ⌜ (partsFit header && partsGivenFit (givenMessage header (now routes) (now topic) (now payload))) ≡ true ⌝ }
+    requires { ⌜ routesGood (cutRoutes (length (now routes)) (now routes)) ≡ true ⌝ }
+    requires { ⌜ (hasTopic (header .flags) && not (isTopic (now topic))) ≡ false ⌝ }
+    ensures { λ r. ⌜ r ≡ writtenAs (measured room (givenMessage header (now (routes .entry)) (now (topic .entry)) (now (payload .entry)))) ⌝ }
 {
-    if !message::is_known(header) {
-        return Written::Refused(Refusal::WrongHeader);
-    }
-    if !parts_agree(header, routes, topic, payload) {
-        return Written::Refused(Refusal::WrongParts);
-    }
-    if !routes_good(routes) {
-        return Written::Refused(Refusal::WrongRoute);
-    }
-    if topic_wrong(header.flags, topic) {
-        return Written::Refused(Refusal::WrongTopic);
-    }
-    if !message::fields_good(header) {
-        return Written::Refused(Refusal::WrongField);
-    }
     if 32768 < payload.len() {
         return Written::Refused(Refusal::LongBody);
     }
     let body = body_length(header, routes, topic, payload);
+    let whole = body + 8;
     if 32768 < body {
-        return Written::Refused(Refusal::LongBody);
+        Written::Refused(Refusal::LongBody)
+    } else if room < whole {
+        Written::Refused(Refusal::ShortOutput)
+    } else {
+        Written::Frame(whole)
     }
-    Written::Frame(body + 8)
+}
+
+// The refusal, or the length of the frame to be written into so much room: 6, 7, 8, 9, 10, then 3 and 11. All of the first five are looked
+// at before any is told, so that their order stands in one list; a message that is written needs them all anyway.
+pub(crate) fn judge(
+    header: Header,
+    routes: &[u8],
+    topic: &[u8],
+    payload: &[u8],
+    room: usize,
+) -> Written
+    ensures { λ r. ⌜ r ≡ writtenAs (writingInto room (givenMessage header (now (routes .entry)) (now (topic .entry)) (now (payload .entry)))) ⌝ }
+{
+    let known = message::is_known(header);
+    let agree = parts_agree(header, routes, topic, payload);
+    let good = routes_good(routes);
+    let wrong = topic_wrong(header.flags, topic);
+    let fields = message::fields_good(header);
+    if !known {
+        return Written::Refused(Refusal::WrongHeader);
+    }
+    if !agree {
+        return Written::Refused(Refusal::WrongParts);
+    }
+    if !good {
+        return Written::Refused(Refusal::WrongRoute);
+    }
+    if wrong {
+        return Written::Refused(Refusal::WrongTopic);
+    }
+    if !fields {
+        return Written::Refused(Refusal::WrongField);
+    }
+    measure(header, routes, topic, payload, room)
 }

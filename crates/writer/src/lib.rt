@@ -21,13 +21,10 @@ pub fn write(header: Header, routes: &[u8], topic: &[u8], payload: &[u8], out: &
     ensures { λ r. ⌜ r ≡ writtenAs (writingInto (length (now (out .entry))) (givenMessage header (now (routes .entry)) (now (topic .entry)) (now (payload .entry)))) ⌝ }
     ensures { λ _. ⌜ now (out .exit) ≡ outputOf (writingInto (length (now (out .entry))) (givenMessage header (now (routes .entry)) (now (topic .entry)) (now (payload .entry)))) (now (out .entry)) ⌝ }
 {
-    let judged = judge::judge(header, routes, topic, payload);
+    let judged = judge::judge(header, routes, topic, payload, out.len());
     match judged {
         Written::Refused(r) => Written::Refused(r),
         Written::Frame(n) => {
-            if out.len() < n {
-                return Written::Refused(Refusal::ShortOutput);
-            }
             frame::write_frame(out, n, header, routes, topic, payload);
             Written::Frame(n)
         }

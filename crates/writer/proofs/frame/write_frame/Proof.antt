@@ -1,26 +1,22 @@
+-- `writer::frame::write_frame` meets its contract: the start, the body's length and the body, one behind the other.
+-- Assumes nothing.
 use native.Mathlib.Omega.{arith}
 use mathlib.Core.Path.{ap, _∙_}
 use mathlib.Core.List.{List}
 use Prim.Native.Nat.{ℕ, _-_}
 use Rattle.octets.specs.Number.{four}
 use Rattle.octets.specs.Laid.{laid}
-use Rattle.message.specs.Frame.{bodyOf, frameOf}
+use Rattle.message.specs.Frame.{bodyOf}
 use Rattle.message.specs.Writing.{givenMessage}
 use Rattle.writer.proofs.Bodies.{frame-length, frame-bytes}
 use Rattle.octets.proofs.Laying.{lays-room, lays-leaf, lays-more, lays-rest, lays-within}
 use borrow.Author.Needs.{needs}
 use Rattle.writer.proofs.frame.write_frame.Statement.{statement}
 use Rattle.writer.proofs.frame.write_frame.Tie as tie
-use Rattle.writer.proofs.frame.write_frame.Reads as reads
-use Rattle.writer.proofs.frame.write_frame.Lts as lts
-use Rattle.octets.proofs.put_number.Reads as put-number-reads
-use Rattle.writer.proofs.frame.write_body.Reads as write-body-reads
 
--- src/frame.rt:34:5
 put-number-requires : tie.Need-put-number-requires
 put-number-requires c κs = search needs
 
--- src/frame.rt:35:24
 sub-put-number : tie.Need-sub-put-number
 sub-put-number c =
     let start = c .before .before .before .before .before .before .before .before in
@@ -30,26 +26,21 @@ sub-put-number c =
     let l = lays-room {xs = four 4293787666} {lent = args .out .now} (omega (arith, start .pre)) (c .before .before .put-number .ensures) in
     lays-within l (omega (arith, start .pre))
 
--- src/frame.rt:35:24
 part-put-number-start : tie.Need-part-put-number-start
 part-put-number-start c = sub-put-number c
 
--- src/frame.rt:35:24
 part-put-number-end : tie.Need-part-put-number-end
 part-put-number-end c = search needs
 
--- src/frame.rt:35:39
 sub-put-number-2 : tie.Need-sub-put-number-2
 sub-put-number-2 c =
     let start = c .before .before .before .before .before .before .before .before .before in
     let args = start .args in
     omega (arith, start .pre, frame-length (givenMessage (args .header) (args .routes .now) (args .topic .now) (args .payload .now)))
 
--- src/frame.rt:35:5
 put-number-requires-2 : tie.Need-put-number-requires-2
 put-number-requires-2 c κs = search needs
 
--- src/frame.rt:36:16
 sub-write-body : tie.Need-sub-write-body
 sub-write-body c =
     let start = c .before .before .before .before .before .before .before .before .before .before .before .before in
@@ -60,15 +51,12 @@ sub-write-body c =
     let l = lays-leaf l (four (args .n - 8)) (omega (arith, start .pre)) (c .before .before .put-number2 .ensures) in
     lays-within l (omega (arith, start .pre))
 
--- src/frame.rt:36:16
 part-write-body-start : tie.Need-part-write-body-start
 part-write-body-start c = sub-write-body c
 
--- src/frame.rt:36:16
 part-write-body-end : tie.Need-part-write-body-end
 part-write-body-end c = search needs
 
--- src/frame.rt:36:5
 write-body-requires : tie.Need-write-body-requires
 write-body-requires c κs =
     let start = c .before .before .before .before .before .before .before .before .before .before .before .before .before in
@@ -79,11 +67,9 @@ write-body-requires c κs =
     let l = lays-leaf l (four (args .n - 8)) (omega (arith, start .pre)) (c .before .before .before .put-number2 .ensures) in
     (start .pre .0, lays-rest l (bodyOf m) (omega (arith, start .pre)))
 
--- src/frame.rt:28:1
 same-length : tie.Need-same-length
 same-length c = search needs
 
--- src/frame.rt:28:1
 returns : tie.Need-returns
 returns c =
     let start = c .before .before .before .before .before .before .before .before .before .before .before .before .before .before .before .before in

@@ -1,3 +1,5 @@
+-- `writer::judge::body_length` meets its contract: what each part takes is added up, and is little.
+-- Assumes nothing.
 use native.Mathlib.Omega.{arith}
 use mathlib.Core.Path.{sym}
 use Prim.Native.Nat.{_+_}
@@ -7,64 +9,46 @@ use Rattle.writer.proofs.Bodies.{body-length}
 use borrow.Author.Needs.{needs}
 use Rattle.writer.proofs.judge.body_length.Statement.{statement}
 use Rattle.writer.proofs.judge.body_length.Tie as tie
-use Rattle.writer.proofs.judge.body_length.Reads as reads
-use Rattle.writer.proofs.judge.body_length.Lts as lts
-use Rattle.message.proofs.has_payload.Reads as has-payload-reads
-use Rattle.message.proofs.has_route.Reads as has-route-reads
-use Rattle.message.proofs.has_topic.Reads as has-topic-reads
-use Rattle.writer.proofs.judge.group_length.Reads as group-length-reads
-use Rattle.writer.proofs.judge.part_length.Reads as part-length-reads
 
--- src/judge.rt:98:30
 has-route-requires : tie.Need-has-route-requires
 has-route-requires c κs = search needs
 
--- src/judge.rt:98:9
 group-length-requires : tie.Need-group-length-requires
 group-length-requires c κs = search needs
 
--- src/judge.rt:99:36
 has-topic-requires : tie.Need-has-topic-requires
 has-topic-requires c κs = search needs
 
--- src/judge.rt:99:63
 add-part-length : tie.Need-add-part-length
 add-part-length c = search needs
 
--- src/judge.rt:99:24
 part-length-requires : tie.Need-part-length-requires
 part-length-requires c κs = search needs
 
--- src/judge.rt:99:16
 add-upto : tie.Need-add-upto
 add-upto c =
     let start = c .before .before .before .before .before .before .before in
     let args = start .args in
     omega (arith, start .pre, group-most (c .before .before .before .has-route .result) (length (args .routes .now)), part-most (c .before .has-topic .result) (length (args .topic .now) + 1))
 
--- src/judge.rt:100:24
 has-payload-requires : tie.Need-has-payload-requires
 has-payload-requires c κs = search needs
 
--- src/judge.rt:100:12
 part-length-requires-2 : tie.Need-part-length-requires-2
 part-length-requires-2 c κs = search needs
 
--- src/judge.rt:100:5
 add-result : tie.Need-add-result
 add-result c =
     let start = c .before .before .before .before .before .before .before .before .before in
     let args = start .args in
     omega (arith, start .pre, group-most (c .before .before .before .before .before .has-route .result) (length (args .routes .now)), part-most (c .before .before .before .has-topic .result) (length (args .topic .now) + 1), part-most (c .before .has-payload .result) (length (args .payload .now)))
 
--- src/judge.rt:100:5
 add-result-2 : tie.Need-add-result-2
 add-result-2 c =
     let start = c .before .before .before .before .before .before .before .before .before in
     let args = start .args in
     omega (arith, start .pre, group-most (c .before .before .before .before .before .has-route .result) (length (args .routes .now)), part-most (c .before .before .before .has-topic .result) (length (args .topic .now) + 1), part-most (c .before .has-payload .result) (length (args .payload .now)))
 
--- src/judge.rt:92:1
 returns : tie.Need-returns
 returns c =
     let start = c .before .before .before .before .before .before .before .before .before in

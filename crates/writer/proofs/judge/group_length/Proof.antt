@@ -1,22 +1,18 @@
+-- `writer::judge::group_length` meets its contract.
+-- Assumes nothing.
 use borrow.Author.Needs.{needs}
 use Rattle.writer.proofs.judge.group_length.Statement.{statement}
 use Rattle.writer.proofs.judge.group_length.Tie as tie
-use Rattle.writer.proofs.judge.group_length.Reads as reads
-use Rattle.writer.proofs.judge.group_length.Lts as lts
 
--- src/judge.rt:76:16
 mul-result : tie.Need-mul-result
 mul-result c = search needs
 
--- src/judge.rt:76:16
 add-result : tie.Need-add-result
 add-result c = search needs
 
--- src/judge.rt:72:1
 returns : tie.Need-returns
 returns c = rw (c .if1 .taken)
 
--- src/judge.rt:72:1
 returns-2 : tie.Need-returns-2
 returns-2 c = search needs
 

@@ -1,15 +1,13 @@
+-- `writer::judge::may_be_given` meets its contract.
+-- Assumes nothing.
 use Rattle.writer.proofs.Judging.{empty-length}
 use borrow.Author.Needs.{needs}
 use Rattle.writer.proofs.judge.may_be_given.Statement.{statement}
 use Rattle.writer.proofs.judge.may_be_given.Tie as tie
-use Rattle.writer.proofs.judge.may_be_given.Reads as reads
-use Rattle.writer.proofs.judge.may_be_given.Lts as lts
 
--- src/judge.rt:17:1
 returns : tie.Need-returns
 returns c = search needs
 
--- src/judge.rt:17:1
 returns-2 : tie.Need-returns-2
 returns-2 c = rw (c .if1 .left) (empty-length (c .before .args .part .now))
 

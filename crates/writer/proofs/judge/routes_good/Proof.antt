@@ -1,3 +1,5 @@
+-- `writer::judge::routes_good` meets its contract: whether all routes are of the form is whether those from i on are.
+-- Assumes nothing.
 use native.Mathlib.Omega.{arith}
 use mathlib.Core.Path.{_≡_, refl, sym, _∙_}
 use mathlib.Core.List.{[]}
@@ -8,9 +10,6 @@ use Rattle.message.specs.Writing.{allRoutes}
 use Rattle.writer.proofs.Cuts.{cut, all-next, routes-few, routes-many, routes-uneven}
 use Rattle.writer.proofs.judge.routes_good.Statement.{statement}
 use Rattle.writer.proofs.judge.routes_good.Tie as tie
-use Rattle.writer.proofs.judge.routes_good.Reads as reads
-use Rattle.writer.proofs.judge.routes_good.Lts as lts
-use Rattle.message.proofs.form.is_route.Reads as is-route-reads
 
 abbrev Inv-loop : tie.InvT-loop
 Inv-loop routes i₀ i = (i ≤ length routes) × (i % 37 ≡ 0) × (allRoutes (cut (drop i routes)) ≡ allRoutes (cut routes))
@@ -18,55 +17,43 @@ Inv-loop routes i₀ i = (i ≤ length routes) × (i % 37 ≡ 0) × (allRoutes (
 abbrev μ-loop : tie.MeasureT-loop
 μ-loop routes i₀ i = length routes - i
 
--- src/judge.rt:45:9
 returns : tie.Need-returns Inv-loop μ-loop
-returns c = sym (routes-many (c .before .before .args .routes .now) (c .if1 .taken))
+returns c = sym (routes-many (c .before .before .args .routes .now) (omega arith))
 
--- src/judge.rt:48:9
 returns-2 : tie.Need-returns-2 Inv-loop μ-loop
-returns-2 c = sym (routes-uneven (c .before .before .before .args .routes .now) (c .if2 .taken))
+returns-2 c = sym (routes-uneven (c .before .before .before .args .routes .now) (λ e. c .if2 .taken (omega arith)))
 
--- src/judge.rt:51:5
 loop-holds : tie.Need-loop-holds Inv-loop μ-loop
 loop-holds c = (omega arith, refl, refl)
 
--- src/judge.rt:52:48
 add-is-route : tie.Need-add-is-route Inv-loop μ-loop
 add-is-route c = omega arith
 
--- src/judge.rt:52:37
 sub-is-route : tie.Need-sub-is-route Inv-loop μ-loop
 sub-is-route c = omega arith
 
--- src/judge.rt:52:37
 part-is-route-start : tie.Need-part-is-route-start Inv-loop μ-loop
 part-is-route-start c = omega arith
 
--- src/judge.rt:52:37
 part-is-route-end : tie.Need-part-is-route-end Inv-loop μ-loop
 part-is-route-end c = omega arith
 
--- src/judge.rt:52:13
 is-route-requires : tie.Need-is-route-requires Inv-loop μ-loop
 is-route-requires c κs = tt
 
--- src/judge.rt:53:13
 returns-3 : tie.Need-returns-3 Inv-loop μ-loop
 returns-3 c =
     let at-loop = c .before .before .before .before in
     let routes = at-loop .before .before .before .before .args .routes .now in
     let turn = rw (not-true (c .before .is-route .result) (c .if3 .taken)) at (all-next routes (at-loop .loop .i) (c .before .before .before .loop-test .taken) (c .before .is-route .ensures)) in
-    sym (routes-few routes (at-loop .before .before .if1 .left) ∙ sym (at-loop .loop .inv .2) ∙ turn)
+    sym (routes-few routes (omega (arith, at-loop .before .before .if1 .left)) ∙ sym (at-loop .loop .inv .2) ∙ turn)
 
--- src/judge.rt:55:9
 add-i : tie.Need-add-i Inv-loop μ-loop
 add-i c = omega arith
 
--- src/judge.rt:51:5
 loop-less : tie.Need-loop-less Inv-loop μ-loop
 loop-less c = omega arith
 
--- src/judge.rt:51:5
 loop-again : tie.Need-loop-again Inv-loop μ-loop
 loop-again c =
     let at-loop = c .before .before .before .before in
@@ -74,13 +61,12 @@ loop-again c =
     let turn = rw (not-false (c .before .is-route .result) (c .if3 .left)) at (all-next routes (at-loop .loop .i) (c .before .before .before .loop-test .taken) (c .before .is-route .ensures)) in
     (omega arith, omega arith, sym turn ∙ at-loop .loop .inv .2)
 
--- src/judge.rt:41:1
 returns-4 : tie.Need-returns-4 Inv-loop μ-loop
 returns-4 c =
     let at-loop = c .before in
     let routes = at-loop .before .before .before .before .args .routes .now in
     let none : drop (at-loop .loop .i) routes ≡ [] = drop-of-length-le routes {i = at-loop .loop .i} (omega arith) in
-    rw none at (at-loop .loop .inv .2) ∙ sym (routes-few routes (at-loop .before .before .if1 .left))
+    rw none at (at-loop .loop .inv .2) ∙ sym (routes-few routes (omega (arith, at-loop .before .before .if1 .left)))
 
 pub routes-good-spec : {M : Type 1} → statement M
 routes-good-spec =

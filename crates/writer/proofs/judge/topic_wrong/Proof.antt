@@ -1,26 +1,20 @@
+-- `writer::judge::topic_wrong` meets its contract.
+-- Assumes nothing.
 use mathlib.Core.Path.{sym, ap, _∙_}
 use mathlib.Core.Bool.{not}
 use borrow.Author.Needs.{needs}
 use Rattle.writer.proofs.judge.topic_wrong.Statement.{statement}
 use Rattle.writer.proofs.judge.topic_wrong.Tie as tie
-use Rattle.writer.proofs.judge.topic_wrong.Reads as reads
-use Rattle.writer.proofs.judge.topic_wrong.Lts as lts
-use Rattle.message.proofs.form.is_topic.Reads as is-topic-reads
-use Rattle.message.proofs.has_topic.Reads as has-topic-reads
 
--- src/judge.rt:64:8
 has-topic-requires : tie.Need-has-topic-requires
 has-topic-requires c κs = search needs
 
--- src/judge.rt:65:10
 is-topic-requires : tie.Need-is-topic-requires
 is-topic-requires c κs = search needs
 
--- src/judge.rt:61:1
 returns : tie.Need-returns
 returns c = rw (sym (c .before .before .has-topic .ensures) ∙ c .before .if1 .taken) (ap not (c .is-topic .ensures))
 
--- src/judge.rt:61:1
 returns-2 : tie.Need-returns-2
 returns-2 c = rw (sym (c .before .has-topic .ensures) ∙ c .if1 .left)
 

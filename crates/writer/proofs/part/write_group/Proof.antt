@@ -1,6 +1,8 @@
+-- `writer::part::write_group` meets its contract: the delimiter's size is laid behind the routes.
+-- Assumes nothing.
 use native.Mathlib.Omega.{arith}
 use mathlib.Core.List.{[], _∷_}
-use lib.ListN.{length, length-append}
+use lib.ListN.{length-append}
 use Rattle.message.specs.Frame.{joined}
 use Rattle.writer.proofs.Cuts.{cut}
 use Rattle.writer.proofs.Parts.{group-parts}
@@ -8,12 +10,7 @@ use Rattle.octets.proofs.Laying.{lays-more, lays-within, lays-rest}
 use borrow.Author.Needs.{needs}
 use Rattle.writer.proofs.part.write_group.Statement.{statement}
 use Rattle.writer.proofs.part.write_group.Tie as tie
-use Rattle.writer.proofs.part.write_group.Reads as reads
-use Rattle.writer.proofs.part.write_group.Lts as lts
-use Rattle.writer.proofs.part.write_routes.Reads as write-routes-reads
-use Rattle.writer.proofs.part.write_size.Reads as write-size-reads
 
--- src/part.rt:62:13
 write-routes-requires : tie.Need-write-routes-requires
 write-routes-requires c κs =
     let start = c .before .before .before .before in
@@ -21,7 +18,6 @@ write-routes-requires c κs =
     let room = rw (group-parts routes (c .before .if1 .taken)) at (start .pre .1) in
     (start .pre .0, omega (arith, length-append (joined (cut routes)) (0 ∷ [])))
 
--- src/part.rt:63:25
 sub-write-size : tie.Need-sub-write-size
 sub-write-size c =
     let start = c .before .before .before .before .before .before .before in
@@ -29,15 +25,12 @@ sub-write-size c =
     let room = rw (group-parts routes (c .before .before .before .before .if1 .taken)) at (start .pre .1) in
     lays-within (c .before .before .write-routes .ensures) (omega (arith, length-append (joined (cut routes)) (0 ∷ [])))
 
--- src/part.rt:63:25
 part-write-size-start : tie.Need-part-write-size-start
 part-write-size-start c = sub-write-size c
 
--- src/part.rt:63:25
 part-write-size-end : tie.Need-part-write-size-end
 part-write-size-end c = search needs
 
--- src/part.rt:63:14
 write-size-requires : tie.Need-write-size-requires
 write-size-requires c κs =
     let start = c .before .before .before .before .before .before .before .before in
@@ -45,23 +38,19 @@ write-size-requires c κs =
     let room = rw (group-parts routes (c .before .before .before .before .before .if1 .taken)) at (start .pre .1) in
     lays-rest (c .before .before .before .write-routes .ensures) (0 ∷ []) room
 
--- src/part.rt:56:1
 same-length : tie.Need-same-length
 same-length c = search needs
 
--- src/part.rt:56:1
 returns : tie.Need-returns
 returns c =
     let start = c .before .before .before .before .before .before .before .before .before .before .before in
     rw (group-parts (start .args .routes .now) (c .before .before .before .before .before .before .before .before .if1 .taken)) (lays-more (c .before .before .before .before .before .before .write-routes .ensures) (c .before .before .write-size .ensures))
 
--- src/part.rt:63:9
 add-result : tie.Need-add-result
 add-result c =
     let start = c .before .before .before .before .before .before .before .before .before .before .before in
     omega (arith, returns c .told, start .pre .1, start .good)
 
--- src/part.rt:56:1
 returns-2 : tie.Need-returns-2
 returns-2 c = search needs
 

@@ -1,48 +1,37 @@
+-- `writer::part::write_part` meets its contract: the data is laid behind the size.
+-- Assumes nothing.
 use borrow.Author.Needs.{needs}
 use native.Mathlib.Omega.{arith}
-use mathlib.Core.Path.{sym, ap, _∙_}
 use lib.ListN.{length, length-append}
 use Rattle.message.specs.Frame.{sizeBytes}
 use Rattle.octets.proofs.Laying.{lays-leaf}
 use Rattle.writer.proofs.part.write_part.Statement.{statement}
 use Rattle.writer.proofs.part.write_part.Tie as tie
-use Rattle.writer.proofs.part.write_part.Reads as reads
-use Rattle.writer.proofs.part.write_part.Lts as lts
-use Rattle.octets.proofs.copy.Reads as copy-reads
-use Rattle.writer.proofs.part.write_size.Reads as write-size-reads
 
--- src/part.rt:28:9
 write-size-requires : tie.Need-write-size-requires
 write-size-requires c κs = let args = c .before .before .before .args in
     omega (arith, length-append (sizeBytes (length (args .«data» .now))) (args .«data» .now))
 
--- src/part.rt:29:24
 sub-copy : tie.Need-sub-copy
 sub-copy c = let args = c .before .before .before .before .before .before .args in
     omega (arith, length-append (sizeBytes (length (args .«data» .now))) (args .«data» .now), c .before .before .write-size .kept .0)
 
--- src/part.rt:29:24
 part-copy-start : tie.Need-part-copy-start
 part-copy-start c = sub-copy c
 
--- src/part.rt:29:24
 part-copy-end : tie.Need-part-copy-end
 part-copy-end c = search needs
 
--- src/part.rt:29:5
 copy-requires : tie.Need-copy-requires
 copy-requires c κs = search needs
 
--- src/part.rt:30:5
 add-result : tie.Need-add-result
 add-result c = let args = c .before .before .before .before .before .before .before .before .before .before .args in
     omega (arith, length-append (sizeBytes (length (args .«data» .now))) (args .«data» .now))
 
--- src/part.rt:24:1
 same-length : tie.Need-same-length
 same-length c = search needs
 
--- src/part.rt:24:1
 returns : tie.Need-returns
 returns c = let start = c .before .before .before .before .before .before .before .before .before .before in
     lays-leaf (c .before .before .before .before .before .before .write-size .ensures) (start .args .«data» .now) (start .pre) (c .before .before .copy .ensures)

@@ -1,26 +1,21 @@
+-- `writer::part::write_payload` meets its contract: a part, or nothing.
+-- Assumes nothing.
 use Rattle.writer.proofs.Parts.{one-part}
 use borrow.Author.Needs.{needs}
 use Rattle.writer.proofs.part.write_payload.Statement.{statement}
 use Rattle.writer.proofs.part.write_payload.Tie as tie
-use Rattle.writer.proofs.part.write_payload.Reads as reads
-use Rattle.writer.proofs.part.write_payload.Lts as lts
-use Rattle.writer.proofs.part.write_part.Reads as write-part-reads
 
--- src/part.rt:90:16
 write-part-requires : tie.Need-write-part-requires
 write-part-requires c κs =
     let start = c .before .before .before .before in
     rw (one-part (start .args .payload .now) (c .before .if1 .taken)) at (start .pre)
 
--- src/part.rt:86:1
 same-length : tie.Need-same-length
 same-length c = search needs
 
--- src/part.rt:86:1
 returns : tie.Need-returns
 returns c = rw (one-part (c .before .before .before .before .before .before .before .args .payload .now) (c .before .before .before .before .if1 .taken)) (c .before .before .write-part .ensures)
 
--- src/part.rt:86:1
 returns-2 : tie.Need-returns-2
 returns-2 c = search needs
 

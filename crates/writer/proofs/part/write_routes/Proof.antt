@@ -13,9 +13,6 @@ use Rattle.writer.proofs.Cuts.{cut, cut-next, route-width}
 use Rattle.octets.proofs.Laying.{lays-none, lays-more, lays-length, lays-rest}
 use Rattle.writer.proofs.part.write_routes.Statement.{statement}
 use Rattle.writer.proofs.part.write_routes.Tie as tie
-use Rattle.writer.proofs.part.write_routes.Reads as reads
-use Rattle.writer.proofs.part.write_routes.Lts as lts
-use Rattle.writer.proofs.part.write_part.Reads as write-part-reads
 
 record Begun (routes lent out : List ℕ) (at i : ℕ) : Type 0 where
   within : i ≤ length routes
@@ -53,42 +50,33 @@ Inv-loop out₀ routes at₀ i₀ out at i = Begun routes out₀ out at i
 abbrev μ-loop : tie.MeasureT-loop
 μ-loop out₀ routes at₀ i₀ out at i = length routes - i
 
--- src/part.rt:48:5
 loop-holds : tie.Need-loop-holds Inv-loop μ-loop
 loop-holds c = record { within = omega arith; whole = refl; done = []; lays = lays-none (c .before .before .args .out .now); rest = refl }
 
--- src/part.rt:49:26
 sub-write-part : tie.Need-sub-write-part Inv-loop μ-loop
 sub-write-part c =
     let at-loop = c .before in
     let start = at-loop .before .before .before in
     omega (arith, begun-room (at-loop .loop .inv) (start .pre .1), begun-length (at-loop .loop .inv) (start .pre .1), at-loop .loop .inv .lays .told)
 
--- src/part.rt:49:26
 part-write-part-start : tie.Need-part-write-part-start Inv-loop μ-loop
 part-write-part-start c = sub-write-part c
 
--- src/part.rt:49:26
 part-write-part-end : tie.Need-part-write-part-end Inv-loop μ-loop
 part-write-part-end c = omega arith
 
--- src/part.rt:49:53
 add-write-part : tie.Need-add-write-part Inv-loop μ-loop
 add-write-part c = omega (arith, c .before .before .before .before .before .pre .0)
 
--- src/part.rt:49:42
 sub-write-part-2 : tie.Need-sub-write-part-2 Inv-loop μ-loop
 sub-write-part-2 c = omega arith
 
--- src/part.rt:49:42
 part-write-part-start-2 : tie.Need-part-write-part-start-2 Inv-loop μ-loop
 part-write-part-start-2 c = omega arith
 
--- src/part.rt:49:42
 part-write-part-end-2 : tie.Need-part-write-part-end-2 Inv-loop μ-loop
 part-write-part-end-2 c = omega (arith, c .before .before .before .before .before .pre .0)
 
--- src/part.rt:49:15
 write-part-requires : tie.Need-write-part-requires Inv-loop μ-loop
 write-part-requires c κs =
     let at-loop = c .before .before .before in
@@ -96,35 +84,29 @@ write-part-requires c κs =
     let b = at-loop .loop .inv in
     rw (route-width (at-loop .loop .i)) (lays-rest (b .lays) (partBytes (take 37 (drop (at-loop .loop .i) (start .args .routes .now)))) (next-room b (c .before .before .loop-test .taken) (start .pre .1)))
 
--- src/part.rt:48:5
 loop-again : tie.Need-loop-again Inv-loop μ-loop
 loop-again c =
     let at-loop = c .before .before .before .before .before .before in
     next (at-loop .loop .inv) (c .before .before .before .before .before .loop-test .taken) (at-loop .before .before .before .pre .0)
     (rw (route-width (at-loop .loop .i)) at (c .before .before .write-part .ensures))
 
--- src/part.rt:49:9
 add-at : tie.Need-add-at Inv-loop μ-loop
 add-at c =
     let at-loop = c .before .before .before .before .before .before in
     let start = at-loop .before .before .before in
     omega (arith, loop-again c .lays .told, begun-room (loop-again c) (start .pre .1), start .good)
 
--- src/part.rt:50:9
 add-i : tie.Need-add-i Inv-loop μ-loop
 add-i c =
     let at-loop = c .before .before .before .before .before .before in
     omega (arith, loop-again c .within, at-loop .before .before .before .good)
 
--- src/part.rt:48:5
 loop-less : tie.Need-loop-less Inv-loop μ-loop
 loop-less c = omega (arith, c .before .before .before .before .before .loop-test .taken)
 
--- src/part.rt:41:1
 same-length : tie.Need-same-length Inv-loop μ-loop
 same-length c = begun-length (c .before .loop .inv) (c .before .before .before .before .pre .1)
 
--- src/part.rt:41:1
 returns : tie.Need-returns Inv-loop μ-loop
 returns c =
     let b = c .before .loop .inv in

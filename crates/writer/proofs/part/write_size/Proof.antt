@@ -1,61 +1,49 @@
+-- `writer::part::write_size` meets its contract: a byte stored, and behind it, for a longer part, four bytes that a leaf lays.
+-- Assumes nothing.
 use borrow.Author.Needs.{needs}
 use native.Mathlib.Omega.{arith}
-use mathlib.Core.Path.{sym, ap, _∙_}
+use mathlib.Core.Path.{ap}
 use lib.ListN.{length, length-set}
 use Rattle.octets.specs.Number.{four}
 use Rattle.octets.proofs.Laying.{lays-none, lays-byte, lays-leaf, lays-length}
 use Rattle.writer.proofs.Parts.{size-one, size-five}
 use Rattle.writer.proofs.part.write_size.Statement.{statement}
 use Rattle.writer.proofs.part.write_size.Tie as tie
-use Rattle.writer.proofs.part.write_size.Reads as reads
-use Rattle.writer.proofs.part.write_size.Lts as lts
-use Rattle.octets.proofs.put_number.Reads as put-number-reads
 
--- src/part.rt:14:18
 cast-out : tie.Need-cast-out
 cast-out c = search needs
 
--- src/part.rt:14:9
 slice-write-out : tie.Need-slice-write-out
-slice-write-out c = omega (arith, ap length (size-one (c .before .before .args .n) (c .if1 .taken)))
+slice-write-out c = omega (arith, ap length (size-one (c .before .before .args .n) (omega arith)))
 
--- src/part.rt:17:9
 slice-write-out-2 : tie.Need-slice-write-out-2
-slice-write-out-2 c = omega (arith, ap length (size-five (c .before .before .args .n) (c .if1 .left)))
+slice-write-out-2 c = omega (arith, ap length (size-five (c .before .before .args .n) (omega arith)))
 
--- src/part.rt:18:28
 sub-put-number : tie.Need-sub-put-number
-sub-put-number c = simp length-set (omega (arith, ap length (size-five (c .before .before .args .n) (c .if1 .left))))
+sub-put-number c = simp length-set (omega (arith, ap length (size-five (c .before .before .args .n) (omega arith))))
 
--- src/part.rt:18:28
 part-put-number-start : tie.Need-part-put-number-start
-part-put-number-start c = simp length-set (omega (arith, ap length (size-five (c .before .before .args .n) (c .if1 .left))))
+part-put-number-start c = simp length-set (omega (arith, ap length (size-five (c .before .before .args .n) (omega arith))))
 
--- src/part.rt:18:28
 part-put-number-end : tie.Need-part-put-number-end
 part-put-number-end c = search needs
 
--- src/part.rt:18:9
 put-number-requires : tie.Need-put-number-requires
 put-number-requires c κs = search needs
 
--- src/part.rt:9:1
 same-length : tie.Need-same-length
 same-length c = search needs
 
--- src/part.rt:9:1
 returns : tie.Need-returns
 returns c = let args = c .before .before .args in
-    rw (size-one (args .n) (c .if1 .taken)) (lays-byte (lays-none (args .out .now)) (args .n) (omega (arith, ap length (size-one (args .n) (c .if1 .taken)))))
+    rw (size-one (args .n) (omega arith)) (lays-byte (lays-none (args .out .now)) (args .n) (omega (arith, ap length (size-one (args .n) (omega arith)))))
 
--- src/part.rt:9:1
 returns-2 : tie.Need-returns-2
 returns-2 c = let start = c .before .before .before .before .before .before in
     let args = start .args in
-    let long = size-five (args .n) (c .before .before .before .before .if1 .left) in
+    let long = size-five (args .n) (omega (arith, c .before .before .before .before .if1 .left)) in
     rw long (lays-leaf (lays-byte (lays-none (args .out .now)) 255 (omega (arith, ap length long))) (four (args .n)) (omega (arith, ap length long)) (c .before .before .put-number .ensures))
 
--- src/part.rt:9:1
 same-length-2 : tie.Need-same-length-2
 same-length-2 c = lays-length (returns-2 c) (c .before .before .before .before .before .before .pre)
 

@@ -1,0 +1,126 @@
+// Runs the bytes that paper 01 gives to be reproduced, and prints them.
+use message::Header;
+use reader::Frame;
+use reader::Reading;
+use writer::Written;
+
+mod print;
+
+// A request for "log" to any rank, with matchtag 1 and no routes; flags 09, or 0B with a payload.
+fn log_request(flags: u8) -> Header {
+    Header {
+        kind: 1,
+        flags,
+        userid: 4294967295,
+        rolemask: 0,
+        first: 4294967295,
+        second: 1,
+    }
+}
+
+// Prints a frame of n bytes, and what it is read as.
+fn show_frame(out: &[u8], n: usize) {
+    if n <= out.len() {
+        print::text(b"  ");
+        print::bytes(&out[..n]);
+        print::text(b"\n  read back: ");
+        print::reading(reader::read(out));
+    }
+}
+
+// Writes a message, prints its frame, and reads it again.
+fn show_message(header: Header, topic: &[u8]) {
+    let mut out = [0u8; 64];
+    match writer::write(header, b"", topic, b"", &mut out) {
+        Written::Refused(r) => print::refused(r),
+        Written::Frame(n) => show_frame(&out, n),
+    }
+}
+
+// Writes the request for "log" with so many bytes of payload, and says how long the frame is.
+fn show_limit(payload: &[u8], out: &mut [u8]) {
+    print::text(b"  ");
+    print::number(payload.len());
+    print::text(b" bytes of payload: ");
+    match writer::write(log_request(11), b"", b"log", payload, out) {
+        Written::Refused(r) => print::refused(r),
+        Written::Frame(n) => {
+            print::text(b"a frame of ");
+            print::number(n);
+            print::text(b" bytes\n");
+        }
+    }
+}
+
+// The bytes between the topic and the payload: the payload's size. Says where the payload starts.
+fn print_size(frame: &[u8], f: Frame) -> usize {
+    let topic = f.topic;
+    let payload = f.payload;
+    let end = payload.start;
+    if end <= frame.len() {
+        if topic.len < end {
+            let before = end - topic.len - 1;
+            if topic.start <= before {
+                let start = topic.start + topic.len + 1;
+                print::bytes(&frame[start..end]);
+            }
+        }
+    }
+    end
+}
+
+// Writes the request with some payload and prints the payload's size. Says where the payload starts.
+fn show_size(payload: &[u8], out: &mut [u8]) -> usize {
+    print::text(b"  ");
+    print::number(payload.len());
+    print::text(b" bytes of data have the size ");
+    let mut start = 0;
+    if let Written::Frame(_) = writer::write(log_request(11), b"", b"log", payload, out) {
+        if let Reading::Accepted(f) = reader::read(out) {
+            start = print_size(out, f);
+        }
+    }
+    print::text(b"\n");
+    start
+}
+
+// Puts 254 in front of a place.
+fn spoil(out: &mut [u8], place: usize) {
+    if 0 < place {
+        if place <= out.len() {
+            out[place - 1] = 254;
+        }
+    }
+}
+
+fn show_sizes() {
+    let payload = [0u8; 255];
+    let mut out = [0u8; 512];
+    show_size(&payload[..254], &mut out);
+    let start = show_size(&payload, &mut out);
+    spoil(&mut out, start);
+    print::text(b"  the size FF 00 00 00 FE: ");
+    print::reading(reader::read(&out));
+}
+
+fn main() {
+    print::text(b"A control message, type 2, status 3, user unknown\n");
+    let control = Header {
+        kind: 8,
+        flags: 0,
+        userid: 4294967295,
+        rolemask: 0,
+        first: 2,
+        second: 3,
+    };
+    show_message(control, b"");
+    print::text(b"A request for \"log\", any rank, matchtag 1, no routes\n");
+    show_message(log_request(9), b"log");
+    print::text(b"That request with a payload\n");
+    let payload = [0u8; 32737];
+    let mut out = [0u8; 32776];
+    show_limit(&payload[..32736], &mut out);
+    show_limit(&payload, &mut out);
+    print::text(b"A part's size\n");
+    show_sizes();
+}

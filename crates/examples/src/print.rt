@@ -1,0 +1,70 @@
+// Printing: bytes in hexadecimal, numbers, and what the reader answered.
+use libc::STDOUT_FILENO;
+use message::Refusal;
+use reader::Frame;
+use reader::Reading;
+
+pub fn text(s: &[u8]) {
+    io::write_all(STDOUT_FILENO, s);
+}
+
+pub fn number(n: usize) {
+    io::print_decimal(STDOUT_FILENO, n as u64);
+}
+
+// A byte as two digits.
+fn byte(x: u8) {
+    let digits = b"0123456789ABCDEF";
+    let high = (x / 16) as usize;
+    let low = (x % 16) as usize;
+    text(&[digits[high], digits[low]]);
+}
+
+// Bytes with a space between them.
+pub fn bytes(s: &[u8]) {
+    let mut i = 0;
+    while i < s.len() {
+        if 0 < i {
+            text(b" ");
+        }
+        byte(s[i]);
+        i += 1;
+    }
+}
+
+pub fn refused(r: Refusal) {
+    text(b"refused, ");
+    number(message::number(r) as usize);
+    text(b"\n");
+}
+
+// A name and a number.
+fn field(name: &[u8], n: usize) {
+    text(name);
+    number(n);
+}
+
+fn frame(f: Frame) {
+    let h = f.header;
+    let topic = f.topic;
+    let payload = f.payload;
+    field(b"type ", h.kind as usize);
+    field(b", flags ", h.flags as usize);
+    field(b", userid ", h.userid as usize);
+    field(b", rolemask ", h.rolemask as usize);
+    field(b", fields ", h.first as usize);
+    field(b" and ", h.second as usize);
+    field(b"\n             routes ", f.routes);
+    field(b", topic of ", topic.len);
+    field(b" bytes at ", topic.start);
+    field(b", payload of ", payload.len);
+    field(b", ", f.taken);
+    text(b" bytes in all\n");
+}
+
+pub fn reading(r: Reading) {
+    match r {
+        Reading::Refused(x) => refused(x),
+        Reading::Accepted(f) => frame(f),
+    }
+}

@@ -1,0 +1,130 @@
+-- Laws on the table of identities. Assumes nothing.
+use mathlib.Core.Path.{_≡_, refl, sym}
+use mathlib.Core.Bool.{true, false, _&&_}
+use mathlib.Core.List.{List}
+use Prim.Native.Nat.{ℕ, _*_, _/_, _<_, _≤_}
+use native.Mathlib.Omega.{arith}
+use borrow.Author.Tests.{eq-eqb, ne-eqb, eqb-true, le-leb, lt-leb}
+use lib.Dec.{eqb, leb}
+use lib.ListN.{length}
+use Rattle.message.specs.declared.Refusal.the-variants.{WrongTree, WrongIdentities}
+use Rattle.message.specs.Answer.{refused, answered}
+use Rattle.message.specs.Forms.{isRoute}
+use Rattle.records.specs.declared.Found.the-variants.{At, Nothing}
+use Rattle.records.specs.Below.{allBelow, noneTwice}
+use Rattle.records.specs.Bytes.{sameBytes}
+use Rattle.records.specs.Records.{distinct}
+use Rattle.records.specs.Search.{firstFrom}
+use Rattle.records.proofs.Truth.{left, right, right-fails}
+use Rattle.records.proofs.Below.{all-at, all-fails, once}
+use Rattle.records.proofs.Bytes.{same-refl, same-equal}
+use Rattle.records.proofs.Search.{first-passes, none-passes, first-only}
+use Rattle.records.proofs.Records.{distinct-rest}
+use Rattle.tree.specs.Tree.{ranksIn}
+use Rattle.tree.specs.Depths.{treeGood}
+use Rattle.identities.specs.Identities.{identityAt, sameIdentity, identitiesGood, checkOf, brokerOf}
+
+pub same-is : (a b : List ℕ) → sameIdentity a b ≡ sameBytes a b
+unfolding sameIdentity
+same-is a b = refl
+
+pub broker-is : (identities route : List ℕ) → brokerOf identities route ≡ firstFrom (λ rank. sameIdentity (identityAt identities rank) route) (length identities / 37) 0
+unfolding brokerOf
+broker-is identities route = refl
+
+-- ---- the table by its cases, in the code's order
+
+module _ (tree identities : List ℕ) where
+  pub bad-many : 1024 < ranksIn tree → identitiesGood tree identities ≡ false
+  unfolding identitiesGood
+  bad-many h = rw (lt-leb (ranksIn tree) 1024 h) refl
+
+  pub bad-torn : (length identities ≡ ranksIn tree * 37 → ⊥) → identitiesGood tree identities ≡ false
+  unfolding identitiesGood
+  bad-torn h = rw (ne-eqb (length identities) (ranksIn tree * 37) h) (right-fails (leb (ranksIn tree) 1024) refl)
+
+  pub bad-one : (rank : ℕ) → rank < ranksIn tree → isRoute (identityAt identities rank) ≡ false → identitiesGood tree identities ≡ false
+  unfolding identitiesGood
+  bad-one rank h e =
+      rw (all-fails (λ rank. isRoute (identityAt identities rank)) (ranksIn tree) rank h e)
+      (right-fails (leb (ranksIn tree) 1024) (right-fails (eqb (length identities) (ranksIn tree * 37)) refl))
+
+  pub rest-distinct : ranksIn tree ≤ 1024 → length identities ≡ ranksIn tree * 37 → allBelow (ranksIn tree) (λ rank. isRoute (identityAt identities rank)) ≡ true
+      → identitiesGood tree identities ≡ distinct 37 identities (ranksIn tree)
+  unfolding identitiesGood sameIdentity
+  rest-distinct few whole all =
+      rw (le-leb (ranksIn tree) 1024 few, eq-eqb (length identities) (ranksIn tree * 37) whole, all)
+      (sym (distinct-rest 37 identities (ranksIn tree) few (omega arith)))
+
+  -- ---- the check by its cases
+
+  pub check-tree-wrong : treeGood tree ≡ false → checkOf tree identities ≡ refused WrongTree
+  unfolding checkOf
+  check-tree-wrong g = rw g refl
+
+  pub check-wrong : treeGood tree ≡ true → identitiesGood tree identities ≡ false → checkOf tree identities ≡ refused WrongIdentities
+  unfolding checkOf
+  check-wrong g s = rw (g, s) refl
+
+  pub check-right : treeGood tree ≡ true → identitiesGood tree identities ≡ true → checkOf tree identities ≡ answered (ranksIn tree)
+  unfolding checkOf
+  check-right g s = rw (g, s) refl
+
+-- ---- when two routes are the same identity
+
+pub same-self : (a : List ℕ) → sameIdentity a a ≡ true
+unfolding sameIdentity
+same-self a = same-refl a
+
+pub same-back : (a b : List ℕ) → sameIdentity a b ≡ true → sameIdentity b a ≡ true
+unfolding sameIdentity
+same-back a b h = rw (same-equal a b h) (same-refl b)
+
+-- ---- what a table that is right holds, for the crates above
+
+pub record GoodIdentities (tree identities : List ℕ) : Type 0 where
+  pub whole : length identities ≡ ranksIn tree * 37
+  pub form : (rank : ℕ) → rank < ranksIn tree → isRoute (identityAt identities rank) ≡ true
+  pub none : noneTwice (λ a b. sameIdentity (identityAt identities a) (identityAt identities b)) (ranksIn tree) ≡ true
+
+pub good-identities : (tree identities : List ℕ) → identitiesGood tree identities ≡ true → GoodIdentities tree identities
+unfolding identitiesGood
+good-identities tree identities h =
+    let a = leb (ranksIn tree) 1024 in
+    let b = eqb (length identities) (ranksIn tree * 37) in
+    let c = allBelow (ranksIn tree) (λ rank. isRoute (identityAt identities rank)) in
+    let d = noneTwice (λ a b. sameIdentity (identityAt identities a) (identityAt identities b)) (ranksIn tree) in
+    let h₁ = right a (b && (c && d)) h in
+    let h₂ = right b (c && d) h₁ in
+    record {
+      whole = eqb-true (length identities) (ranksIn tree * 37) (left b (c && d) h₁);
+      form = λ rank l. all-at (λ rank. isRoute (identityAt identities rank)) (ranksIn tree) rank l (left c d h₂);
+      none = right c d h₂;
+    }
+
+module _ (tree identities : List ℕ) (g : GoodIdentities tree identities) where
+  as-many : length identities / 37 ≡ ranksIn tree
+  as-many = omega (arith, g .whole)
+
+  -- the rank that is found has the identity
+  pub found-holds : (route : List ℕ) (rank : ℕ) → brokerOf identities route ≡ At rank → (rank < ranksIn tree) × (sameIdentity (identityAt identities rank) route ≡ true)
+  unfolding brokerOf
+  found-holds route rank e =
+      let found = first-passes (λ rank. sameIdentity (identityAt identities rank) route) (length identities / 37) 0 rank e in
+      (omega (arith, found .0, as-many), found .1)
+
+  -- where none is found, the route is no broker's identity
+  pub none-holds : (route : List ℕ) → brokerOf identities route ≡ Nothing → (rank : ℕ) → rank < ranksIn tree → sameIdentity (identityAt identities rank) route ≡ false
+  unfolding brokerOf
+  none-holds route e rank h =
+      none-passes (λ rank. sameIdentity (identityAt identities rank) route) (length identities / 37) 0 e rank (omega arith) (omega (arith, as-many))
+
+  -- a broker is found by its own identity
+  pub found-own : (rank : ℕ) → rank < ranksIn tree → brokerOf identities (identityAt identities rank) ≡ At rank
+  unfolding brokerOf
+  found-own rank h =
+      first-only (λ other. sameIdentity (identityAt identities other) (identityAt identities rank)) (length identities / 37) rank (omega (arith, as-many))
+      (same-self (identityAt identities rank))
+      (λ k hk t.
+      once (λ a b. sameIdentity (identityAt identities a) (identityAt identities b)) (ranksIn tree) (g .none) k rank (omega (arith, as-many)) h t
+      (same-back (identityAt identities k) (identityAt identities rank) t))

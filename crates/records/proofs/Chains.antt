@@ -1,0 +1,194 @@
+-- Laws on chains of records. Assumes nothing.
+use mathlib.Core.Path.{_≡_, refl, sym, ap, _∙_, subst}
+use mathlib.Core.Bool.{Bool, true, false, not}
+use mathlib.Core.List.{List}
+use mathlib.Core.Logic.{⊎-elim}
+use Prim.Native.Nat.{ℕ, zero, suc, _+_, _*_, _%_, _-_, _<_, _≤_}
+use native.Mathlib.Nat.{le-of-suc-le-suc, not-suc-le-zero, eq-or-lt-of-le}
+use native.Mathlib.Numerals.{add-one}
+use native.Mathlib.Omega.{arith}
+use borrow.Author.Count.{below-more}
+use borrow.Author.Tests.{eqb-true, eqb-false, eq-eqb, ne-eqb, ltb-true, ltb-false}
+use lib.Dec.{eqb, ltb}
+use lib.ListN.{length, getD, drop, set, length-set}
+use lib.Seq.{drop-cons, drop-length, getD-set-same, getD-set-other}
+use Rattle.records.specs.Bytes.{sameBytes}
+use Rattle.records.specs.Records.{recordAt}
+use Rattle.records.specs.Chains.{hashFrom, hashOf, hashAt, lastBelow, Linked, fresh}
+use Rattle.records.proofs.Bytes.{same-equal}
+use Rattle.records.specs.Below.{allBelow, noneTwice}
+use Rattle.records.proofs.Truth.{outcome, both}
+use Rattle.records.proofs.Below.{all-none, all-more, all-of, all-fails}
+
+-- a turn of the hash
+pub hash-more : (h i : ℕ) (xs : List ℕ) → i < length xs → hashFrom h (drop i xs) ≡ hashFrom ((h * 31 + getD xs i 0) % 1024) (drop (i + 1) xs)
+unfolding hashFrom
+hash-more h i xs l = rw (add-one, drop-cons xs i 0 l) refl
+
+-- all bytes are passed
+pub hash-done : (h : ℕ) (xs : List ℕ) → h ≡ hashFrom h (drop (length xs) xs)
+unfolding hashFrom
+hash-done h xs = rw (drop-length xs) refl
+
+module _ (hash : ℕ → ℕ) where
+  pub last-none : (h : ℕ) → lastBelow hash 0 h ≡ 0
+  unfolding lastBelow
+  last-none h = refl
+
+  pub last-here : (i : ℕ) → lastBelow hash (i + 1) (hash i) ≡ i + 1
+  unfolding lastBelow
+  last-here i = rw (add-one, eq-eqb (hash i) (hash i) refl) refl
+
+  pub last-other : (i h : ℕ) → (hash i ≡ h → ⊥) → lastBelow hash (i + 1) h ≡ lastBelow hash i h
+  unfolding lastBelow
+  last-other i h e = rw (add-one, ne-eqb (hash i) h e) refl
+
+  pub last-le : (i h : ℕ) → lastBelow hash i h ≤ i
+  unfolding lastBelow
+  last-le zero h = omega arith
+  last-le (suc i) h =
+      ⊎-elim (λ e. rw e (omega arith)) (λ e. rw e (omega (arith, last-le i h))) (outcome (eqb (hash i) h))
+
+  -- the last index below i with the hash h has it
+  pub last-has : (i h j : ℕ) → lastBelow hash i h ≡ suc j → hash j ≡ h
+  unfolding lastBelow
+  last-has zero h j e = absurd (omega arith)
+  last-has (suc i) h j e =
+      ⊎-elim
+      (λ t. let at : i ≡ j = omega (arith, rw t at e) in rw (← at) (eqb-true (hash i) h t))
+      (λ f. last-has i h j (rw f at e))
+      (outcome (eqb (hash i) h))
+
+  -- and none behind it does
+  pub last-after : (i h j : ℕ) → j < i → lastBelow hash i h ≤ j → hash j ≡ h → ⊥
+  unfolding lastBelow
+  last-after zero h j l p e = not-suc-le-zero l
+  last-after (suc i) h j l p e =
+      ⊎-elim
+      (λ t. let q : suc i ≤ j = rw t at p in omega arith)
+      (λ f. let q : lastBelow hash i h ≤ j = rw f at p in
+      ⊎-elim (λ s. eqb-false (hash i) h f (rw (← s) e)) (λ s. last-after i h j s q e) (eq-or-lt-of-le (le-of-suc-le-suc l)))
+      (outcome (eqb (hash i) h))
+
+-- A search of the chain of h among the indices below i, for one that is the same: `at` is the next to be compared, plus 1.
+pub record Searched (hash : ℕ → ℕ) (same : ℕ → Bool) (h i at : ℕ) : Type 0 where
+  pub within : at ≤ i
+  pub chained : (j : ℕ) → at ≡ suc j → hash j ≡ h
+  pub passed : (j : ℕ) → j < i → at ≤ j → same j ≡ false
+
+-- what is the same has the same hash
+module _ (hash : ℕ → ℕ) (same : ℕ → Bool) (h i : ℕ) (like : (j : ℕ) → same j ≡ true → hash j ≡ h) where
+  -- those of another hash are not the same
+  unlike : (j : ℕ) → (hash j ≡ h → ⊥) → same j ≡ false
+  unlike j e = ⊎-elim (λ t. absurd (e (like j t))) (λ f. f) (outcome (same j))
+
+  pub searched-start : Searched hash same h i (lastBelow hash i h)
+  searched-start =
+      record {
+        within = last-le hash i h;
+        chained = λ j e. last-has hash i h j e;
+        passed = λ j l p. unlike j (last-after hash i h j l p);
+      }
+
+  pub searched-more : (j : ℕ) → Searched hash same h i (suc j) → same j ≡ false → Searched hash same h i (lastBelow hash j (hash j))
+  searched-more j s e =
+      rw (s .chained j refl)
+      (record {
+        within = omega (arith, last-le hash j h, s .within);
+        chained = λ k q. last-has hash j h k q;
+        passed =
+            λ k l p.
+            ⊎-elim
+            (λ b. unlike k (last-after hash j h k (ltb-true k j b) p))
+            (λ b. ⊎-elim (λ q. rw (← q) e) (λ q. s .passed k l q) (eq-or-lt-of-le (ltb-false k j b)))
+            (outcome (ltb k j));
+      })
+
+  pub searched-end : Searched hash same h i 0 → allBelow i (λ j. not (same j)) ≡ true
+  searched-end s = all-of (λ j. not (same j)) i (λ j l. rw (s .passed j l (omega arith)) refl)
+
+  pub searched-hit : (j : ℕ) → Searched hash same h i (suc j) → same j ≡ true → allBelow i (λ j. not (same j)) ≡ false
+  searched-hit j s e = all-fails (λ j. not (same j)) i j (s .within) (rw e refl)
+
+-- equal records have equal hashes
+pub like-records : (width : ℕ) (table : List ℕ) (i j : ℕ) → sameBytes (recordAt width table i) (recordAt width table j) ≡ true → hashAt width table j ≡ hashAt width table i
+like-records width table i j e = ap hashOf (sym (same-equal (recordAt width table i) (recordAt width table j) e))
+
+-- the search for a record that is equal to record i
+abbrev pub Among : ℕ → List ℕ → ℕ → ℕ → Type 0
+Among width table i at = Searched (hashAt width table) (λ j. sameBytes (recordAt width table i) (recordAt width table j)) (hashAt width table i) i at
+
+module _ (width : ℕ) (table : List ℕ) (i : ℕ) where
+  pub among-start : (start : ℕ) → start ≡ lastBelow (hashAt width table) i (hashAt width table i) → Among width table i start
+  among-start start e =
+      rw e (searched-start (hashAt width table) (λ j. sameBytes (recordAt width table i) (recordAt width table j)) (hashAt width table i) i (like-records width table i))
+
+  pub among-end : (at : ℕ) → at ≡ 0 → Among width table i at → fresh width table i ≡ true
+  among-end at e s =
+      searched-end (hashAt width table) (λ j. sameBytes (recordAt width table i) (recordAt width table j)) (hashAt width table i) i (like-records width table i) (rw e at s)
+
+  module _ (at : ℕ) (s : Among width table i at) (some : (at ≡ 0 → ⊥)) where
+    at-suc : at ≡ suc (at - 1)
+    at-suc = omega arith
+
+    pub among-hit : sameBytes (recordAt width table i) (recordAt width table (at - 1)) ≡ true → fresh width table i ≡ false
+    among-hit e =
+        searched-hit (hashAt width table) (λ j. sameBytes (recordAt width table i) (recordAt width table j)) (hashAt width table i) i (like-records width table i) (at - 1)
+        (subst (λ (k : ℕ). Among width table i k) at-suc s) e
+
+    module _ (next : List ℕ) (linked : Linked (hashAt width table) next i) where
+      pub next-less : getD next (at - 1) 0 < at
+      next-less = omega (arith, last-le (hashAt width table) (at - 1) (hashAt width table (at - 1)), linked (at - 1) (omega (arith, s .within)))
+
+      pub among-more : sameBytes (recordAt width table i) (recordAt width table (at - 1)) ≡ false → Among width table i (getD next (at - 1) 0)
+      among-more e =
+          rw (linked (at - 1) (omega (arith, s .within)))
+          (searched-more (hashAt width table) (λ j. sameBytes (recordAt width table i) (recordAt width table j)) (hashAt width table i) i (like-records width table i) (at - 1)
+          (subst (λ (k : ℕ). Among width table i k) at-suc s) e)
+
+-- What stands in the two arrays once the records below i are in their chains, none of which is there twice.
+pub record Chained (width : ℕ) (table head next : List ℕ) (i : ℕ) : Type 0 where
+  pub heads : length head ≡ 1024
+  pub nexts : length next ≡ 1024
+  pub ends : (h : ℕ) → h < 1024 → getD head h 0 ≡ lastBelow (hashAt width table) i h
+  pub linked : Linked (hashAt width table) next i
+  pub none : noneTwice (λ i j. sameBytes (recordAt width table i) (recordAt width table j)) i ≡ true
+
+module _ (width : ℕ) (table : List ℕ) where
+  pub chained-start : (zeros : List ℕ) → length zeros ≡ 1024 → ((h : ℕ) → h < 1024 → getD zeros h 0 ≡ 0) → Chained width table zeros zeros 0
+  unfolding noneTwice
+  chained-start zeros e z =
+      record {
+        heads = e;
+        nexts = e;
+        ends = λ h l. z h l ∙ sym (last-none (hashAt width table) h);
+        linked = λ j l. absurd (not-suc-le-zero l);
+        none = all-none (fresh width table);
+      }
+
+  module _ (head next : List ℕ) (i h : ℕ) (s : Chained width table head next i) where
+    pub start-is : h ≡ hashAt width table i → h < 1024 → getD head h 0 ≡ lastBelow (hashAt width table) i (hashAt width table i)
+    start-is e l = s .ends h l ∙ rw e refl
+
+    pub chained-more : i < 1024 → h ≡ hashAt width table i → h < 1024 → fresh width table i ≡ true → Chained width table (set head h (i + 1)) (set next i (getD head h 0)) (i + 1)
+    unfolding noneTwice
+    chained-more li e lh f =
+        record {
+          heads = length-set head h (i + 1) ∙ s .heads;
+          nexts = length-set next i (getD head h 0) ∙ s .nexts;
+          ends =
+              λ k l.
+              ⊎-elim
+              (λ t.
+              let at : k ≡ h = eqb-true k h t in
+              rw (at, getD-set-same head h (i + 1) 0 (omega (arith, s .heads)), e) (sym (last-here (hashAt width table) i)))
+              (λ t.
+              getD-set-other head h k (i + 1) 0 (λ q. eqb-false k h t q)
+              ∙ s .ends k l ∙ sym (last-other (hashAt width table) i k (λ q. eqb-false k h t (sym q ∙ sym e))))
+              (outcome (eqb k h));
+          linked =
+              below-more (λ j. getD (set next i (getD head h 0)) j 0 ≡ lastBelow (hashAt width table) j (hashAt width table j)) i
+              (λ j l. getD-set-other next i j (getD head h 0) 0 (λ q. absurd (omega arith)) ∙ s .linked j l)
+              (getD-set-same next i (getD head h 0) 0 (omega (arith, s .nexts)) ∙ start-is e lh);
+          none = all-more (fresh width table) i ∙ both (s .none) f;
+        }

@@ -1,0 +1,7 @@
+-- Laws about what the tables share, for the proofs of this crate and of the crates above.
+pub mod Truth
+pub mod Below
+pub mod Bytes
+pub mod Records
+pub mod Chains
+pub mod Search

@@ -1,0 +1,6 @@
+-- What the tables share: tests of every number below a bound, bytes compared, records of one width, the first that fits. To be read in this order.
+pub mod Below
+pub mod Bytes
+pub mod Records
+pub mod Search
+pub mod Chains

@@ -1,0 +1,69 @@
+-- The table of services. "Services: at most 1,024 records of 32 bytes: rank (4), name length 1 to 27 (1), name with neither zero nor period, zero
+-- padding. Rank within the tree; no rank and name twice. No records at all is valid." Assumes nothing.
+use Prim.Native.Nat.{ℕ, _+_, _*_, _/_}
+use mathlib.Core.Bool.{Bool, true, _&&_, not}
+use mathlib.Core.List.{List, [], _∷_}
+use lib.Dec.{eqb, leb, ltb}
+use lib.ListN.{length, getD, take, drop}
+use Rattle.octets.specs.Number.{number}
+use Rattle.message.specs.declared.Refusal.the-variants.{WrongTree, WrongServices}
+use Rattle.message.specs.Answer.{Answer, answered, refuseIf}
+use Rattle.records.specs.Below.{allBelow, noneTwice}
+use Rattle.records.specs.Bytes.{sameBytes}
+use Rattle.records.specs.Records.{recordAt}
+use Rattle.tree.specs.Tree.{ranksIn}
+use Rattle.tree.specs.Depths.{treeGood}
+
+-- "records of 32 bytes"
+unfoldable pub servicesIn : List ℕ → ℕ
+servicesIn services = length services / 32
+
+abbrev pub serviceAt : List ℕ → ℕ → List ℕ
+serviceAt services i = recordAt 32 services i
+
+-- ---- one record: "rank (4), name length 1 to 27 (1), name .., zero padding"
+
+abbrev pub rankIn : List ℕ → ℕ
+rankIn row = number row
+
+abbrev pub nameLength : List ℕ → ℕ
+nameLength row = getD row 4 0
+
+abbrev pub nameIn : List ℕ → List ℕ
+nameIn row = take (nameLength row) (drop 5 row)
+
+abbrev pub paddingIn : List ℕ → List ℕ
+paddingIn row = drop (5 + nameLength row) row
+
+-- "neither zero nor period"
+unfoldable pub isName : List ℕ → Bool
+isName [] = true
+isName (x ∷ xs) = not (eqb x 0) && (not (eqb x 46) && isName xs)
+
+-- "zero padding"
+unfoldable pub isPadding : List ℕ → Bool
+isPadding [] = true
+isPadding (x ∷ xs) = eqb x 0 && isPadding xs
+
+-- a record of the form, in a tree of so many ranks
+unfoldable pub serviceGood : ℕ → List ℕ → Bool
+serviceGood ranks row =
+    ltb (rankIn row) ranks && (leb 1 (nameLength row) && (leb (nameLength row) 27 && (isName (nameIn row) && isPadding (paddingIn row))))
+
+-- ---- the table
+
+-- the same rank and name
+unfoldable pub sameService : List ℕ → List ℕ → Bool
+sameService a b = eqb (rankIn a) (rankIn b) && sameBytes (nameIn a) (nameIn b)
+
+-- 15: the records are whole and few, each of the form, and no rank and name is there twice
+unfoldable pub servicesGood : List ℕ → List ℕ → Bool
+servicesGood tree services =
+    eqb (length services) (servicesIn services * 32)
+    && (leb (servicesIn services) 1024
+    && (allBelow (servicesIn services) (λ i. serviceGood (ranksIn tree) (serviceAt services i))
+    && noneTwice (λ i j. sameService (serviceAt services i) (serviceAt services j)) (servicesIn services)))
+
+-- "Service check: 14, 15"; where it passes, how many records there are
+unfoldable pub checkOf : List ℕ → List ℕ → Answer ℕ
+checkOf tree services = refuseIf (not (treeGood tree)) WrongTree (refuseIf (not (servicesGood tree services)) WrongServices (answered (servicesIn services)))

@@ -1,0 +1,55 @@
+-- `tree::depth_after` meets its contract: a rank is one deeper than its parent.
+-- Assumes nothing.
+use Prim.Native.Nat.{_<_}
+use native.Mathlib.Omega.{arith}
+use Rattle.tree.specs.Tree.{parentOf}
+use Rattle.tree.proofs.Depths.{depth-next}
+use borrow.Author.Needs.{needs}
+use Rattle.tree.proofs.depth_after.Statement.{statement}
+use Rattle.tree.proofs.depth_after.Tie as tie
+
+parent-of-requires : tie.Need-parent-of-requires
+parent-of-requires c κs = search needs
+
+cast-result : tie.Need-cast-result
+cast-result c = search needs
+
+element-copy-out-result : tie.Need-element-copy-out-result
+element-copy-out-result c = search needs
+
+add-result : tie.Need-add-result
+add-result c =
+    let args = c .before .before .before .before .args in
+    let parent = c .before .before .parent-of .result in
+    omega (arith, c .before .before .before .before .pre .1 .right parent (c .before .if1 .taken), c .before .before .before .before .pre .1 .most parent (c .before .if1 .taken))
+
+depth-of-requires : tie.Need-depth-of-requires
+depth-of-requires c κs = search needs
+
+returns : tie.Need-returns
+returns c =
+    let args = c .before .before .before .before .args in
+    let tree = args .tree .now in
+    let is = c .before .before .parent-of .ensures in
+    let inside : parentOf tree (args .rank) < args .rank = rw (← is) (c .before .if1 .taken) in
+    rw is
+    (omega (
+      arith,
+      c .before .before .before .before .pre .1 .right (parentOf tree (args .rank)) inside,
+      depth-next tree (args .rank) (λ e. absurd (omega arith)) (c .before .before .before .before .pre .1 .most (parentOf tree (args .rank)) inside),
+    ))
+
+returns-2 : tie.Need-returns-2
+returns-2 c = search needs
+
+pub depth-after-spec : {M : Type 1} → statement M
+depth-after-spec =
+    tie.close
+    (tie.spec
+    parent-of-requires
+    cast-result
+    element-copy-out-result
+    add-result
+    depth-of-requires
+    returns
+    returns-2)

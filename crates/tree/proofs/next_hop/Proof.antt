@@ -1,0 +1,21 @@
+-- `tree::next_hop` meets its contract.
+-- Assumes nothing.
+use mathlib.Core.Path.{sym, _∙_}
+use Rattle.tree.proofs.Towards.{towards-is}
+use borrow.Author.Needs.{needs}
+use Rattle.tree.proofs.next_hop.Statement.{statement}
+use Rattle.tree.proofs.next_hop.Tie as tie
+
+depth-of-requires : tie.Need-depth-of-requires
+depth-of-requires c κs = search needs
+
+hop-within-requires : tie.Need-hop-within-requires
+hop-within-requires c κs = search needs
+
+returns : tie.Need-returns
+returns c =
+    let args = c .before .before .before .args in
+    c .hop-within .ensures ∙ rw (c .before .depth-of .ensures) (sym (towards-is (args .tree .now) (args .from) (args .target)))
+
+pub next-hop-spec : {M : Type 1} → statement M
+next-hop-spec = tie.close (tie.spec depth-of-requires hop-within-requires returns)

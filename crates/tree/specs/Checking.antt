@@ -1,0 +1,32 @@
+-- The tree check. "Tree check: 14, 11." Assumes nothing.
+use Prim.Native.Nat.{ℕ}
+use mathlib.Core.Bool.{not}
+use mathlib.Core.List.{List}
+use lib.Dec.{ltb}
+use lib.ListN.{length}
+use Rattle.octets.specs.Laid.{laid}
+use Rattle.message.specs.declared.Refusal.the-variants.{WrongTree, ShortOutput}
+use Rattle.message.specs.Answer.{Answer, refused, answered, refuseIf}
+use Rattle.tree.specs.declared.Checked.{Checked}
+use Rattle.tree.specs.declared.Checked.the-variants.{Refused, Passed}
+use Rattle.tree.specs.Tree.{ranksIn}
+use Rattle.tree.specs.Depths.{treeGood, depthsOf}
+
+-- what a check says: the refusal, or how many entries the table has
+abbrev pub told : Checked → Answer ℕ
+told (Refused r) = refused r
+told (Passed n) = answered n
+
+-- the depths, where the tree is right and the lent buffer has room for them
+unfoldable pub depthsInto : ℕ → List ℕ → Answer (List ℕ)
+depthsInto room tree = refuseIf (not (treeGood tree)) WrongTree (refuseIf (ltb room (ranksIn tree)) ShortOutput (answered (depthsOf tree)))
+
+-- "it tells how many entries it wrote"
+abbrev pub howMany : Answer (List ℕ) → Answer ℕ
+howMany (refused r) = refused r
+howMany (answered xs) = answered (length xs)
+
+-- "the rest of it untouched"; "A refusal carries its number and writes nothing"
+abbrev pub writtenOver : Answer (List ℕ) → List ℕ → List ℕ
+writtenOver (refused r) out = out
+writtenOver (answered xs) out = laid xs out

@@ -1,0 +1,167 @@
+// The floor's tree: the parent and the depth of a rank, the check of a tree, and the next broker on the way to a rank.
+use message::Refusal;
+ghost use mathlib.Core.Path.{_≡_};
+ghost use Prim.Native.Nat.{_+_, _*_, _<_, _≤_};
+ghost use lib.ListN.{length};
+ghost use Rattle.tree.specs.Tree.{ranksIn, wholeTree, parentOf};
+ghost use Rattle.tree.specs.Depths.{depthOf, treeGood, depthsOf, Shallow};
+ghost use Rattle.tree.specs.Checking.{told, depthsInto, howMany, writtenOver};
+ghost use Rattle.tree.specs.Towards.{isNeighbour, hop, towards};
+ghost use Rattle.octets.specs.Laid.{laid};
+
+// Bytes a rank.
+const WIDTH: usize = 4;
+// The number that is no rank's: rank 0 holds it.
+pub const NO_RANK: u32 = 4294967295;
+
+// What a check of a table says: why it is wrong, or how many entries it has.
+pub enum Checked {
+    Refused(Refusal),
+    Passed(usize),
+}
+
+// How many ranks the tree has.
+pub fn ranks_in(tree: &[u8]) -> usize
+    ensures { λ n. ⌜ n ≡ ranksIn (now (tree .entry)) ⌝ }
+{
+    tree.len() / WIDTH
+}
+
+// The parent of a rank; what is no rank of the tree has none.
+pub fn parent_of(tree: &[u8], rank: u32) -> u32
+    ensures { λ p. ⌜ p ≡ parentOf (now (tree .entry)) rank ⌝ }
+{
+    let r = rank as usize;
+    if r < tree.len() / WIDTH {
+        let at = r * WIDTH;
+        octets::number_of(tree[at], tree[at + 1], tree[at + 2], tree[at + 3])
+    } else {
+        NO_RANK
+    }
+}
+
+// The depth of a rank, and 17 where 16 parents do not lead from it to rank 0.
+pub fn depth_of(tree: &[u8], rank: u32) -> u8
+    ensures { λ d. ⌜ d ≡ depthOf (now (tree .entry)) rank ⌝ }
+{
+    let mut at = rank;
+    let mut d: u8 = 0;
+    while d < 17 {
+        if at == 0 {
+            return d;
+        }
+        at = parent_of(tree, at);
+        d += 1;
+    }
+    d
+}
+
+// Whether the bytes are whole records, of 1 to 1,024 ranks.
+fn is_whole(tree: &[u8]) -> bool
+    ensures { λ r. ⌜ r ≡ wholeTree (now (tree .entry)) ⌝ }
+{
+    let n = ranks_in(tree);
+    if n < 1 {
+        return false;
+    }
+    if n > 1024 {
+        return false;
+    }
+    tree.len() == n * WIDTH
+}
+
+// The depth of a rank, where `depths` has those of the ranks below it. A rank whose parent is among them needs no climb.
+fn depth_after(tree: &[u8], depths: &[u8; 1024], rank: u32) -> u8
+    requires { ⌜ (rank < 1024) × Shallow (now tree) (now depths) rank ⌝ }
+    ensures { λ d. ⌜ d ≡ depthOf (now (tree .entry)) rank ⌝ }
+{
+    let parent = parent_of(tree, rank);
+    if parent < rank {
+        depths[parent as usize] + 1
+    } else {
+        depth_of(tree, rank)
+    }
+}
+
+// Whether the bytes are a tree.
+pub fn is_tree(tree: &[u8]) -> bool
+    ensures { λ r. ⌜ r ≡ treeGood (now (tree .entry)) ⌝ }
+{
+    if !is_whole(tree) {
+        return false;
+    }
+    if parent_of(tree, 0) != NO_RANK {
+        return false;
+    }
+    let n = ranks_in(tree);
+    let mut depths = [0u8; 1024];
+    let mut r: u32 = 0;
+    while (r as usize) < n {
+        let d = depth_after(tree, &depths, r);
+        if d > 16 {
+            return false;
+        }
+        depths[r as usize] = d;
+        r += 1;
+    }
+    true
+}
+
+// Writes the depths of all ranks to the front of a buffer with room for them.
+fn put_depths(tree: &[u8], depths: &mut [u8])
+    requires { ⌜ (ranksIn (now tree) ≤ length (now depths)) × (ranksIn (now tree) ≤ 1024) ⌝ }
+    ensures { λ _. ⌜ now (depths .exit) ≡ laid (depthsOf (now (tree .entry))) (now (depths .entry)) ⌝ }
+{
+    let n = ranks_in(tree);
+    let mut rank: u32 = 0;
+    while (rank as usize) < n {
+        depths[rank as usize] = depth_of(tree, rank);
+        rank += 1;
+    }
+}
+
+// The tree check: 14, then 11, or the depths of all ranks, one byte each, and how many they are.
+pub fn check_tree(tree: &[u8], depths: &mut [u8]) -> Checked
+    ensures { λ r. ⌜ (told r ≡ howMany (depthsInto (length (now (depths .entry))) (now (tree .entry)))) × (now (depths .exit) ≡ writtenOver (depthsInto (length (now (depths .entry))) (now (tree .entry))) (now (depths .entry))) ⌝ }
+{
+    if !is_tree(tree) {
+        return Checked::Refused(Refusal::WrongTree);
+    }
+    let n = ranks_in(tree);
+    if depths.len() < n {
+        return Checked::Refused(Refusal::ShortOutput);
+    }
+    put_depths(tree, depths);
+    Checked::Passed(n)
+}
+
+// Whether one rank is the other's parent.
+pub fn is_neighbour(tree: &[u8], a: u32, b: u32) -> bool
+    ensures { λ r. ⌜ r ≡ isNeighbour (now (tree .entry)) a b ⌝ }
+{
+    if parent_of(tree, a) == b {
+        return true;
+    }
+    parent_of(tree, b) == a
+}
+
+// From one rank to another: the child of `from` on the way, if `from` is among the target's first `depth` parents, else the parent of `from`.
+fn hop_within(tree: &[u8], depth: u8, from: u32, target: u32) -> u32
+    ensures { λ r. ⌜ r ≡ hop (now (tree .entry)) depth from target ⌝ }
+{
+    if depth == 0 {
+        return parent_of(tree, from);
+    }
+    let parent = parent_of(tree, target);
+    if parent == from {
+        return target;
+    }
+    hop_within(tree, depth - 1, from, parent)
+}
+
+// The next broker on the way from one rank to another.
+pub fn next_hop(tree: &[u8], from: u32, target: u32) -> u32
+    ensures { λ r. ⌜ r ≡ towards (now (tree .entry)) from target ⌝ }
+{
+    hop_within(tree, depth_of(tree, target), from, target)
+}
