@@ -1,3 +1,4 @@
 -- Laws about this crate's definitions.
 pub mod ReadCalls
 pub mod WriteCalls
+pub mod TreeCalls

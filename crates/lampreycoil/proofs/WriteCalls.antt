@@ -15,7 +15,7 @@ use Rattle.message.specs.Message.{Message}
 use Rattle.message.specs.Writing.{writingInto}
 use Rattle.writer.specs.declared.Written.the-variants.{Refused, Frame}
 use Rattle.writer.specs.Written.{writtenAs}
-use Rattle.lampreycoil.specs.Calls.{returned, recorded, writeCall, told}
+use Rattle.lampreycoil.specs.Calls.{returned, recorded, writeCall, wrote}
 
 never : {r : Refusal} {n : ℕ} → Refused r ≡ Frame n → ⊥
 never e = let z : _≡_ {A = ℕ} 0 1 = cc in omega arith
@@ -37,6 +37,6 @@ pub write-returned : (a : Answer (List ℕ)) (n : ℕ) → Frame n ≡ writtenAs
 write-returned (refused q) n e = absurd (never (sym e))
 write-returned (answered frame) n e = refl
 
-pub write-told : (a : Answer (List ℕ)) (n : ℕ) (row : List ℕ) → Frame n ≡ writtenAs a → laid (rowBytes (n ∷ [])) row ≡ recorded (told a) row
+pub write-told : (a : Answer (List ℕ)) (n : ℕ) (row : List ℕ) → Frame n ≡ writtenAs a → laid (rowBytes (n ∷ [])) row ≡ recorded (wrote a) row
 write-told (refused q) n row e = absurd (never (sym e))
 write-told (answered frame) n row e = let same : n ≡ length frame = cc in ap (λ (k : ℕ). laid (rowBytes (k ∷ [])) row) same

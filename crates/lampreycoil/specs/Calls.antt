@@ -12,6 +12,7 @@ use Rattle.message.specs.Answer.{Answer, refused, answered, refuseIf, andThen}
 use Rattle.message.specs.Message.{Message}
 use Rattle.message.specs.Reading.{readingOf}
 use Rattle.message.specs.Writing.{writingInto}
+use Rattle.tree.specs.Checking.{depthsInto}
 use Rattle.reader.specs.declared.Frame.{Frame}
 use Rattle.reader.specs.Places.{placesOf}
 
@@ -44,6 +45,10 @@ headerOf kind flags userid rolemask first second = record { kind = kind; flags =
 unfoldable pub writeCall : Message → ℕ → ℕ → Answer (List ℕ)
 writeCall m room rowRoom = refuseIf (ltb rowRoom 4) ShortOutput (writingInto room m)
 
--- "the frame's length"
-abbrev pub told : Answer (List ℕ) → Answer (List ℕ)
-told frame = andThen frame (λ bytes. answered (length bytes ∷ []))
+-- the depths, or why they are not written; room is the lent buffer's length
+unfoldable pub treeCall : List ℕ → ℕ → ℕ → Answer (List ℕ)
+treeCall tree room rowRoom = refuseIf (ltb rowRoom 4) ShortOutput (depthsInto room tree)
+
+-- "the frame's length", "how many depths were written"
+abbrev pub wrote : Answer (List ℕ) → Answer (List ℕ)
+wrote bytes = andThen bytes (λ written. answered (length written ∷ []))
