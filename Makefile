@@ -1,4 +1,4 @@
-# Lampreycoil: reads and writes framed Flux messages, proved. `make` lists what can be made.
+# Lampreycoil: framed Flux messages and the tables of their brokers, proved. `make` lists what can be made.
 
 CC      = gcc
 CFLAGS  = -std=c99 -O2 -Wall -Wextra -Werror
@@ -44,7 +44,7 @@ test: deps
 	@tools/gate
 
 bench: deps archive
-	@cd tests/second && CARGO_TARGET_DIR='$(CURDIR)/target/cargo' cargo run --release --offline --bin bench
+	@cd tests/second && CARGO_TARGET_DIR='$(CURDIR)/target/cargo' cargo run --release --offline --features tables --bin bench
 
 archive: $(ARCHIVE)
 

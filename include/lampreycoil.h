@@ -1,5 +1,6 @@
 /*
- * lampreycoil.h: the C calls of Lampreycoil, which reads and writes framed Flux messages (RFC 3).
+ * lampreycoil.h: the C calls of Lampreycoil, which reads and writes framed Flux messages (RFC 3)
+ * and checks the tables of the brokers that pass them on.
  * The functions are in the archive liblampreycoil.a. Usable from C99 and from C++.
  *
  * How every call works
@@ -49,7 +50,13 @@ enum lampreycoil_refusal {
     /* request nodeid 4294967294; event's unused field not zero */
     LAMPREYCOIL_FIELD_WRONG = 10,
     /* a lent output too short */
-    LAMPREYCOIL_OUTPUT_SHORT = 11
+    LAMPREYCOIL_OUTPUT_SHORT = 11,
+    /* tree wrong (a wrong length included) */
+    LAMPREYCOIL_TREE_WRONG = 14,
+    /* services wrong (a wrong length included) */
+    LAMPREYCOIL_SERVICES_WRONG = 15,
+    /* identities wrong (a wrong length included) */
+    LAMPREYCOIL_IDENTITIES_WRONG = 16
 };
 
 /* A message's type, with the names of its two fields. */
@@ -78,7 +85,13 @@ enum lampreycoil_size {
     LAMPREYCOIL_ROUTES_MAX = 64, /* routes */
     LAMPREYCOIL_TOPIC_MAX = 255, /* without the zero byte */
     LAMPREYCOIL_BODY_MAX = 32768,
-    LAMPREYCOIL_FRAME_MAX = 32776 /* an output of this size is never too short */
+    LAMPREYCOIL_FRAME_MAX = 32776,   /* an output of this size is never too short */
+    LAMPREYCOIL_RANKS_MAX = 1024,    /* ranks of a tree */
+    LAMPREYCOIL_RANK_SIZE = 4,       /* a rank's record in a tree: its parent */
+    LAMPREYCOIL_SERVICES_MAX = 1024, /* records of services */
+    LAMPREYCOIL_SERVICE_SIZE = 32,   /* rank (4), name length (1), name, zero padding */
+    LAMPREYCOIL_NAME_MAX = 27,       /* a service's name */
+    LAMPREYCOIL_DEPTH_MAX = 16       /* links from a rank to rank 0 */
 };
 
 #define LAMPREYCOIL_NODEID_ANY 0xFFFFFFFFu     /* a request's nodeid: any rank */
@@ -104,6 +117,14 @@ enum lampreycoil_read_index {
     LAMPREYCOIL_READ_PAYLOAD_START = 11,
     LAMPREYCOIL_READ_PAYLOAD_LENGTH = 12,
     LAMPREYCOIL_READ_RECORD = 52 /* no index: the record's size in bytes, 13 numbers */
+};
+
+#define LAMPREYCOIL_NO_PARENT 0xFFFFFFFFu /* what rank 0 holds in a tree */
+
+/* The number of lampreycoil_check_tree's record. */
+enum lampreycoil_check_tree_index {
+    LAMPREYCOIL_CHECK_TREE_DEPTHS = 0, /* depths written, one byte each */
+    LAMPREYCOIL_CHECK_TREE_RECORD = 4  /* no index: the record's size in bytes, 1 number */
 };
 
 /* The number of lampreycoil_write's record. */
@@ -140,6 +161,32 @@ uint32_t lampreycoil_write(uint8_t type, uint8_t flags, uint32_t userid, uint32_
                            size_t routes_length, const uint8_t *topic, size_t topic_length,
                            const uint8_t *payload, size_t payload_length, uint8_t *out,
                            size_t out_length, uint8_t *record, size_t record_length);
+
+/*
+ * Checks a tree: LAMPREYCOIL_RANK_SIZE bytes a rank, its parent as a big-endian number; rank 0
+ * holds LAMPREYCOIL_NO_PARENT. Writes one depth byte a rank to the front of depths, and how many to
+ * record, which takes LAMPREYCOIL_CHECK_TREE_RECORD bytes. Bytes of depths behind them stay as they
+ * were.
+ *
+ * Refusals, in the order in which they are looked for: 11 for the record; 14; 11 for depths.
+ */
+uint32_t lampreycoil_check_tree(const uint8_t *tree, size_t tree_length, uint8_t *depths,
+                                size_t depths_length, uint8_t *record, size_t record_length);
+
+/*
+ * Checks the services of a tree: at most LAMPREYCOIL_SERVICES_MAX records of
+ * LAMPREYCOIL_SERVICE_SIZE bytes, no rank and name twice. None at all is valid. Refusals: 14,
+ * then 15.
+ */
+uint32_t lampreycoil_check_services(const uint8_t *tree, size_t tree_length,
+                                    const uint8_t *services, size_t services_length);
+
+/*
+ * Checks the identities of a tree's ranks: LAMPREYCOIL_ROUTE_SIZE bytes a rank, no two equal.
+ * Refusals: 14, then 16.
+ */
+uint32_t lampreycoil_check_identities(const uint8_t *tree, size_t tree_length,
+                                      const uint8_t *identities, size_t identities_length);
 
 /* The number at index of a record that a call has filled. */
 static inline uint32_t lampreycoil_number(const uint8_t *record, size_t index)

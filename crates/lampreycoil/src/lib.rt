@@ -4,19 +4,17 @@ use message::Header;
 use message::Refusal;
 use reader::Frame;
 use reader::Reading;
-use tree::Checked;
 use writer::Written;
 ghost use mathlib.Core.Path.{_≡_};
 ghost use Prim.Native.Nat.{_≤_};
 ghost use lib.ListN.{length};
 ghost use Rattle.octets.specs.Number.{rowBytes};
 ghost use Rattle.octets.specs.Laid.{laid};
-ghost use Rattle.lampreycoil.specs.Calls.{returned, recorded, readRow, readCall, headerOf, writeCall, treeCall, wrote};
+ghost use Rattle.lampreycoil.specs.Calls.{returned, recorded, readRow, readCall, headerOf, writeCall, wrote};
 ghost use Rattle.message.specs.Writing.{givenMessage};
 ghost use Rattle.writer.specs.Written.{outputOf};
-ghost use Rattle.tree.specs.Checking.{told, writtenOver};
-ghost use Rattle.services.specs.Services;
-ghost use Rattle.identities.specs.Identities;
+
+pub mod tables;
 
 // Lists where a message lies.
 fn put_frame(row: &mut [u8], f: Frame)
@@ -99,49 +97,4 @@ pub extern "C" fn lampreycoil_write(
             0
         }
     }
-}
-
-// Checks a tree, writes one depth byte a rank to the front of depths, and lists how many they are.
-#[no_mangle]
-pub extern "C" fn lampreycoil_check_tree(tree: &[u8], depths: &mut [u8], row: &mut [u8]) -> u32
-    ensures { λ r. ⌜ r ≡ returned (treeCall (now (tree .entry)) (length (now (depths .entry))) (length (now (row .entry)))) ⌝ }
-    ensures { λ _. ⌜ now (depths .exit) ≡ writtenOver (treeCall (now (tree .entry)) (length (now (depths .entry))) (length (now (row .entry)))) (now (depths .entry)) ⌝ }
-    ensures { λ _. ⌜ now (row .exit) ≡ recorded (wrote (treeCall (now (tree .entry)) (length (now (depths .entry))) (length (now (row .entry))))) (now (row .entry)) ⌝ }
-{
-    if row.len() < 4 {
-        return message::number(Refusal::ShortOutput);
-    }
-    match tree::check_tree(tree, depths) {
-        Checked::Refused(r) => message::number(r),
-        Checked::Passed(n) => {
-            octets::put_row(row, &[n]);
-            0
-        }
-    }
-}
-
-// What a check that lists nothing returns.
-fn verdict(checked: Checked) -> u32
-    ensures { λ r. ⌜ r ≡ returned (told checked) ⌝ }
-{
-    match checked {
-        Checked::Refused(r) => message::number(r),
-        Checked::Passed(_) => 0,
-    }
-}
-
-// Checks the services of a tree.
-#[no_mangle]
-pub extern "C" fn lampreycoil_check_services(tree: &[u8], services: &[u8]) -> u32
-    ensures { λ r. ⌜ r ≡ returned (Services.checkOf (now (tree .entry)) (now (services .entry))) ⌝ }
-{
-    verdict(services::check_services(tree, services))
-}
-
-// Checks the identities of a tree's ranks.
-#[no_mangle]
-pub extern "C" fn lampreycoil_check_identities(tree: &[u8], identities: &[u8]) -> u32
-    ensures { λ r. ⌜ r ≡ returned (Identities.checkOf (now (tree .entry)) (now (identities .entry))) ⌝ }
-{
-    verdict(identities::check_identities(tree, identities))
 }

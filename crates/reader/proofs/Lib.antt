@@ -10,3 +10,4 @@ pub mod Accepting
 pub mod Heading
 pub mod Agreeing
 pub mod Opening
+pub mod Holding

@@ -54,7 +54,7 @@ module _ (h : Header) (ps : List (List ℕ)) where
 
 -- ---- routes and their delimiter
 
-routes-joined : (rs : List (List ℕ)) → Each (λ r. length r ≡ 37) rs → length (joined rs) ≡ 38 * length rs
+pub routes-joined : (rs : List (List ℕ)) → Each (λ r. length r ≡ 37) rs → length (joined rs) ≡ 38 * length rs
 routes-joined [] h = refl
 routes-joined (r ∷ rs) h =
     let size : length (partBytes r) ≡ 38 = ap length (part-short r (omega (arith, h .0))) ∙ ap suc (h .0) in

@@ -10,10 +10,10 @@ use Rattle.tree.specs.declared.Checked.{Checked}
 use Rattle.message.specs.Answer.{Answer}
 use Rattle.octets.proofs.Buffers.{laid-room}
 use Rattle.octets.specs.Number.{rowBytes}
-use Rattle.lampreycoil.proofs.lampreycoil_check_tree.Statement.{statement}
-use Rattle.lampreycoil.proofs.lampreycoil_check_tree.Tie as tie
-use Rattle.lampreycoil.proofs.lampreycoil_check_tree.Reads as reads
-use Rattle.lampreycoil.proofs.lampreycoil_check_tree.Lts as lts
+use Rattle.lampreycoil.proofs.tables.lampreycoil_check_tree.Statement.{statement}
+use Rattle.lampreycoil.proofs.tables.lampreycoil_check_tree.Tie as tie
+use Rattle.lampreycoil.proofs.tables.lampreycoil_check_tree.Reads as reads
+use Rattle.lampreycoil.proofs.tables.lampreycoil_check_tree.Lts as lts
 use Rattle.message.proofs.number.Reads as number-reads
 use Rattle.octets.proofs.put_row.Reads as put-row-reads
 use Rattle.tree.proofs.check_tree.Reads as check-tree-reads

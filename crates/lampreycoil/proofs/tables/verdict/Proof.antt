@@ -4,10 +4,10 @@ use Rattle.lampreycoil.specs.Calls.{returned}
 use Rattle.tree.specs.Checking.{told}
 use Rattle.tree.specs.declared.Checked.{Checked}
 use Rattle.message.specs.Answer.{Answer}
-use Rattle.lampreycoil.proofs.verdict.Statement.{statement}
-use Rattle.lampreycoil.proofs.verdict.Tie as tie
-use Rattle.lampreycoil.proofs.verdict.Reads as reads
-use Rattle.lampreycoil.proofs.verdict.Lts as lts
+use Rattle.lampreycoil.proofs.tables.verdict.Statement.{statement}
+use Rattle.lampreycoil.proofs.tables.verdict.Tie as tie
+use Rattle.lampreycoil.proofs.tables.verdict.Reads as reads
+use Rattle.lampreycoil.proofs.tables.verdict.Lts as lts
 use Rattle.message.proofs.number.Reads as number-reads
 
 -- src/lib.rt:128:26

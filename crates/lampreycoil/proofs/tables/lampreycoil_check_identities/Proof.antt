@@ -1,12 +1,12 @@
 use borrow.Author.Needs.{needs}
 use mathlib.Core.Path.{ap, _∙_}
 use Rattle.lampreycoil.specs.Calls.{returned}
-use Rattle.lampreycoil.proofs.lampreycoil_check_identities.Statement.{statement}
-use Rattle.lampreycoil.proofs.lampreycoil_check_identities.Tie as tie
-use Rattle.lampreycoil.proofs.lampreycoil_check_identities.Reads as reads
-use Rattle.lampreycoil.proofs.lampreycoil_check_identities.Lts as lts
+use Rattle.lampreycoil.proofs.tables.lampreycoil_check_identities.Statement.{statement}
+use Rattle.lampreycoil.proofs.tables.lampreycoil_check_identities.Tie as tie
+use Rattle.lampreycoil.proofs.tables.lampreycoil_check_identities.Reads as reads
+use Rattle.lampreycoil.proofs.tables.lampreycoil_check_identities.Lts as lts
 use Rattle.identities.proofs.check_identities.Reads as check-identities-reads
-use Rattle.lampreycoil.proofs.verdict.Reads as verdict-reads
+use Rattle.lampreycoil.proofs.tables.verdict.Reads as verdict-reads
 
 -- src/lib.rt:146:13
 check-identities-requires : tie.Need-check-identities-requires

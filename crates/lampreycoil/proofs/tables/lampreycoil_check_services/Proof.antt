@@ -1,11 +1,11 @@
 use borrow.Author.Needs.{needs}
 use mathlib.Core.Path.{ap, _∙_}
 use Rattle.lampreycoil.specs.Calls.{returned}
-use Rattle.lampreycoil.proofs.lampreycoil_check_services.Statement.{statement}
-use Rattle.lampreycoil.proofs.lampreycoil_check_services.Tie as tie
-use Rattle.lampreycoil.proofs.lampreycoil_check_services.Reads as reads
-use Rattle.lampreycoil.proofs.lampreycoil_check_services.Lts as lts
-use Rattle.lampreycoil.proofs.verdict.Reads as verdict-reads
+use Rattle.lampreycoil.proofs.tables.lampreycoil_check_services.Statement.{statement}
+use Rattle.lampreycoil.proofs.tables.lampreycoil_check_services.Tie as tie
+use Rattle.lampreycoil.proofs.tables.lampreycoil_check_services.Reads as reads
+use Rattle.lampreycoil.proofs.tables.lampreycoil_check_services.Lts as lts
+use Rattle.lampreycoil.proofs.tables.verdict.Reads as verdict-reads
 use Rattle.services.proofs.check_services.Reads as check-services-reads
 
 -- src/lib.rt:138:13
