@@ -1,4 +1,5 @@
--- The calls of the rack daemon: what each returns, and what it leaves in the slices that it was lent. Assumes nothing.
+-- The C calls, as include/lampreycoil.h describes them: what each returns, and what it leaves in the slices that it was lent.
+-- Assumes nothing.
 use Prim.Native.Nat.{ℕ}
 use mathlib.Core.List.{List, [], _∷_}
 use lib.Dec.{ltb}
@@ -16,24 +17,24 @@ use Rattle.tree.specs.Checking.{depthsInto}
 use Rattle.reader.specs.declared.Frame.{Frame}
 use Rattle.reader.specs.Places.{placesOf}
 
--- "Every call returns 0, or the refusal's number"
+-- a call returns 0, or the number of its refusal
 abbrev pub returned : {A : Type 0} → Answer A → ℕ
 returned (refused r) = numberOf r
 returned (answered a) = 0
 
--- "A record is a row of 4-byte big-endian numbers in a lent slice"; "a longer one keeps its tail; a refusal writes nothing"
+-- a record is a row of 4-byte big-endian numbers in a lent slice; a longer slice keeps its tail, and a refusal writes nothing
 abbrev pub recorded : Answer (List ℕ) → List ℕ → List ℕ
 recorded (refused r) row = row
 recorded (answered numbers) row = laid (rowBytes numbers) row
 
--- "bytes the frame took, type, flags, userid, rolemask, first field, second field, number of routes, start of the first route's data,
--- topic start, topic length, payload start, payload length"
+-- bytes the frame took, type, flags, userid, rolemask, first field, second field, number of routes, start of the first route's data,
+-- topic start, topic length, payload start, payload length
 abbrev pub readRow : Frame → List ℕ
 readRow f =
     f .taken ∷ f .header .kind ∷ f .header .flags ∷ f .header .userid ∷ f .header .rolemask ∷ f .header .first ∷ f .header .second
     ∷ f .routes ∷ f .route ∷ f .topic .start ∷ f .topic .len ∷ f .payload .start ∷ f .payload .len ∷ []
 
--- "a record slice that is too short is refused with 11 before anything else": room is its length
+-- a record slice that is too short is refused with 11 before anything else: room is its length
 unfoldable pub readCall : List ℕ → ℕ → Answer (List ℕ)
 readCall bytes room = refuseIf (ltb room 52) ShortOutput (andThen (readingOf bytes) (λ m. answered (readRow (placesOf m))))
 
@@ -49,6 +50,6 @@ writeCall m room rowRoom = refuseIf (ltb rowRoom 4) ShortOutput (writingInto roo
 unfoldable pub treeCall : List ℕ → ℕ → ℕ → Answer (List ℕ)
 treeCall tree room rowRoom = refuseIf (ltb rowRoom 4) ShortOutput (depthsInto room tree)
 
--- "the frame's length", "how many depths were written"
+-- how many bytes were written: the frame's length, or how many depths
 abbrev pub wrote : Answer (List ℕ) → Answer (List ℕ)
 wrote bytes = andThen bytes (λ written. answered (length written ∷ []))

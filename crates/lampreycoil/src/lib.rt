@@ -1,4 +1,4 @@
-// The library that the rack daemon links. Every call takes numbers and byte slices, returns 0 or the refusal's number, and lists its
+// The library that a C program links. Every call takes numbers and byte slices, returns 0 or the refusal's number, and lists its
 // answer as a row of four-byte numbers in a lent slice. include/lampreycoil.h declares them for C.
 use message::Header;
 use message::Refusal;

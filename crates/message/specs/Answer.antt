@@ -1,4 +1,4 @@
--- An answer, or the refusal that stands in its place. "every public call ends with an answer or the refusal that the paper's table names"
+-- An answer, or the refusal that stands in its place. Demand 1: "every public call ends with an answer or the refusal that the paper's table names"
 -- Assumes nothing.
 use mathlib.Core.Bool.{Bool, true, false}
 use Rattle.message.specs.declared.Refusal.{Refusal}

@@ -1,4 +1,4 @@
--- How many bytes pass a test: what the form tests of the code compute, without a branch for each byte. Assumes nothing.
+-- How many bytes pass a test: what the form tests of the code compute. Assumes nothing.
 use Prim.Native.Nat.{ℕ, _+_}
 use mathlib.Core.Bool.{Bool, cond}
 use mathlib.Core.List.{List, [], _∷_}

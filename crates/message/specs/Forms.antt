@@ -34,6 +34,7 @@ matches (p ∷ ps) (x ∷ xs) = stands p x && matches ps xs
 unfoldable pub isRoute : List ℕ → Bool
 isRoute xs = matches routePlaces xs
 
+-- "non-zero bytes"
 abbrev pub noZero : List ℕ → Bool
 noZero [] = true
 noZero (x ∷ xs) = not (eqb x 0) && noZero xs

@@ -12,6 +12,7 @@ use Rattle.message.specs.Message.{Message}
 abbrev pub sizeBytes : ℕ → List ℕ
 sizeBytes n = cond (ltb n 255) (n ∷ []) (255 ∷ four n)
 
+-- a part: its size, and its data behind that
 abbrev pub partBytes : List ℕ → List ℕ
 partBytes p = sizeBytes (length p) ++ p
 
@@ -34,6 +35,7 @@ partsOf m =
 abbrev pub frameStart : List ℕ
 frameStart = 0xFF ∷ 0xEE ∷ 0x00 ∷ 0x12 ∷ []
 
+-- "then the body: the parts, one after another"
 unfoldable pub bodyOf : Message → List ℕ
 bodyOf m = joined (partsOf m)
 

@@ -1,5 +1,5 @@
 -- What the reader makes of bytes. "Reader's order: 1 for the 8 bytes, 2, 3, 1 for the body, then 4 and 5 as the parts come (5 before that
--- part's size is read), then 6 to 10." The body is a list of parts here; where they lie is the code's business. Assumes nothing.
+-- part's size is read), then 6 to 10." The body is a list of parts here; where they lie in the caller's bytes is said in the reader's specs/Places.antt. Assumes nothing.
 use Prim.Native.Nat.{ℕ, zero, suc, _+_, _-_}
 use mathlib.Core.Bool.{Bool, true, false, cond, not, _&&_, _||_}
 use mathlib.Core.List.{List, [], _∷_}
@@ -93,10 +93,13 @@ judgedAs h ps =
 unfoldable pub judged : List (List ℕ) → Answer Message
 judged ps = refuseIf (not (isHeader (final [] ps))) WrongHeader (judgedAs (headerIn (final [] ps)) (front ps))
 
--- the four bytes in front
+-- 2: "first four bytes wrong"
 abbrev pub startsRight : List ℕ → Bool
-startsRight b = eqb (getD b 0 0) 0xFF && (eqb (getD b 1 0) 0xEE && (eqb (getD b 2 0) 0x00 && eqb (getD b 3 0) 0x12))
+startsRight b =
+    eqb (getD b 0 0) (getD frameStart 0 0)
+    && (eqb (getD b 1 0) (getD frameStart 1 0) && (eqb (getD b 2 0) (getD frameStart 2 0) && eqb (getD b 3 0) (getD frameStart 3 0)))
 
+-- "then a 4-byte body length"
 abbrev pub bodyLength : List ℕ → ℕ
 bodyLength b = number (drop 4 b)
 

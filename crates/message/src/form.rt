@@ -1,4 +1,5 @@
-// The forms of a route and of a topic. Bytes are counted without a branch for each, so that several are looked at at a time.
+// The forms of a route and of a topic. Bytes are counted rather than searched, so that the compiler can
+// look at several at a time.
 ghost use mathlib.Core.Path.{_≡_};
 ghost use Prim.Native.Nat.{_≤_};
 ghost use lib.ListN.{length};

@@ -1,4 +1,4 @@
--- What the clauses of this crate's functions cite, and the laws that the crates above cite.
+-- What the clauses of this crate's functions cite.
 pub mod Number
 pub mod Laid
 pub mod Lays

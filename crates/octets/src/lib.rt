@@ -1,4 +1,4 @@
-// Bytes: numbers of four bytes, and bytes copied to the front of a lent slice. Every function is total.
+// Bytes: numbers of four bytes, and bytes copied to the front of a lent slice. Every public function is total.
 ghost use mathlib.Core.Path.{_≡_};
 ghost use mathlib.Core.List.{_∷_, []};
 ghost use Prim.Native.Nat.{_≤_};

@@ -14,7 +14,7 @@ mod judge;
 mod size;
 mod walk;
 
-// Where bytes lie, counted from the frame's front. Both are 0 where there are none to speak of.
+// Where bytes lie, counted from the frame's front. Both are 0 where the part is absent.
 pub struct Stretch {
     pub start: usize,
     pub len: usize,
