@@ -1,10 +1,9 @@
 -- The tree call: one law for each way that it ends.
 -- Assumes nothing.
-use mathlib.Core.Path.{_≡_, refl, sym, ap, _∙_}
+use mathlib.Core.Path.{_≡_, refl, sym, ap}
 use Prim.Native.Nat.{ℕ, _<_, _≤_}
 use mathlib.Core.List.{List, [], _∷_}
 use borrow.Author.Tests.{lt-ltb, le-ltb}
-use lib.ListN.{length}
 use Rattle.octets.specs.Number.{rowBytes}
 use Rattle.octets.specs.Laid.{laid}
 use Rattle.message.specs.declared.Refusal.{Refusal}

@@ -4,12 +4,11 @@ use mathlib.Core.Path.{_≡_}
 use mathlib.Core.Bool.{false}
 use Prim.Native.Nat.{ℕ, _<_, _≤_}
 use mathlib.Core.List.{List}
-use native.Mathlib.Omega.{arith}
 use lib.Dec.{eqb}
 use lib.ListN.{length}
 use borrow.Author.Tests.{le-leb, lt-leb}
 use Rattle.message.specs.Count.{count, isZero}
-use Rattle.message.specs.Forms.{isTopic, noZero}
+use Rattle.message.specs.Forms.{isTopic}
 use Rattle.message.proofs.Counts.{none-zero}
 
 module _ (xs : List ℕ) where

@@ -6,28 +6,27 @@ use Prim.Native.Nat.{ℕ, suc, _+_, _-_, _*_, _<_, _≤_}
 use mathlib.Core.List.{List, [], _∷_, _++_, append-nil}
 use native.Mathlib.Omega.{arith}
 use lib.Dec.{eqb, eqb·suc-zero}
-use lib.ListN.{length, getD, take, drop, length-append}
+use lib.ListN.{length, take, drop, length-append}
 use lib.Seq.{length-take-le}
 use Rattle.octets.specs.Number.{Bytes}
 use Rattle.message.specs.declared.Header.{Header}
 use Rattle.message.specs.Answer.{answered}
 use Rattle.message.specs.Count.{one}
-use Rattle.message.specs.Header.{hasTopic, hasPayload, hasRoute, fieldsGood, isHeader, headerIn}
+use Rattle.message.specs.Header.{hasTopic, hasPayload, hasRoute, fieldsGood}
 use Rattle.message.specs.Message.{Message}
 use Rattle.message.specs.Frame.{sizeBytes, partBytes, joined, partIf, bodyOf, frameOf, partsOf}
 use Rattle.message.specs.Writing.{isEmpty}
 use Rattle.message.specs.Reading.{front, final, routesIn, isTopicPart, messageIn, judgedAs, judged}
 use Rattle.message.proofs.Answers.{and-not}
 use Rattle.message.proofs.Lists.{bytes-part}
-use Rattle.message.proofs.Forms.{topic-parted, topic-form}
+use Rattle.message.proofs.Forms.{topic-parted}
 use Rattle.message.proofs.Parts.{split}
 use Rattle.message.proofs.Messages.{held}
 use Rattle.reader.specs.declared.judge.Piece.{Piece}
-use Rattle.reader.specs.declared.Frame.{Frame}
-use Rattle.reader.specs.Places.{dataAt, stretchIf, routing, topicPart, placesOf}
+use Rattle.reader.specs.Places.{dataAt, routing, topicPart, placesOf}
 use Rattle.reader.specs.Judging.{partsFound, Found, pieceAt, pieceIf, firstRoute, Within, topicWrong, Placeable, placedAs, Sorted}
 use Rattle.reader.proofs.Cursors.{At, joined-append, at-found, at-parts, at-some, at-next, at-data, at-if}
-use Rattle.reader.proofs.Sorting.{judged-message, stack-joined, found, fore, topicData, payloadData, behindTopic, body-parts, topic-at, few-routes}
+use Rattle.reader.proofs.Sorting.{judged-message, stack-joined, found, topicData, payloadData, behindTopic, topic-at}
 
 -- ---- a part that is there if its flag is set
 

@@ -1,17 +1,17 @@
 -- A place of the body at which known parts begin.
 -- Assumes nothing.
-use mathlib.Core.Path.{_≡_, refl, sym, ap, _∙_, subst}
-use mathlib.Core.Bool.{Bool, true, false, cond}
-use Prim.Native.Nat.{ℕ, suc, _+_, _-_, _*_, _<_, _≤_}
+use mathlib.Core.Path.{_≡_, refl, sym, ap, _∙_}
+use mathlib.Core.Bool.{Bool, true, false}
+use Prim.Native.Nat.{ℕ, _+_, _-_, _<_, _≤_}
 use mathlib.Core.List.{List, [], _∷_, _++_, append-assoc}
 use native.Mathlib.Omega.{arith}
-use lib.ListN.{length, getD, take, drop, length-append, length-drop}
+use lib.ListN.{length, take, drop, length-append, length-drop}
 use lib.Seq.{drop-drop, drop-at, take-at}
 use Rattle.message.specs.Answer.{answered}
 use Rattle.message.specs.Frame.{sizeBytes, partBytes, joined, partIf}
 use Rattle.message.specs.Reading.{partsIn}
 use Rattle.message.proofs.Parts.{join, joined-sized}
-use Rattle.reader.specs.Judging.{orNone, partsFound, Found, pieceIf}
+use Rattle.reader.specs.Judging.{orNone, partsFound, Found}
 use Rattle.reader.proofs.Stretches.{has-size}
 
 pub joined-append : (ps qs : List (List ℕ)) → joined (ps ++ qs) ≡ joined ps ++ joined qs

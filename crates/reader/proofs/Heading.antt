@@ -1,13 +1,13 @@
 -- The last part of a body: what its place tells, and what the walk's answer tells of the parts.
 -- Assumes nothing.
-use mathlib.Core.Path.{_≡_, refl, sym, ap, _∙_, subst}
-use mathlib.Core.Bool.{Bool, true, false, cond, not, _&&_}
-use Prim.Native.Nat.{ℕ, suc, _+_, _-_, _<_, _≤_}
+use mathlib.Core.Path.{_≡_, refl, sym, ap, _∙_}
+use mathlib.Core.Bool.{Bool, true, false, cond}
+use Prim.Native.Nat.{ℕ, _+_, _-_, _<_, _≤_}
 use mathlib.Core.List.{List, [], _∷_, _++_, append-nil}
 use native.Mathlib.Omega.{arith}
 use borrow.Author.Tests.{ltb-true, ltb-false, ne-eqb}
 use lib.Dec.{ltb}
-use lib.ListN.{length, getD, take, drop, length-append}
+use lib.ListN.{length, take, drop, length-append}
 use lib.Seq.{drop-drop, drop-at, take-all}
 use Rattle.octets.specs.Number.{Bytes}
 use Rattle.message.specs.declared.Header.{Header}
@@ -15,8 +15,7 @@ use Rattle.message.specs.declared.Refusal.{Refusal}
 use Rattle.message.specs.declared.Refusal.the-variants.{WrongHeader}
 use Rattle.message.specs.Answer.{Answer, refused, answered, andThen}
 use Rattle.message.specs.Header.{headerIn, isHeader}
-use Rattle.message.specs.Frame.{sizeBytes, partBytes, joined}
-use Rattle.message.specs.Message.{Message}
+use Rattle.message.specs.Frame.{partBytes, joined}
 use Rattle.message.specs.Reading.{partsIn, front, final, beforeEmpty, judgedAs, judged}
 use Rattle.message.proofs.Lists.{front-final}
 use Rattle.message.proofs.Parts.{split, part-short, part-long}
@@ -25,7 +24,7 @@ use Rattle.reader.specs.declared.walk.Walk.the-variants.{Refused, Counte
 use Rattle.reader.specs.declared.header.Head.the-variants.{Wrong, Fields}
 use Rattle.reader.specs.Places.{headAs}
 use Rattle.reader.specs.Walk.{walkedAs}
-use Rattle.reader.specs.Judging.{orNone, partsFound, Found, Headed}
+use Rattle.reader.specs.Judging.{partsFound, Found, Headed}
 use Rattle.reader.proofs.Cursors.{joined-append}
 
 -- ---- what the walk found

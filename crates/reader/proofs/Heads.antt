@@ -1,8 +1,8 @@
 -- The header, the four bytes in front and the topic's part: a law for each case of their tests.
 -- Assumes nothing.
-use mathlib.Core.Path.{_≡_, refl, sym, ap, _∙_}
-use mathlib.Core.Bool.{Bool, true, false, cond, _&&_}
-use Prim.Native.Nat.{ℕ, zero, suc, _+_, _-_, _<_, _≤_}
+use mathlib.Core.Path.{_≡_, refl, _∙_}
+use mathlib.Core.Bool.{true, false}
+use Prim.Native.Nat.{ℕ, zero, suc, _+_, _-_, _<_}
 use mathlib.Core.List.{List, [], _∷_}
 use native.Mathlib.Omega.{arith}
 use native.Mathlib.Nat.{le-of-suc-le-suc}
@@ -14,7 +14,7 @@ use Rattle.octets.specs.Number.{number}
 use Rattle.message.specs.declared.Header.{Header}
 use Rattle.message.specs.Header.{isKnown, headerIn, isHeader}
 use Rattle.message.specs.Forms.{isTopic}
-use Rattle.message.specs.Reading.{front, final, isTopicPart, startsRight}
+use Rattle.message.specs.Reading.{isTopicPart, startsRight}
 use Rattle.reader.specs.declared.header.Head.the-variants.{Wrong, Fields}
 use Rattle.reader.specs.Places.{headAs}
 

@@ -1,13 +1,13 @@
 -- The eight bytes in front: a law for each way through the reader's first tests.
 -- Assumes nothing.
-use mathlib.Core.Path.{_≡_, refl, sym, ap, _∙_}
+use mathlib.Core.Path.{_≡_, sym, _∙_}
 use mathlib.Core.Bool.{true, false}
 use Prim.Native.Nat.{ℕ, _+_, _<_, _≤_}
 use mathlib.Core.List.{List}
 use borrow.Author.Tests.{lt-ltb, le-ltb}
 use lib.ListN.{length, take, drop}
 use Rattle.message.specs.declared.Refusal.the-variants.{ShortInput, WrongStart, LongBody}
-use Rattle.message.specs.Answer.{Answer, refused, andThen}
+use Rattle.message.specs.Answer.{refused, andThen}
 use Rattle.message.specs.Reading.{startsRight, bodyLength, partsIn, judged, readingOf}
 use Rattle.reader.proofs.Heads.{number-at, NumberAt}
 

@@ -1,15 +1,15 @@
 -- The routes at the front of a body: what is known after some of them, and what each way out of the loop shows.
 -- Assumes nothing.
-use mathlib.Core.Path.{_≡_, refl, sym, ap, _∙_, subst}
-use mathlib.Core.Bool.{Bool, true, false, cond, _&&_}
-use Prim.Native.Nat.{ℕ, zero, suc, _+_, _-_, _<_, _≤_}
+use mathlib.Core.Path.{_≡_, sym, ap, _∙_}
+use mathlib.Core.Bool.{true, false, _&&_}
+use Prim.Native.Nat.{ℕ, suc, _+_, _-_, _<_, _≤_}
 use native.Mathlib.Nat.{add-zero}
 use native.Mathlib.Numerals.{add-one}
 use mathlib.Core.List.{List, [], _∷_, _++_}
 use native.Mathlib.Omega.{arith}
 use lib.ListN.{length, getD, take, drop, length-append, length-drop}
 use lib.Seq.{getD-drop, drop-cons, drop-drop, drop-at, take-at}
-use Rattle.message.specs.Frame.{sizeBytes, partBytes, joined}
+use Rattle.message.specs.Frame.{partBytes, joined}
 use Rattle.message.specs.Forms.{isRoute}
 use Rattle.message.specs.Writing.{allRoutes}
 use Rattle.message.proofs.Parts.{part-short}

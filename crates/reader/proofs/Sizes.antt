@@ -1,21 +1,18 @@
 -- The size in front of a part: a law for each of its cases.
 -- Assumes nothing.
 use mathlib.Core.Path.{_≡_, refl, sym, ap, _∙_}
-use mathlib.Core.Bool.{Bool, true, false, cond, _||_}
-use Prim.Native.Nat.{ℕ, suc, _+_, _-_, _<_, _≤_}
+use Prim.Native.Nat.{ℕ, suc, _-_, _<_, _≤_}
 use mathlib.Core.List.{List, [], _∷_}
 use native.Mathlib.Omega.{arith}
 use borrow.Author.Tests.{lt-ltb, le-ltb}
 use native.Mathlib.Decide.{decLt}
-use lib.Dec.{ltb}
 use lib.ListN.{length, getD, take, drop, length-drop}
 use lib.Seq.{length-take-le}
 use Rattle.octets.specs.Number.{number}
 use Rattle.message.specs.declared.Refusal.the-variants.{WrongSize}
-use Rattle.message.specs.Answer.{Answer, refused, answered}
+use Rattle.message.specs.Answer.{refused, answered}
 use Rattle.message.specs.Frame.{sizeBytes}
 use Rattle.message.specs.Reading.{firstPart}
-use Rattle.message.proofs.Answers.{or-neither}
 use Rattle.reader.specs.declared.size.Size.the-variants.{Wrong, Data}
 use Rattle.reader.specs.Walk.{sizedAs, sizeAt}
 

@@ -1,29 +1,28 @@
 -- A body whose parts are as many as its header asks for: which of them is what, and where it begins.
 -- Assumes nothing.
 use mathlib.Core.Path.{_≡_, refl, sym, ap, _∙_, subst}
-use mathlib.Core.Bool.{Bool, true, false, cond, not, _&&_}
-use Prim.Native.Nat.{ℕ, suc, _+_, _-_, _*_, _<_, _≤_}
+use mathlib.Core.Bool.{Bool, true, false, not, _&&_}
+use Prim.Native.Nat.{ℕ, suc, _+_, _*_, _<_, _≤_}
 use mathlib.Core.List.{List, [], _∷_, _++_, append-assoc}
 use native.Mathlib.Omega.{arith}
 use borrow.Author.Tests.{eqb-true}
-use lib.ListN.{length, getD, take, drop, length-append}
+use lib.ListN.{length, getD, length-append}
 use Rattle.octets.specs.Number.{Bytes}
 use Rattle.message.specs.declared.Header.{Header}
 use Rattle.message.specs.declared.Refusal.the-variants.{WrongParts, WrongRoute, WrongTopic, WrongField}
-use Rattle.message.specs.Answer.{Answer, refused, answered, refuseIf}
-use Rattle.message.specs.Header.{hasTopic, hasPayload, hasRoute, partsFit, fieldsGood, headerIn, isHeader}
-use Rattle.message.specs.Message.{Message}
-use Rattle.message.specs.Frame.{sizeBytes, partBytes, joined, partIf}
-use Rattle.message.specs.Writing.{allRoutes, routesGood}
+use Rattle.message.specs.Answer.{refused, answered}
+use Rattle.message.specs.Header.{hasTopic, hasPayload, hasRoute, partsFit, fieldsGood}
+use Rattle.message.specs.Frame.{partBytes, joined, partIf}
+use Rattle.message.specs.Writing.{routesGood}
 use Rattle.message.specs.Count.{one}
-use Rattle.message.specs.Reading.{front, final, beforeEmpty, routesIn, topicPlace, payloadPlace, partsAgree, isTopicPart, messageIn, judgedAs, judged}
-use Rattle.message.proofs.Answers.{and-left, and-right, true-false}
+use Rattle.message.specs.Reading.{front, final, routesIn, topicPlace, payloadPlace, partsAgree, isTopicPart, messageIn, judgedAs}
+use Rattle.message.proofs.Answers.{and-right}
 use Rattle.message.proofs.Lists.{Each, front-final}
 use Rattle.message.proofs.Headers.{header-tested}
 use Rattle.message.proofs.Forms.{routes-each, routes-few}
 use Rattle.message.proofs.Parts.{split, part-short}
 use Rattle.message.proofs.Places.{before-all}
-use Rattle.reader.specs.Judging.{partsFound, Found, Sorted}
+use Rattle.reader.specs.Judging.{partsFound, Sorted}
 use Rattle.reader.proofs.Cursors.{At, at-behind, joined-append}
 
 -- ---- 7 to 10, one test after the other

@@ -1,19 +1,16 @@
 -- A part that is known to be there: where its data lies.
 -- Assumes nothing.
-use mathlib.Core.Path.{_≡_, refl, sym, ap, _∙_, subst}
-use mathlib.Core.Bool.{Bool, true, false, cond}
-use Prim.Native.Nat.{ℕ, zero, suc, _+_, _-_, _<_, _≤_}
+use mathlib.Core.Path.{_≡_, refl, ap, _∙_}
+use mathlib.Core.Bool.{Bool, true, false}
+use Prim.Native.Nat.{ℕ, _+_, _-_, _<_, _≤_}
 use mathlib.Core.List.{List, [], _∷_, _++_, append-assoc}
 use native.Mathlib.Omega.{arith}
 use borrow.Author.Tests.{lt-ltb, le-ltb, ltb-true, ltb-false}
 use lib.Dec.{ltb}
 use lib.ListN.{length, getD, take, drop, length-append, length-drop}
-use lib.Seq.{getD-drop}
-use Rattle.octets.specs.Number.{number, four, Bytes}
+use Rattle.octets.specs.Number.{four, Bytes}
 use Rattle.octets.proofs.Numbers.{number-four, bytes-drop}
-use Rattle.message.specs.Answer.{answered}
 use Rattle.message.specs.Frame.{sizeBytes, partBytes, joined}
-use Rattle.message.specs.Reading.{partsIn}
 use Rattle.message.proofs.Lists.{Each}
 use Rattle.message.proofs.Parts.{Sized, split, part-short, part-long}
 use Rattle.reader.specs.declared.Stretch.{Stretch}

@@ -5,8 +5,7 @@ use message::Refusal;
 ghost use mathlib.Core.Path.{_≡_};
 ghost use Prim.Native.Nat.{_≤_};
 ghost use lib.ListN.{length};
-ghost use Rattle.message.specs.Answer.{andThen};
-ghost use Rattle.message.specs.Reading.{startsRight, partsIn, judged, readingOf};
+ghost use Rattle.message.specs.Reading.{startsRight, readingOf};
 ghost use Rattle.reader.specs.Places.{readAs};
 
 mod header;

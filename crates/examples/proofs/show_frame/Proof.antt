@@ -6,50 +6,34 @@ use lib.Seq.{length-take-le}
 use borrow.Author.Needs.{needs}
 use Rattle.examples.proofs.show_frame.Statement.{statement}
 use Rattle.examples.proofs.show_frame.Tie as tie
-use Rattle.examples.proofs.show_frame.Reads as reads
-use Rattle.examples.proofs.show_frame.Lts as lts
-use Rattle.examples.proofs.print.bytes.Reads as bytes-reads
-use Rattle.examples.proofs.print.reading.Reads as reading-reads
-use Rattle.examples.proofs.print.text.Reads as text-reads
-use Rattle.reader.proofs.read.Reads as read-reads
 
--- src/main.rt:25:21
 slice-aggregate-text : tie.Need-slice-aggregate-text
 slice-aggregate-text c = search needs
 
--- src/main.rt:25:9
 text-requires : tie.Need-text-requires
 text-requires c κs = search needs
 
--- src/main.rt:26:22
 slice-aggregate-bytes : tie.Need-slice-aggregate-bytes
 slice-aggregate-bytes c = sym (length-take-le (c .before .before .before .before .before .args .n) (c .before .before .before .before .before .args .out .now) (omega arith))
 
--- src/main.rt:26:9
 bytes-requires : tie.Need-bytes-requires
 bytes-requires c κs = search needs
 
--- src/main.rt:27:21
 slice-aggregate-text-2 : tie.Need-slice-aggregate-text-2
 slice-aggregate-text-2 c = search needs
 
--- src/main.rt:27:9
 text-requires-2 : tie.Need-text-requires-2
 text-requires-2 c κs = search needs
 
--- src/main.rt:28:24
 read-requires : tie.Need-read-requires
 read-requires c κs = search needs
 
--- src/main.rt:28:9
 reading-requires : tie.Need-reading-requires
 reading-requires c κs = search needs
 
--- src/main.rt:23:1
 returns : tie.Need-returns
 returns c = search needs
 
--- src/main.rt:23:1
 returns-2 : tie.Need-returns-2
 returns-2 c = search needs
 

@@ -1,5 +1,7 @@
+-- `lampreycoil::lampreycoil_read` meets its contract.
+-- Assumes nothing.
 use borrow.Author.Needs.{needs}
-use mathlib.Core.Path.{refl, sym, ap, _∙_}
+use mathlib.Core.Path.{sym, ap, _∙_}
 use mathlib.Core.List.{List}
 use Prim.Native.Nat.{ℕ}
 use lib.ListN.{length}
@@ -8,53 +10,38 @@ use Rattle.lampreycoil.specs.Calls.{returned, recorded}
 use Rattle.message.specs.Answer.{Answer}
 use Rattle.lampreycoil.proofs.lampreycoil_read.Statement.{statement}
 use Rattle.lampreycoil.proofs.lampreycoil_read.Tie as tie
-use Rattle.lampreycoil.proofs.lampreycoil_read.Reads as reads
-use Rattle.lampreycoil.proofs.lampreycoil_read.Lts as lts
-use Rattle.lampreycoil.proofs.put_frame.Reads as put-frame-reads
-use Rattle.message.proofs.number.Reads as number-reads
-use Rattle.reader.proofs.read.Reads as read-reads
 
--- src/lib.rt:47:9
 number-requires : tie.Need-number-requires
 number-requires c κs = search needs
 
--- src/lib.rt:47:9
 returns : tie.Need-returns
 returns c = let row = c .before .before .before .before .args .row .now in
     let call = read-short (c .before .before .before .before .args .bytes .now) (length row) (c .before .if1 .taken) in
     (c .number .ensures ∙ sym (ap returned call), sym (ap (λ (a : Answer (List ℕ)). recorded a row) call))
 
--- src/lib.rt:49:11
 read-requires : tie.Need-read-requires
 read-requires c κs = search needs
 
--- src/lib.rt:50:26
 enum-known-r : tie.Need-enum-known-r
 enum-known-r c = search needs
 
--- src/lib.rt:50:32
 number-requires-2 : tie.Need-number-requires-2
 number-requires-2 c κs = search needs
 
--- src/lib.rt:51:27
 enum-known-f : tie.Need-enum-known-f
 enum-known-f c = search needs
 
--- src/lib.rt:52:13
 put-frame-requires : tie.Need-put-frame-requires
 put-frame-requires c κs = search needs
 
--- src/lib.rt:41:1
 returns-2 : tie.Need-returns-2
 returns-2 c = let row = c .before .before .before .before .before .before .before .before .args .row .now in
     let call = read-refused (c .before .before .before .before .before .before .before .before .args .bytes .now) (length row) (c .before .before .before .before .before .if1 .left) (c .before .before .r .given .0 .0) (sym (c .before .before .r .given .1) ∙ c .before .before .before .before .read .ensures) in
     (c .number2 .ensures ∙ sym (ap returned call), sym (ap (λ (a : Answer (List ℕ)). recorded a row) call))
 
--- src/lib.rt:41:1
 same-length : tie.Need-same-length
 same-length c = search needs
 
--- src/lib.rt:41:1
 returns-3 : tie.Need-returns-3
 returns-3 c = let row = c .before .before .before .before .before .before .before .before .before .before .before .args .row .now in
     let call = read-accepted (c .before .before .before .before .before .before .before .before .before .before .before .args .bytes .now) (length row) (c .before .before .before .before .before .before .before .before .if1 .left) (c .before .before .before .before .before .f .given .0 .0) (sym (c .before .before .before .before .before .f .given .1) ∙ c .before .before .before .before .before .before .before .read .ensures) in

@@ -1,5 +1,7 @@
+-- `lampreycoil::lampreycoil_write` meets its contract.
+-- Assumes nothing.
 use borrow.Author.Needs.{needs}
-use mathlib.Core.Path.{_≡_, refl, sym, ap, _∙_}
+use mathlib.Core.Path.{sym, ap, _∙_}
 use mathlib.Core.List.{List, [], _∷_}
 use Prim.Native.Nat.{ℕ}
 use lib.ListN.{length}
@@ -12,17 +14,10 @@ use Rattle.octets.proofs.Buffers.{laid-room}
 use Rattle.octets.specs.Number.{rowBytes}
 use Rattle.lampreycoil.proofs.lampreycoil_write.Statement.{statement}
 use Rattle.lampreycoil.proofs.lampreycoil_write.Tie as tie
-use Rattle.lampreycoil.proofs.lampreycoil_write.Reads as reads
-use Rattle.lampreycoil.proofs.lampreycoil_write.Lts as lts
-use Rattle.message.proofs.number.Reads as number-reads
-use Rattle.octets.proofs.put_row.Reads as put-row-reads
-use Rattle.writer.proofs.write.Reads as write-reads
 
--- src/lib.rt:69:9
 number-requires : tie.Need-number-requires
 number-requires c κs = search needs
 
--- src/lib.rt:69:9
 returns : tie.Need-returns
 returns c = let args = c .before .before .before .before .before .before .before .args in
     let out = args .out .now in
@@ -31,35 +26,27 @@ returns c = let args = c .before .before .before .before .before .before .before
     let call = write-short m (length out) (length row) (c .before .if1 .taken) in
     (c .number .ensures ∙ sym (ap returned call), (sym (ap (λ (a : Answer (List ℕ)). outputOf a out) call), sym (ap (λ (a : Answer (List ℕ)). recorded (wrote a) row) call)))
 
--- src/lib.rt:79:11
 write-requires : tie.Need-write-requires
 write-requires c κs = search needs
 
--- src/lib.rt:80:26
 enum-known-r : tie.Need-enum-known-r
 enum-known-r c = search needs
 
--- src/lib.rt:80:32
 number-requires-2 : tie.Need-number-requires-2
 number-requires-2 c κs = search needs
 
--- src/lib.rt:81:24
 enum-known-n : tie.Need-enum-known-n
 enum-known-n c = search needs
 
--- src/lib.rt:82:34
 slice-aggregate-put-row : tie.Need-slice-aggregate-put-row
 slice-aggregate-put-row c = search needs
 
--- src/lib.rt:82:13
 put-row-requires : tie.Need-put-row-requires
 put-row-requires c κs = search needs
 
--- src/lib.rt:62:1
 same-length : tie.Need-same-length
 same-length c = search needs
 
--- src/lib.rt:62:1
 returns-2 : tie.Need-returns-2
 returns-2 c = let args = c .before .before .before .before .before .before .before .before .before .before .before .before .before .before .args in
     let out = args .out .now in
@@ -70,15 +57,12 @@ returns-2 c = let args = c .before .before .before .before .before .before .befo
     let call = on ∙ write-refused (writingInto (length out) m) (c .before .before .r .given .0 .0) (sym (c .before .before .r .given .1) ∙ written .ensures .0) in
     (c .number2 .ensures ∙ sym (ap returned call), (written .ensures .1 ∙ sym (ap (λ (a : Answer (List ℕ)). outputOf a out) on), sym (ap (λ (a : Answer (List ℕ)). recorded (wrote a) row) call)))
 
--- src/lib.rt:62:1
 same-length-2 : tie.Need-same-length-2
 same-length-2 c = search needs
 
--- src/lib.rt:62:1
 same-length-3 : tie.Need-same-length-3
 same-length-3 c = search needs
 
--- src/lib.rt:62:1
 returns-3 : tie.Need-returns-3
 returns-3 c = let args = c .before .before .before .before .before .before .before .before .before .before .before .before .before .before .before .before .before .before .args in
     let out = args .out .now in

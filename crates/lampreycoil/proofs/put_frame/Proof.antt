@@ -1,52 +1,40 @@
+-- `lampreycoil::put_frame` meets its contract.
+-- Assumes nothing.
 use borrow.Author.Needs.{needs}
-use native.Mathlib.Omega.{arith}
 use mathlib.Core.Path.{_∙_}
 use Rattle.lampreycoil.specs.Calls.{readRow}
 use Rattle.octets.proofs.Buffers.{laid-room}
 use Rattle.octets.specs.Number.{rowBytes}
 use Rattle.lampreycoil.proofs.put_frame.Statement.{statement}
 use Rattle.lampreycoil.proofs.put_frame.Tie as tie
-use Rattle.lampreycoil.proofs.put_frame.Reads as reads
-use Rattle.lampreycoil.proofs.put_frame.Lts as lts
-use Rattle.octets.proofs.put_row.Reads as put-row-reads
 
--- src/lib.rt:24:9
 cast-t7 : tie.Need-cast-t7
 cast-t7 c = search needs
 
--- src/lib.rt:25:9
 cast-t8 : tie.Need-cast-t8
 cast-t8 c = search needs
 
--- src/lib.rt:26:9
 cast-t9 : tie.Need-cast-t9
 cast-t9 c = search needs
 
--- src/lib.rt:27:9
 cast-t10 : tie.Need-cast-t10
 cast-t10 c = search needs
 
--- src/lib.rt:28:9
 cast-t11 : tie.Need-cast-t11
 cast-t11 c = search needs
 
--- src/lib.rt:29:9
 cast-t12 : tie.Need-cast-t12
 cast-t12 c = search needs
 
--- src/lib.rt:37:26
 slice-aggregate-put-row : tie.Need-slice-aggregate-put-row
 slice-aggregate-put-row c = search needs
 
--- src/lib.rt:37:5
 put-row-requires : tie.Need-put-row-requires
 put-row-requires c κs = search needs
 
--- src/lib.rt:15:1
 same-length : tie.Need-same-length
 same-length c = search needs
 
--- src/lib.rt:15:1
 returns : tie.Need-returns
 returns c = let start = c .before .before .before .before .before .before .before .before .before .before .before .before .before .before .before in c .before .before .put-row .ensures ∙ laid-room (rowBytes (readRow (start .args .f))) (start .args .row .now) (start .pre)
 

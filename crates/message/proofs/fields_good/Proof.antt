@@ -1,19 +1,16 @@
+-- `message::fields_good` meets its contract.
+-- Assumes nothing.
 use mathlib.Core.Path.{sym}
 use Rattle.message.proofs.Fields.{request-fields, event-fields, free-fields}
 use Rattle.message.proofs.fields_good.Statement.{statement}
 use Rattle.message.proofs.fields_good.Tie as tie
-use Rattle.message.proofs.fields_good.Reads as reads
-use Rattle.message.proofs.fields_good.Lts as lts
 
--- src/lib.rt:116:9
 returns : tie.Need-returns
 returns c = sym (request-fields (c .before .before .before .args .h) (c .before .if1 .taken))
 
--- src/lib.rt:119:9
 returns-2 : tie.Need-returns-2
 returns-2 c = sym (event-fields (c .before .before .before .before .before .args .h) (c .before .before .before .if1 .left) (c .before .if2 .taken))
 
--- src/lib.rt:112:1
 returns-3 : tie.Need-returns-3
 returns-3 c = sym (free-fields (c .before .before .before .before .args .h) (c .before .before .if1 .left) (c .if2 .left))
 

@@ -1,21 +1,17 @@
+-- `message::is_known` meets its contract.
+-- Assumes nothing.
 use borrow.Author.Needs.{needs}
 use mathlib.Core.Path.{sym, _∙_}
 use Rattle.message.proofs.Fields.{known-type, unknown-type}
 use Rattle.message.proofs.is_known.Statement.{statement}
 use Rattle.message.proofs.is_known.Tie as tie
-use Rattle.message.proofs.is_known.Reads as reads
-use Rattle.message.proofs.is_known.Lts as lts
-use Rattle.message.proofs.is_type.Reads as is-type-reads
 
--- src/lib.rt:96:8
 is-type-requires : tie.Need-is-type-requires
 is-type-requires c κs = search needs
 
--- src/lib.rt:93:1
 returns : tie.Need-returns
 returns c = sym (known-type (c .before .before .before .args .h) (sym (c .before .before .is-type .ensures) ∙ c .before .if1 .taken))
 
--- src/lib.rt:93:1
 returns-2 : tie.Need-returns-2
 returns-2 c = sym (unknown-type (c .before .before .args .h) (sym (c .before .is-type .ensures) ∙ c .if1 .left))
 

@@ -1,23 +1,19 @@
+-- `message::is_type` meets its contract.
+-- Assumes nothing.
 use borrow.Author.Tests.{eq-eqb, ne-eqb}
 use Rattle.message.proofs.is_type.Statement.{statement}
 use Rattle.message.proofs.is_type.Tie as tie
-use Rattle.message.proofs.is_type.Reads as reads
-use Rattle.message.proofs.is_type.Lts as lts
 
--- src/lib.rt:90:9
 returns : tie.Need-returns
 returns c = rw (eq-eqb (c .before .args .kind) 1 (c .if1 .taken))
 
--- src/lib.rt:93:9
 returns-2 : tie.Need-returns-2
 returns-2 c = rw (ne-eqb (c .before .before .args .kind) 1 (c .before .if1 .left), eq-eqb (c .before .before .args .kind) 2 (c .if2 .taken))
 
--- src/lib.rt:96:9
 returns-3 : tie.Need-returns-3
 returns-3 c = let k = c .before .before .before .args .kind in
     rw (ne-eqb k 1 (c .before .before .if1 .left), ne-eqb k 2 (c .before .if2 .left), eq-eqb k 4 (c .if3 .taken))
 
--- src/lib.rt:86:1
 returns-4 : tie.Need-returns-4
 returns-4 c = let k = c .before .before .before .args .kind in
     rw (ne-eqb k 1 (c .before .before .if1 .left), ne-eqb k 2 (c .before .if2 .left), ne-eqb k 4 (c .if3 .left))

@@ -1,51 +1,38 @@
+-- `message::parts_fit` meets its contract.
+-- Assumes nothing.
 use borrow.Author.Needs.{needs}
 use mathlib.Core.Path.{refl, sym, _∙_}
 use Rattle.message.proofs.Fields.{control-fits, event-fits, call-fits}
 use Rattle.message.proofs.parts_fit.Statement.{statement}
 use Rattle.message.proofs.parts_fit.Tie as tie
-use Rattle.message.proofs.parts_fit.Reads as reads
-use Rattle.message.proofs.parts_fit.Lts as lts
-use Rattle.message.proofs.has_payload.Reads as has-payload-reads
-use Rattle.message.proofs.has_route.Reads as has-route-reads
-use Rattle.message.proofs.has_topic.Reads as has-topic-reads
 
--- src/lib.rt:100:9
 has-route-requires : tie.Need-has-route-requires
 has-route-requires c κs = search needs
 
--- src/lib.rt:101:9
 has-topic-requires : tie.Need-has-topic-requires
 has-topic-requires c κs = search needs
 
--- src/lib.rt:104:13
 returns : tie.Need-returns
 returns c = sym (control-fits (c .before .before .before .before .before .args .h) (sym (c .if2 .taken) ∙ c .before .before .before .before .has-route .ensures) (c .before .before .before .has-topic .ensures) (refl) (c .before .if1 .taken))
 
--- src/lib.rt:107:13
 returns-2 : tie.Need-returns-2
 returns-2 c = sym (control-fits (c .before .before .before .before .before .before .args .h) (sym (c .before .if2 .left) ∙ c .before .before .before .before .before .has-route .ensures) (sym (c .if3 .taken) ∙ c .before .before .before .before .has-topic .ensures) (refl) (c .before .before .if1 .taken))
 
--- src/lib.rt:109:17
 has-payload-requires : tie.Need-has-payload-requires
 has-payload-requires c κs = search needs
 
--- src/lib.rt:109:9
 returns-3 : tie.Need-returns-3
 returns-3 c = sym (control-fits (c .before .before .before .before .before .before .before .args .h) (sym (c .before .before .if2 .left) ∙ c .before .before .before .before .before .before .has-route .ensures) (sym (c .before .if3 .left) ∙ c .before .before .before .before .before .has-topic .ensures) (c .has-payload .ensures) (c .before .before .before .if1 .taken))
 
--- src/lib.rt:113:13
 returns-4 : tie.Need-returns-4
 returns-4 c = sym (event-fits (c .before .before .before .before .before .before .before .args .h) (sym (c .if5 .taken) ∙ c .before .before .before .before .before .before .has-route .ensures) (c .before .before .before .before .before .has-topic .ensures) refl (c .before .before .before .if1 .left) (c .before .if4 .taken))
 
--- src/lib.rt:115:9
 returns-5 : tie.Need-returns-5
 returns-5 c = sym (event-fits (c .before .before .before .before .before .before .before .args .h) (sym (c .if5 .left) ∙ c .before .before .before .before .before .before .has-route .ensures) (c .before .before .before .before .before .has-topic .ensures) refl (c .before .before .before .if1 .left) (c .before .if4 .taken))
 
--- src/lib.rt:97:1
 returns-6 : tie.Need-returns-6
 returns-6 c = sym (call-fits (c .before .before .before .before .before .before .before .args .h) (sym (c .if6 .taken) ∙ c .before .before .before .before .before .before .has-route .ensures) (c .before .before .before .before .before .has-topic .ensures) refl (c .before .before .before .if1 .left) (c .before .if4 .left))
 
--- src/lib.rt:97:1
 returns-7 : tie.Need-returns-7
 returns-7 c = sym (call-fits (c .before .before .before .before .before .before .before .args .h) (sym (c .if6 .left) ∙ c .before .before .before .before .before .before .has-route .ensures) (c .before .before .before .before .before .has-topic .ensures) refl (c .before .before .before .if1 .left) (c .before .if4 .left))
 

@@ -1,3 +1,5 @@
+-- `octets::copy` meets its contract.
+-- Assumes nothing.
 use native.Mathlib.Omega.{arith}
 use mathlib.Core.Path.{sym}
 use Prim.Native.Nat.{_+_, _-_}
@@ -7,9 +9,6 @@ use Rattle.octets.proofs.Copying.{Copied, copied-none, copied-length, b
 use Rattle.octets.proofs.Buffers.{laid-none}
 use Rattle.octets.proofs.copy.Statement.{statement}
 use Rattle.octets.proofs.copy.Tie as tie
-use Rattle.octets.proofs.copy.Reads as reads
-use Rattle.octets.proofs.copy.Lts as lts
-use Rattle.octets.proofs.copy_block.Reads as copy-block-reads
 
 abbrev Inv-loop : tie.InvT-loop
 Inv-loop src dst₀ at₀ dst at = Copied src dst₀ dst at
@@ -17,93 +16,71 @@ Inv-loop src dst₀ at₀ dst at = Copied src dst₀ dst at
 abbrev μ-loop : tie.MeasureT-loop
 μ-loop src dst₀ at₀ dst at = length src - at
 
--- src/lib.rt:61:9
 loop-holds : tie.Need-loop-holds Inv-loop μ-loop
 loop-holds c = copied-none (c .before .before .before .args .src .now) (c .before .before .before .args .dst .now)
 
--- src/lib.rt:61:23
 sub-loop : tie.Need-sub-loop Inv-loop μ-loop
 sub-loop c = c .loop .inv .most
 
--- src/lib.rt:62:23
 add-end : tie.Need-add-end Inv-loop μ-loop
 add-end c = omega (arith, c .before .loop .inv .most, c .loop-test .taken)
 
--- src/lib.rt:63:24
 sub-copy-block : tie.Need-sub-copy-block Inv-loop μ-loop
 sub-copy-block c = omega arith
 
--- src/lib.rt:63:24
 part-copy-block-start : tie.Need-part-copy-block-start Inv-loop μ-loop
 part-copy-block-start c = omega arith
 
--- src/lib.rt:63:24
 part-copy-block-end : tie.Need-part-copy-block-end Inv-loop μ-loop
 part-copy-block-end c = omega (arith, c .before .loop .inv .most, c .loop-test .taken)
 
--- src/lib.rt:63:39
 sub-copy-block-2 : tie.Need-sub-copy-block-2 Inv-loop μ-loop
 sub-copy-block-2 c = omega (arith, copied-length (c .before .before .before .before .before .before .args .src .now) (c .before .before .before .before .before .before .args .dst .now) (c .before .before .loop .dst) (c .before .before .loop .at) (c .before .before .loop .inv) (c .before .before .before .if1 .taken), c .before .before .loop .inv .most, c .before .before .before .if1 .taken, c .before .loop-test .taken)
 
--- src/lib.rt:63:39
 part-copy-block-start-2 : tie.Need-part-copy-block-start-2 Inv-loop μ-loop
 part-copy-block-start-2 c = omega (arith, copied-length (c .before .before .before .before .before .before .args .src .now) (c .before .before .before .before .before .before .args .dst .now) (c .before .before .loop .dst) (c .before .before .loop .at) (c .before .before .loop .inv) (c .before .before .before .if1 .taken), c .before .before .loop .inv .most, c .before .before .before .if1 .taken, c .before .loop-test .taken)
 
--- src/lib.rt:63:39
 part-copy-block-end-2 : tie.Need-part-copy-block-end-2 Inv-loop μ-loop
 part-copy-block-end-2 c = search needs
 
--- src/lib.rt:63:13
 copy-block-requires : tie.Need-copy-block-requires Inv-loop μ-loop
 copy-block-requires c κs = (omega (arith, block-long (c .before .before .before .before .before .before .before .args .src .now) (c .before .before .before .before .before .before .before .args .dst .now) (c .before .before .before .loop .dst) (c .before .before .before .loop .at) (c .before .before .before .loop .inv) (c .before .before .before .before .if1 .taken) (c .before .before .before .loop .at + 32768) (omega arith) (omega (arith, c .before .before .before .loop .inv .most, c .before .before .loop-test .taken))), block-fits (c .before .before .before .before .before .before .before .args .src .now) (c .before .before .before .before .before .before .before .args .dst .now) (c .before .before .before .loop .dst) (c .before .before .before .loop .at) (c .before .before .before .loop .inv) (c .before .before .before .before .if1 .taken) (c .before .before .before .loop .at + 32768) (omega arith) (omega (arith, c .before .before .before .loop .inv .most, c .before .before .loop-test .taken)))
 
--- src/lib.rt:61:9
 loop-less : tie.Need-loop-less Inv-loop μ-loop
 loop-less c = omega (arith, c .before .before .before .before .before .before .loop .inv .most, c .before .before .before .before .before .loop-test .taken)
 
--- src/lib.rt:61:9
 loop-again : tie.Need-loop-again Inv-loop μ-loop
 loop-again c = copied-more (c .before .before .before .before .before .before .before .before .before .before .args .src .now) (c .before .before .before .before .before .before .before .before .before .before .args .dst .now) (c .before .before .before .before .before .before .loop .dst) (c .before .before .before .before .before .before .loop .at) (c .before .before .before .before .before .before .loop .inv) (c .before .before .before .before .before .before .before .if1 .taken) (c .before .before .before .before .before .before .loop .at + 32768) (omega arith) (omega (arith, c .before .before .before .before .before .before .loop .inv .most, c .before .before .before .before .before .loop-test .taken)) (c .before .before .copy-block .last .1 .0) (c .before .before .copy-block .ensures)
 
--- src/lib.rt:66:20
 sub-copy-block-3 : tie.Need-sub-copy-block-3 Inv-loop μ-loop
 sub-copy-block-3 c = c .before .loop .inv .most
 
--- src/lib.rt:66:20
 part-copy-block-start-3 : tie.Need-part-copy-block-start-3 Inv-loop μ-loop
 part-copy-block-start-3 c = c .before .loop .inv .most
 
--- src/lib.rt:66:20
 part-copy-block-end-3 : tie.Need-part-copy-block-end-3 Inv-loop μ-loop
 part-copy-block-end-3 c = search needs
 
--- src/lib.rt:66:32
 sub-copy-block-4 : tie.Need-sub-copy-block-4 Inv-loop μ-loop
 sub-copy-block-4 c = omega (arith, copied-length (c .before .before .before .before .before .before .args .src .now) (c .before .before .before .before .before .before .args .dst .now) (c .before .before .loop .dst) (c .before .before .loop .at) (c .before .before .loop .inv) (c .before .before .before .if1 .taken), c .before .before .loop .inv .most, c .before .before .before .if1 .taken)
 
--- src/lib.rt:66:32
 part-copy-block-start-4 : tie.Need-part-copy-block-start-4 Inv-loop μ-loop
 part-copy-block-start-4 c = omega (arith, copied-length (c .before .before .before .before .before .before .args .src .now) (c .before .before .before .before .before .before .args .dst .now) (c .before .before .loop .dst) (c .before .before .loop .at) (c .before .before .loop .inv) (c .before .before .before .if1 .taken), c .before .before .loop .inv .most, c .before .before .before .if1 .taken)
 
--- src/lib.rt:66:32
 part-copy-block-end-4 : tie.Need-part-copy-block-end-4 Inv-loop μ-loop
 part-copy-block-end-4 c = search needs
 
--- src/lib.rt:66:9
 copy-block-requires-2 : tie.Need-copy-block-requires-2 Inv-loop μ-loop
 copy-block-requires-2 c κs = (omega (arith, block-long (c .before .before .before .before .before .before .before .args .src .now) (c .before .before .before .before .before .before .before .args .dst .now) (c .before .before .before .loop .dst) (c .before .before .before .loop .at) (c .before .before .before .loop .inv) (c .before .before .before .before .if1 .taken) (length (c .before .before .before .before .before .before .before .args .src .now)) (c .before .before .before .loop .inv .most) (omega arith), c .before .before .loop-test .left), block-fits (c .before .before .before .before .before .before .before .args .src .now) (c .before .before .before .before .before .before .before .args .dst .now) (c .before .before .before .loop .dst) (c .before .before .before .loop .at) (c .before .before .before .loop .inv) (c .before .before .before .before .if1 .taken) (length (c .before .before .before .before .before .before .before .args .src .now)) (c .before .before .before .loop .inv .most) (omega arith))
 
--- src/lib.rt:56:1
 same-length : tie.Need-same-length Inv-loop μ-loop
 same-length c = let done = copied-more (c .before .before .before .before .before .before .before .before .before .before .args .src .now) (c .before .before .before .before .before .before .before .before .before .before .args .dst .now) (c .before .before .before .before .before .before .loop .dst) (c .before .before .before .before .before .before .loop .at) (c .before .before .before .before .before .before .loop .inv) (c .before .before .before .before .before .before .before .if1 .taken) (length (c .before .before .before .before .before .before .before .before .before .before .args .src .now)) (c .before .before .before .before .before .before .loop .inv .most) (omega arith) (c .before .before .copy-block2 .last .1 .0) (c .before .before .copy-block2 .ensures) in
     copied-length (c .before .before .before .before .before .before .before .before .before .before .args .src .now) (c .before .before .before .before .before .before .before .before .before .before .args .dst .now) _ (length (c .before .before .before .before .before .before .before .before .before .before .args .src .now)) done (c .before .before .before .before .before .before .before .if1 .taken)
 
--- src/lib.rt:56:1
 returns : tie.Need-returns Inv-loop μ-loop
 returns c = let done = copied-more (c .before .before .before .before .before .before .before .before .before .before .args .src .now) (c .before .before .before .before .before .before .before .before .before .before .args .dst .now) (c .before .before .before .before .before .before .loop .dst) (c .before .before .before .before .before .before .loop .at) (c .before .before .before .before .before .before .loop .inv) (c .before .before .before .before .before .before .before .if1 .taken) (length (c .before .before .before .before .before .before .before .before .before .before .args .src .now)) (c .before .before .before .before .before .before .loop .inv .most) (omega arith) (c .before .before .copy-block2 .last .1 .0) (c .before .before .copy-block2 .ensures) in
     copied-all (c .before .before .before .before .before .before .before .before .before .before .args .src .now) (c .before .before .before .before .before .before .before .before .before .before .args .dst .now) _ (c .before .before .before .before .before .before .before .if1 .taken) done
 
--- src/lib.rt:56:1
 returns-2 : tie.Need-returns-2 Inv-loop μ-loop
 returns-2 c = sym (laid-none (c .before .before .before .args .src .now) (c .before .before .before .args .dst .now) (omega arith))
 

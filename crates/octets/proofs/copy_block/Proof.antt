@@ -1,16 +1,15 @@
+-- `octets::copy_block` meets its contract.
+-- Assumes nothing.
 use native.Mathlib.Omega.{arith}
 use mathlib.Core.Path.{_≡_, refl, sym, ap, _∙_}
 use mathlib.Core.List.{List, _++_}
 use Prim.Native.Nat.{ℕ, _≤_, _-_}
 use borrow.Author.Needs.{needs}
-use lib.ListN.{length, getD, take, drop, set, length-set}
+use lib.ListN.{length, take, drop, length-set}
 use lib.Seq.{take-length}
 use Rattle.octets.proofs.Buffers.{copy-more, held-more, held-at}
-use Rattle.octets.specs.Laid.{laid}
 use Rattle.octets.proofs.copy_block.Statement.{statement}
 use Rattle.octets.proofs.copy_block.Tie as tie
-use Rattle.octets.proofs.copy_block.Reads as reads
-use Rattle.octets.proofs.copy_block.Lts as lts
 
 abbrev Inv-loop : tie.InvT-loop
 Inv-loop src dst n held₀ i₀ held i = (i ≤ n) × (length held ≡ 32768) × (take i held ≡ take i src)
@@ -24,53 +23,41 @@ Inv-loop2 src dst₀ n held i j₀ dst j = (j ≤ n) × (length dst ≡ length d
 abbrev μ-loop2 : tie.MeasureT-loop2
 μ-loop2 src dst₀ n held i j₀ dst j = n - j
 
--- src/lib.rt:44:5
 loop-holds : tie.Need-loop-holds Inv-loop μ-loop Inv-loop2 μ-loop2
 loop-holds c = search needs
 
--- src/lib.rt:45:19
 shared-slice-read-held : tie.Need-shared-slice-read-held Inv-loop μ-loop Inv-loop2 μ-loop2
 shared-slice-read-held c = omega arith
 
--- src/lib.rt:45:9
 array-write-held : tie.Need-array-write-held Inv-loop μ-loop Inv-loop2 μ-loop2
 array-write-held c = omega arith
 
--- src/lib.rt:46:9
 add-i : tie.Need-add-i Inv-loop μ-loop Inv-loop2 μ-loop2
 add-i c = omega arith
 
--- src/lib.rt:44:5
 loop-less : tie.Need-loop-less Inv-loop μ-loop Inv-loop2 μ-loop2
 loop-less c = omega arith
 
--- src/lib.rt:44:5
 loop-again : tie.Need-loop-again Inv-loop μ-loop Inv-loop2 μ-loop2
 loop-again c = let v = c .before .before .loop in
     let src = c .before .before .before .args .src .now in
     (omega arith, simp length-set (v .inv .1), held-more src (v .held) (v .i) (omega arith) (omega arith) (v .inv .2))
 
--- src/lib.rt:49:5
 loop2-holds : tie.Need-loop2-holds Inv-loop μ-loop Inv-loop2 μ-loop2
 loop2-holds c = (omega arith, refl, refl)
 
--- src/lib.rt:50:18
 array-read-dst : tie.Need-array-read-dst Inv-loop μ-loop Inv-loop2 μ-loop2
 array-read-dst c = omega arith
 
--- src/lib.rt:50:9
 slice-write-dst : tie.Need-slice-write-dst Inv-loop μ-loop Inv-loop2 μ-loop2
 slice-write-dst c = omega arith
 
--- src/lib.rt:51:9
 add-j : tie.Need-add-j Inv-loop μ-loop Inv-loop2 μ-loop2
 add-j c = omega arith
 
--- src/lib.rt:49:5
 loop2-less : tie.Need-loop2-less Inv-loop μ-loop Inv-loop2 μ-loop2
 loop2-less c = omega arith
 
--- src/lib.rt:49:5
 loop2-again : tie.Need-loop2-again Inv-loop μ-loop Inv-loop2 μ-loop2
 loop2-again c = let v = c .before .loop2 in
     let w = c .before .before .before .loop in
@@ -80,11 +67,9 @@ loop2-again c = let v = c .before .loop2 in
     let same = held-at src (w .held) (v .j) (omega arith) (ap (λ (k : ℕ). take k (w .held)) (sym all) ∙ w .inv .2 ∙ ap (λ (k : ℕ). take k src) all) in
     (omega arith, simp length-set (v .inv .1), rw (v .inv .2, same) (copy-more src dst (v .j) (omega arith) (omega arith)))
 
--- src/lib.rt:37:1
 same-length : tie.Need-same-length Inv-loop μ-loop Inv-loop2 μ-loop2
 same-length c = c .before .loop2 .inv .1
 
--- src/lib.rt:37:1
 returns : tie.Need-returns Inv-loop μ-loop Inv-loop2 μ-loop2
 returns c = let v = c .before .loop2 in
     let src = c .before .before .before .before .args .src .now in

@@ -1,3 +1,5 @@
+-- `octets::put_number` meets its contract.
+-- Assumes nothing.
 use borrow.Author.Needs.{needs}
 use native.Mathlib.Omega.{arith}
 use mathlib.Core.Path.{sym, _∙_}
@@ -6,52 +8,39 @@ use Rattle.octets.specs.Number.{four}
 use Rattle.octets.proofs.Buffers.{laid-room, laid-none, four-stores}
 use Rattle.octets.proofs.put_number.Statement.{statement}
 use Rattle.octets.proofs.put_number.Tie as tie
-use Rattle.octets.proofs.put_number.Reads as reads
-use Rattle.octets.proofs.put_number.Lts as lts
 
--- src/lib.rt:26:18
 cast-out : tie.Need-cast-out
 cast-out c = search needs
 
--- src/lib.rt:26:9
 slice-write-out : tie.Need-slice-write-out
 slice-write-out c = search needs
 
--- src/lib.rt:27:18
 cast-out-2 : tie.Need-cast-out-2
 cast-out-2 c = search needs
 
--- src/lib.rt:27:9
 slice-write-out-2 : tie.Need-slice-write-out-2
 slice-write-out-2 c = simp length-set (omega arith)
 
--- src/lib.rt:28:18
 cast-out-3 : tie.Need-cast-out-3
 cast-out-3 c = search needs
 
--- src/lib.rt:28:9
 slice-write-out-3 : tie.Need-slice-write-out-3
 slice-write-out-3 c = simp length-set (omega arith)
 
--- src/lib.rt:29:18
 cast-out-4 : tie.Need-cast-out-4
 cast-out-4 c = search needs
 
--- src/lib.rt:29:9
 slice-write-out-4 : tie.Need-slice-write-out-4
 slice-write-out-4 c = search needs
 
--- src/lib.rt:22:1
 same-length : tie.Need-same-length
 same-length c = search needs
 
--- src/lib.rt:22:1
 returns : tie.Need-returns
 returns c =
     let args = c .before .args in
     four-stores (args .out .now) _ _ _ _ (omega arith) ∙ sym (laid-room (four (args .n)) (args .out .now) (omega arith))
 
--- src/lib.rt:22:1
 returns-2 : tie.Need-returns-2
 returns-2 c = sym (laid-none (four (c .before .args .n)) (c .before .args .out .now) (omega arith))
 

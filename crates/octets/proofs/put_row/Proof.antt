@@ -1,3 +1,5 @@
+-- `octets::put_row` meets its contract.
+-- Assumes nothing.
 use native.Mathlib.Omega.{arith}
 use mathlib.Core.Path.{sym}
 use Prim.Native.Nat.{_-_}
@@ -8,9 +10,6 @@ use Rattle.octets.proofs.Buffers.{laid-none}
 use Rattle.octets.specs.Number.{rowBytes}
 use Rattle.octets.proofs.put_row.Statement.{statement}
 use Rattle.octets.proofs.put_row.Tie as tie
-use Rattle.octets.proofs.put_row.Reads as reads
-use Rattle.octets.proofs.put_row.Lts as lts
-use Rattle.octets.proofs.put_number.Reads as put-number-reads
 
 abbrev Inv-loop : tie.InvT-loop
 Inv-loop out₀ row at₀ i₀ out at i = Rowed row out₀ out at i
@@ -18,63 +17,48 @@ Inv-loop out₀ row at₀ i₀ out at i = Rowed row out₀ out at i
 abbrev μ-loop : tie.MeasureT-loop
 μ-loop out₀ row at₀ i₀ out at i = length row - i
 
--- src/lib.rt:50:8
 mul-if1 : tie.Need-mul-if1 Inv-loop μ-loop
 mul-if1 c = omega (arith, c .before .before .good)
 
--- src/lib.rt:53:9
 loop-holds : tie.Need-loop-holds Inv-loop μ-loop
 loop-holds c = rowed-none (c .before .before .before .args .row .now) (c .before .before .before .args .out .now)
 
--- src/lib.rt:54:24
 sub-put-number : tie.Need-sub-put-number Inv-loop μ-loop
 sub-put-number c = omega (arith, rowed-at (c .before .before .before .before .before .args .row .now) (c .before .before .before .before .before .args .out .now) (c .before .loop .out) (c .before .loop .at) (c .before .loop .i) (c .before .loop .inv) (c .before .before .if1 .taken), rowed-length (c .before .before .before .before .before .args .row .now) (c .before .before .before .before .before .args .out .now) (c .before .loop .out) (c .before .loop .at) (c .before .loop .i) (c .before .loop .inv) (c .before .before .if1 .taken), c .before .loop .inv .most, c .before .before .if1 .taken, c .loop-test .taken)
 
--- src/lib.rt:54:24
 part-put-number-start : tie.Need-part-put-number-start Inv-loop μ-loop
 part-put-number-start c = omega (arith, rowed-at (c .before .before .before .before .before .args .row .now) (c .before .before .before .before .before .args .out .now) (c .before .loop .out) (c .before .loop .at) (c .before .loop .i) (c .before .loop .inv) (c .before .before .if1 .taken), rowed-length (c .before .before .before .before .before .args .row .now) (c .before .before .before .before .before .args .out .now) (c .before .loop .out) (c .before .loop .at) (c .before .loop .i) (c .before .loop .inv) (c .before .before .if1 .taken), c .before .loop .inv .most, c .before .before .if1 .taken, c .loop-test .taken)
 
--- src/lib.rt:54:24
 part-put-number-end : tie.Need-part-put-number-end Inv-loop μ-loop
 part-put-number-end c = search needs
 
--- src/lib.rt:54:40
 mul-put-number : tie.Need-mul-put-number Inv-loop μ-loop
 mul-put-number c = omega (arith, c .before .loop-test .taken, c .before .before .before .before .before .before .good)
 
--- src/lib.rt:54:40
 shared-slice-read-put-number : tie.Need-shared-slice-read-put-number Inv-loop μ-loop
 shared-slice-read-put-number c = c .before .before .loop-test .taken
 
--- src/lib.rt:54:13
 put-number-requires : tie.Need-put-number-requires Inv-loop μ-loop
 put-number-requires c κs = tt
 
--- src/lib.rt:55:13
 add-at : tie.Need-add-at Inv-loop μ-loop
 add-at c = omega (arith, rowed-at (c .before .before .before .before .before .before .before .before .before .before .args .row .now) (c .before .before .before .before .before .before .before .before .before .before .args .out .now) (c .before .before .before .before .before .before .loop .out) (c .before .before .before .before .before .before .loop .at) (c .before .before .before .before .before .before .loop .i) (c .before .before .before .before .before .before .loop .inv) (c .before .before .before .before .before .before .before .if1 .taken), rowed-length (c .before .before .before .before .before .before .before .before .before .before .args .row .now) (c .before .before .before .before .before .before .before .before .before .before .args .out .now) (c .before .before .before .before .before .before .loop .out) (c .before .before .before .before .before .before .loop .at) (c .before .before .before .before .before .before .loop .i) (c .before .before .before .before .before .before .loop .inv) (c .before .before .before .before .before .before .before .if1 .taken), c .before .before .before .before .before .before .loop .inv .most, c .before .before .before .before .before .before .before .if1 .taken, c .before .before .before .before .before .before .before .before .before .before .good, c .before .before .before .before .before .loop-test .taken)
 
--- src/lib.rt:56:13
 add-i : tie.Need-add-i Inv-loop μ-loop
 add-i c = omega (arith, c .before .before .before .before .before .loop-test .taken, c .before .before .before .before .before .before .before .before .before .before .good)
 
--- src/lib.rt:53:9
 loop-less : tie.Need-loop-less Inv-loop μ-loop
 loop-less c = omega (arith, c .before .before .before .before .before .loop-test .taken)
 
--- src/lib.rt:53:9
 loop-again : tie.Need-loop-again Inv-loop μ-loop
 loop-again c = rowed-more (c .before .before .before .before .before .before .before .before .before .before .args .row .now) (c .before .before .before .before .before .before .before .before .before .before .args .out .now) (c .before .before .before .before .before .before .loop .out) (c .before .before .before .before .before .before .loop .at) (c .before .before .before .before .before .before .loop .i) (c .before .before .before .before .before .before .loop .inv) (c .before .before .before .before .before .before .before .if1 .taken) (c .before .before .before .before .before .loop-test .taken) (c .before .before .put-number .last .0) (c .before .before .put-number .ensures)
 
--- src/lib.rt:47:1
 same-length : tie.Need-same-length Inv-loop μ-loop
 same-length c = rowed-length (c .before .before .before .before .before .args .row .now) (c .before .before .before .before .before .args .out .now) (c .before .loop .out) (c .before .loop .at) (c .before .loop .i) (c .before .loop .inv) (c .before .before .if1 .taken)
 
--- src/lib.rt:47:1
 returns : tie.Need-returns Inv-loop μ-loop
 returns c = rowed-all (c .before .before .before .before .before .args .row .now) (c .before .before .before .before .before .args .out .now) (c .before .loop .out) (c .before .loop .at) (c .before .loop .i) (c .before .loop .inv) (c .before .before .if1 .taken) (c .loop-test .left)
 
--- src/lib.rt:47:1
 returns-2 : tie.Need-returns-2 Inv-loop μ-loop
 returns-2 c = sym (laid-none (rowBytes (c .before .before .before .args .row .now)) (c .before .before .before .args .out .now) (omega (arith, row-length (c .before .before .before .args .row .now))))
 

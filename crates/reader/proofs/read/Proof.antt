@@ -1,3 +1,5 @@
+-- `reader::read` meets its contract.
+-- Assumes nothing.
 use borrow.Author.Needs.{needs}
 use native.Mathlib.Omega.{arith}
 use mathlib.Core.Path.{_≡_, sym, ap, _∙_}
@@ -10,77 +12,55 @@ use Rattle.reader.proofs.Opening.{open-short, open-start, open-long, op
 use Rattle.reader.specs.Places.{readAs}
 use Rattle.reader.proofs.read.Statement.{statement}
 use Rattle.reader.proofs.read.Tie as tie
-use Rattle.reader.proofs.read.Reads as reads
-use Rattle.reader.proofs.read.Lts as lts
-use Rattle.octets.proofs.number_of.Reads as number-of-reads
-use Rattle.reader.proofs.judge.judge.Reads as judge-reads
-use Rattle.reader.proofs.starts_right.Reads as starts-right-reads
 
--- src/lib.rt:61:9
 returns : tie.Need-returns
 returns c = sym (ap readAs (open-short (c .before .before .args .bytes .now) (c .if1 .taken)))
 
--- src/lib.rt:63:9
 starts-right-requires : tie.Need-starts-right-requires
 starts-right-requires c κs = search needs
 
--- src/lib.rt:64:9
 returns-2 : tie.Need-returns-2
 returns-2 c = sym (ap readAs (open-start (c .before .before .before .before .args .bytes .now) (c .before .before .if1 .left) (sym (c .before .starts-right .ensures) ∙ not-true _ (c .if2 .taken))))
 
--- src/lib.rt:66:34
 shared-slice-read-number-of : tie.Need-shared-slice-read-number-of
 shared-slice-read-number-of c = search needs
 
--- src/lib.rt:66:44
 shared-slice-read-number-of-2 : tie.Need-shared-slice-read-number-of-2
 shared-slice-read-number-of-2 c = search needs
 
--- src/lib.rt:66:54
 shared-slice-read-number-of-3 : tie.Need-shared-slice-read-number-of-3
 shared-slice-read-number-of-3 c = search needs
 
--- src/lib.rt:66:64
 shared-slice-read-number-of-4 : tie.Need-shared-slice-read-number-of-4
 shared-slice-read-number-of-4 c = search needs
 
--- src/lib.rt:66:16
 number-of-requires : tie.Need-number-of-requires
 number-of-requires c κs = search needs
 
--- src/lib.rt:66:16
 cast-size : tie.Need-cast-size
 cast-size c = search needs
 
--- src/lib.rt:68:9
 returns-3 : tie.Need-returns-3
 returns-3 c = sym (ap readAs (open-long (c .before .before .before .before .before .before .before .before .before .before .args .bytes .now) (c .before .before .before .before .before .before .before .before .if1 .left) (sym (c .before .before .before .before .before .before .before .starts-right .ensures) ∙ not-false _ (c .before .before .before .before .before .before .if2 .left)) (c .before .number-of .result) (c .before .number-of .ensures) (c .if3 .taken)))
 
--- src/lib.rt:70:15
 add-end : tie.Need-add-end
 add-end c = search needs
 
--- src/lib.rt:72:9
 returns-4 : tie.Need-returns-4
 returns-4 c = sym (ap readAs (open-cut (c .before .before .before .before .before .before .before .before .before .before .before .args .bytes .now) (c .before .before .before .before .before .before .before .before .before .if1 .left) (sym (c .before .before .before .before .before .before .before .before .starts-right .ensures) ∙ not-false _ (c .before .before .before .before .before .before .before .if2 .left)) (c .before .before .number-of .result) (c .before .before .number-of .ensures) (c .before .if3 .left) (c .if4 .taken)))
 
--- src/lib.rt:74:11
 sub-judge : tie.Need-sub-judge
 sub-judge c = search needs
 
--- src/lib.rt:74:11
 part-judge-start : tie.Need-part-judge-start
 part-judge-start c = search needs
 
--- src/lib.rt:74:11
 part-judge-end : tie.Need-part-judge-end
 part-judge-end c = search needs
 
--- src/lib.rt:74:5
 judge-requires : tie.Need-judge-requires
 judge-requires c κs = search needs
 
--- src/lib.rt:57:1
 returns-5 : tie.Need-returns-5
 returns-5 c = let bytes = c .before .before .before .before .before .before .before .before .before .before .before .before .before .args .bytes .now in
     let n = c .before .before .before .before .number-of .result in

@@ -1,15 +1,10 @@
 -- `examples::print::bytes` is safe and ends: i is at most the length.
 -- Assumes nothing.
-use native.Mathlib.Omega.{arith}
 use Prim.Native.Nat.{_≤_, _-_}
 use lib.ListN.{length}
 use borrow.Author.Needs.{needs}
 use Rattle.examples.proofs.print.bytes.Statement.{statement}
 use Rattle.examples.proofs.print.bytes.Tie as tie
-use Rattle.examples.proofs.print.bytes.Reads as reads
-use Rattle.examples.proofs.print.bytes.Lts as lts
-use Rattle.examples.proofs.print.byte.Reads as byte-reads
-use Rattle.examples.proofs.print.text.Reads as text-reads
 
 abbrev Inv-loop : tie.InvT-loop
 Inv-loop s i₀ t3 i = i ≤ length s
@@ -17,39 +12,30 @@ Inv-loop s i₀ t3 i = i ≤ length s
 abbrev μ-loop : tie.MeasureT-loop
 μ-loop s i₀ t3 i = length s - i
 
--- src/print.rt:26:5
 loop-holds : tie.Need-loop-holds Inv-loop μ-loop
 loop-holds c = search needs
 
--- src/print.rt:28:18
 slice-aggregate-text : tie.Need-slice-aggregate-text Inv-loop μ-loop
 slice-aggregate-text c = search needs
 
--- src/print.rt:28:13
 text-requires : tie.Need-text-requires Inv-loop μ-loop
 text-requires c κs = search needs
 
--- src/print.rt:30:14
 shared-slice-read-byte : tie.Need-shared-slice-read-byte Inv-loop μ-loop
 shared-slice-read-byte c = search needs
 
--- src/print.rt:30:9
 byte-requires : tie.Need-byte-requires Inv-loop μ-loop
 byte-requires c κs = search needs
 
--- src/print.rt:31:9
 add-i : tie.Need-add-i Inv-loop μ-loop
 add-i c = search needs
 
--- src/print.rt:26:5
 loop-less : tie.Need-loop-less Inv-loop μ-loop
 loop-less c = search needs
 
--- src/print.rt:26:5
 loop-again : tie.Need-loop-again Inv-loop μ-loop
 loop-again c = search needs
 
--- src/print.rt:24:1
 returns : tie.Need-returns Inv-loop μ-loop
 returns c = search needs
 

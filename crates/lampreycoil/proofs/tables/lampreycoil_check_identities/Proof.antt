@@ -1,22 +1,17 @@
+-- `lampreycoil::tables::lampreycoil_check_identities` meets its contract.
+-- Assumes nothing.
 use borrow.Author.Needs.{needs}
 use mathlib.Core.Path.{ap, _∙_}
 use Rattle.lampreycoil.specs.Calls.{returned}
 use Rattle.lampreycoil.proofs.tables.lampreycoil_check_identities.Statement.{statement}
 use Rattle.lampreycoil.proofs.tables.lampreycoil_check_identities.Tie as tie
-use Rattle.lampreycoil.proofs.tables.lampreycoil_check_identities.Reads as reads
-use Rattle.lampreycoil.proofs.tables.lampreycoil_check_identities.Lts as lts
-use Rattle.identities.proofs.check_identities.Reads as check-identities-reads
-use Rattle.lampreycoil.proofs.tables.verdict.Reads as verdict-reads
 
--- src/lib.rt:146:13
 check-identities-requires : tie.Need-check-identities-requires
 check-identities-requires c κs = search needs
 
--- src/lib.rt:146:5
 verdict-requires : tie.Need-verdict-requires
 verdict-requires c κs = search needs
 
--- src/lib.rt:142:1
 returns : tie.Need-returns
 returns c = c .verdict .ensures ∙ ap returned (c .before .check-identities .ensures)
 

@@ -1,28 +1,22 @@
+-- `lampreycoil::tables::lampreycoil_check_tree` meets its contract.
+-- Assumes nothing.
 use borrow.Author.Needs.{needs}
-use mathlib.Core.Path.{_≡_, refl, sym, ap, _∙_}
+use mathlib.Core.Path.{sym, ap, _∙_}
 use mathlib.Core.List.{List, [], _∷_}
 use Prim.Native.Nat.{ℕ}
 use lib.ListN.{length}
 use Rattle.lampreycoil.proofs.TreeCalls.{tree-short, tree-on, tree-refused, tree-returned, tree-wrote}
 use Rattle.lampreycoil.specs.Calls.{returned, recorded, wrote}
 use Rattle.tree.specs.Checking.{told, depthsInto, writtenOver}
-use Rattle.tree.specs.declared.Checked.{Checked}
 use Rattle.message.specs.Answer.{Answer}
 use Rattle.octets.proofs.Buffers.{laid-room}
 use Rattle.octets.specs.Number.{rowBytes}
 use Rattle.lampreycoil.proofs.tables.lampreycoil_check_tree.Statement.{statement}
 use Rattle.lampreycoil.proofs.tables.lampreycoil_check_tree.Tie as tie
-use Rattle.lampreycoil.proofs.tables.lampreycoil_check_tree.Reads as reads
-use Rattle.lampreycoil.proofs.tables.lampreycoil_check_tree.Lts as lts
-use Rattle.message.proofs.number.Reads as number-reads
-use Rattle.octets.proofs.put_row.Reads as put-row-reads
-use Rattle.tree.proofs.check_tree.Reads as check-tree-reads
 
--- src/lib.rt:112:9
 number-requires : tie.Need-number-requires
 number-requires c κs = search needs
 
--- src/lib.rt:112:9
 returns : tie.Need-returns
 returns c = let args = c .before .before .before .before .before .args in
     let tree = args .tree .now in
@@ -31,35 +25,27 @@ returns c = let args = c .before .before .before .before .before .args in
     let call = tree-short tree (length depths) (length row) (c .before .if1 .taken) in
     (c .number .ensures ∙ sym (ap returned call), (sym (ap (λ (a : Answer (List ℕ)). writtenOver a depths) call), sym (ap (λ (a : Answer (List ℕ)). recorded (wrote a) row) call)))
 
--- src/lib.rt:114:11
 check-tree-requires : tie.Need-check-tree-requires
 check-tree-requires c κs = search needs
 
--- src/lib.rt:115:26
 enum-known-r : tie.Need-enum-known-r
 enum-known-r c = search needs
 
--- src/lib.rt:115:32
 number-requires-2 : tie.Need-number-requires-2
 number-requires-2 c κs = search needs
 
--- src/lib.rt:116:25
 enum-known-n : tie.Need-enum-known-n
 enum-known-n c = search needs
 
--- src/lib.rt:117:34
 slice-aggregate-put-row : tie.Need-slice-aggregate-put-row
 slice-aggregate-put-row c = search needs
 
--- src/lib.rt:117:13
 put-row-requires : tie.Need-put-row-requires
 put-row-requires c κs = search needs
 
--- src/lib.rt:105:1
 same-length : tie.Need-same-length
 same-length c = search needs
 
--- src/lib.rt:105:1
 returns-2 : tie.Need-returns-2
 returns-2 c = let args = c .before .before .before .before .before .before .before .before .before .before .before .before .args in
     let tree = args .tree .now in
@@ -70,15 +56,12 @@ returns-2 c = let args = c .before .before .before .before .before .before .befo
     let call = on ∙ tree-refused (depthsInto (length depths) tree) (c .before .before .r .given .0 .0) (sym (ap told (c .before .before .r .given .1)) ∙ checked .ensures .0) in
     (c .number2 .ensures ∙ sym (ap returned call), (checked .ensures .1 ∙ sym (ap (λ (a : Answer (List ℕ)). writtenOver a depths) on), sym (ap (λ (a : Answer (List ℕ)). recorded (wrote a) row) call)))
 
--- src/lib.rt:105:1
 same-length-2 : tie.Need-same-length-2
 same-length-2 c = search needs
 
--- src/lib.rt:105:1
 same-length-3 : tie.Need-same-length-3
 same-length-3 c = search needs
 
--- src/lib.rt:105:1
 returns-3 : tie.Need-returns-3
 returns-3 c = let args = c .before .before .before .before .before .before .before .before .before .before .before .before .before .before .before .before .args in
     let tree = args .tree .now in

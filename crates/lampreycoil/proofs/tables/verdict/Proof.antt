@@ -1,32 +1,25 @@
+-- `lampreycoil::tables::verdict` meets its contract.
+-- Assumes nothing.
 use borrow.Author.Needs.{needs}
 use mathlib.Core.Path.{sym, ap, _∙_}
 use Rattle.lampreycoil.specs.Calls.{returned}
 use Rattle.tree.specs.Checking.{told}
 use Rattle.tree.specs.declared.Checked.{Checked}
-use Rattle.message.specs.Answer.{Answer}
 use Rattle.lampreycoil.proofs.tables.verdict.Statement.{statement}
 use Rattle.lampreycoil.proofs.tables.verdict.Tie as tie
-use Rattle.lampreycoil.proofs.tables.verdict.Reads as reads
-use Rattle.lampreycoil.proofs.tables.verdict.Lts as lts
-use Rattle.message.proofs.number.Reads as number-reads
 
--- src/lib.rt:128:26
 enum-known-checked : tie.Need-enum-known-checked
 enum-known-checked c = search needs
 
--- src/lib.rt:128:32
 number-requires : tie.Need-number-requires
 number-requires c κs = search needs
 
--- src/lib.rt:129:31
 enum-told : tie.Need-enum-told
 enum-told c = search needs
 
--- src/lib.rt:124:1
 returns : tie.Need-returns
 returns c = c .number .ensures ∙ sym (ap (λ (k : Checked). returned (told k)) (c .before .before .checked .given .1))
 
--- src/lib.rt:124:1
 returns-2 : tie.Need-returns-2
 returns-2 c = search needs
 

@@ -1,28 +1,22 @@
+-- `message::form::hex` meets its contract.
+-- Assumes nothing.
 use native.Mathlib.Omega.{arith}
-use Prim.Native.Nat.{_≤_, _<_}
 use borrow.Author.Tests.{le-leb, lt-leb}
 use Rattle.message.proofs.form.hex.Statement.{statement}
 use Rattle.message.proofs.form.hex.Tie as tie
-use Rattle.message.proofs.form.hex.Reads as reads
-use Rattle.message.proofs.form.hex.Lts as lts
 
--- src/form.rt:9:1
 returns : tie.Need-returns
 returns c = let x = c .before .before .args .x in simp (le-leb 48 x (omega arith), le-leb x 57 (omega arith))
 
--- src/form.rt:9:1
 returns-2 : tie.Need-returns-2
 returns-2 c = let x = c .before .before .args .x in simp (lt-leb 48 x (omega arith), lt-leb 97 x (omega arith))
 
--- src/form.rt:9:1
 returns-3 : tie.Need-returns-3
 returns-3 c = let x = c .before .before .before .args .x in simp (le-leb 48 x (omega arith), lt-leb x 57 (omega arith), le-leb 97 x (omega arith), le-leb x 102 (omega arith))
 
--- src/form.rt:9:1
 returns-4 : tie.Need-returns-4
 returns-4 c = let x = c .before .before .before .args .x in simp (le-leb 48 x (omega arith), lt-leb x 57 (omega arith), le-leb 97 x (omega arith), lt-leb x 102 (omega arith))
 
--- src/form.rt:9:1
 returns-5 : tie.Need-returns-5
 returns-5 c = let x = c .before .before .args .x in simp (le-leb 48 x (omega arith), lt-leb x 57 (omega arith), lt-leb 97 x (omega arith))
 

@@ -1,3 +1,5 @@
+-- `message::form::is_route` meets its contract.
+-- Assumes nothing.
 use borrow.Author.Needs.{needs}
 use mathlib.Core.Path.{sym, ap, _∙_}
 use Prim.Native.Nat.{ℕ}
@@ -6,59 +8,43 @@ use borrow.Author.Tests.{ne-eqb}
 use Rattle.message.proofs.Routes.{route-length, route-missed, route-counted}
 use Rattle.message.proofs.form.is_route.Statement.{statement}
 use Rattle.message.proofs.form.is_route.Tie as tie
-use Rattle.message.proofs.form.is_route.Reads as reads
-use Rattle.message.proofs.form.is_route.Lts as lts
-use Rattle.message.proofs.form.hex_digits.Reads as hex-digits-reads
 
--- src/form.rt:64:9
 returns : tie.Need-returns
 returns c = sym (route-length (c .before .before .args .s .now) (c .if1 .taken))
 
--- src/form.rt:66:8
 shared-slice-read-if2 : tie.Need-shared-slice-read-if2
 shared-slice-read-if2 c = search needs
 
--- src/form.rt:67:9
 returns-2 : tie.Need-returns-2
 returns-2 c = let s = c .before .before .before .before .args .s .now in sym (route-missed s 8 (lit< tt) (ne-eqb _ _ (c .if2 .taken)))
 
--- src/form.rt:69:8
 shared-slice-read-if3 : tie.Need-shared-slice-read-if3
 shared-slice-read-if3 c = search needs
 
--- src/form.rt:70:9
 returns-3 : tie.Need-returns-3
 returns-3 c = let s = c .before .before .before .before .before .before .args .s .now in sym (route-missed s 13 (lit< tt) (ne-eqb _ _ (c .if3 .taken)))
 
--- src/form.rt:72:8
 shared-slice-read-if4 : tie.Need-shared-slice-read-if4
 shared-slice-read-if4 c = search needs
 
--- src/form.rt:73:9
 returns-4 : tie.Need-returns-4
 returns-4 c = let s = c .before .before .before .before .before .before .before .before .args .s .now in sym (route-missed s 18 (lit< tt) (ne-eqb _ _ (c .if4 .taken)))
 
--- src/form.rt:75:8
 shared-slice-read-if5 : tie.Need-shared-slice-read-if5
 shared-slice-read-if5 c = search needs
 
--- src/form.rt:76:9
 returns-5 : tie.Need-returns-5
 returns-5 c = let s = c .before .before .before .before .before .before .before .before .before .before .args .s .now in sym (route-missed s 23 (lit< tt) (ne-eqb _ _ (c .if5 .taken)))
 
--- src/form.rt:78:8
 shared-slice-read-if6 : tie.Need-shared-slice-read-if6
 shared-slice-read-if6 c = search needs
 
--- src/form.rt:79:9
 returns-6 : tie.Need-returns-6
 returns-6 c = let s = c .before .before .before .before .before .before .before .before .before .before .before .before .args .s .now in sym (route-missed s 36 (lit< tt) (ne-eqb _ _ (c .if6 .taken)))
 
--- src/form.rt:81:5
 hex-digits-requires : tie.Need-hex-digits-requires
 hex-digits-requires c κs = search needs
 
--- src/form.rt:60:1
 returns-7 : tie.Need-returns-7
 returns-7 c = let s = c .before .before .before .before .before .before .before .before .before .before .before .before .before .args .s .now in
     ap (λ (n : ℕ). eqb n 32) (c .hex-digits .ensures) ∙ sym (route-counted s (c .before .before .before .before .before .before .before .before .before .before .before .if1 .left) (c .before .before .before .before .before .before .before .before .before .if2 .left) (c .before .before .before .before .before .before .before .if3 .left) (c .before .before .before .before .before .if4 .left) (c .before .before .before .if5 .left) (c .before .if6 .left))

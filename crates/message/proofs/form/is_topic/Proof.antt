@@ -1,3 +1,5 @@
+-- `message::form::is_topic` meets its contract.
+-- Assumes nothing.
 use borrow.Author.Needs.{needs}
 use mathlib.Core.Path.{sym, ap, _∙_}
 use Prim.Native.Nat.{ℕ}
@@ -6,23 +8,16 @@ use lib.Dec.{eqb}
 use Rattle.message.proofs.Topics.{topic-empty, topic-long, topic-counted}
 use Rattle.message.proofs.form.is_topic.Statement.{statement}
 use Rattle.message.proofs.form.is_topic.Tie as tie
-use Rattle.message.proofs.form.is_topic.Reads as reads
-use Rattle.message.proofs.form.is_topic.Lts as lts
-use Rattle.message.proofs.form.zeros.Reads as zeros-reads
 
--- src/form.rt:77:9
 returns : tie.Need-returns
 returns c = sym (topic-empty (c .before .before .args .s .now) (omega arith))
 
--- src/form.rt:80:9
 returns-2 : tie.Need-returns-2
 returns-2 c = sym (topic-long (c .before .before .before .args .s .now) (omega arith) (omega arith))
 
--- src/form.rt:82:5
 zeros-requires : tie.Need-zeros-requires
 zeros-requires c κs = search needs
 
--- src/form.rt:73:1
 returns-3 : tie.Need-returns-3
 returns-3 c = ap (λ (n : ℕ). eqb n 0) (c .zeros .ensures) ∙ sym (topic-counted (c .before .before .before .before .args .s .now) (omega arith) (omega arith))
 

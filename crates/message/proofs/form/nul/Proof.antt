@@ -1,14 +1,12 @@
+-- `message::form::nul` meets its contract.
+-- Assumes nothing.
 use borrow.Author.Tests.{eq-eqb, ne-eqb}
 use Rattle.message.proofs.form.nul.Statement.{statement}
 use Rattle.message.proofs.form.nul.Tie as tie
-use Rattle.message.proofs.form.nul.Reads as reads
-use Rattle.message.proofs.form.nul.Lts as lts
 
--- src/form.rt:38:1
 returns : tie.Need-returns
 returns c = simp (eq-eqb _ _ (c .if1 .taken))
 
--- src/form.rt:38:1
 returns-2 : tie.Need-returns-2
 returns-2 c = simp (ne-eqb _ _ (c .if1 .left))
 

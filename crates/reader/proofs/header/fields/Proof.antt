@@ -1,100 +1,76 @@
+-- `reader::header::fields` meets its contract.
+-- Assumes nothing.
 use borrow.Author.Needs.{needs}
 use Rattle.reader.proofs.Heads.{fields-in}
 use Rattle.reader.proofs.header.fields.Statement.{statement}
 use Rattle.reader.proofs.header.fields.Tie as tie
-use Rattle.reader.proofs.header.fields.Reads as reads
-use Rattle.reader.proofs.header.fields.Lts as lts
-use Rattle.octets.proofs.number_of.Reads as number-of-reads
 
--- src/header.rt:20:15
 shared-slice-read-t3 : tie.Need-shared-slice-read-t3
 shared-slice-read-t3 c = search needs
 
--- src/header.rt:21:16
 shared-slice-read-t5 : tie.Need-shared-slice-read-t5
 shared-slice-read-t5 c = search needs
 
--- src/header.rt:22:35
 shared-slice-read-number-of : tie.Need-shared-slice-read-number-of
 shared-slice-read-number-of c = search needs
 
--- src/header.rt:22:41
 shared-slice-read-number-of-2 : tie.Need-shared-slice-read-number-of-2
 shared-slice-read-number-of-2 c = search needs
 
--- src/header.rt:22:47
 shared-slice-read-number-of-3 : tie.Need-shared-slice-read-number-of-3
 shared-slice-read-number-of-3 c = search needs
 
--- src/header.rt:22:53
 shared-slice-read-number-of-4 : tie.Need-shared-slice-read-number-of-4
 shared-slice-read-number-of-4 c = search needs
 
--- src/header.rt:22:17
 number-of-requires : tie.Need-number-of-requires
 number-of-requires c κs = search needs
 
--- src/header.rt:23:37
 shared-slice-read-number-of-5 : tie.Need-shared-slice-read-number-of-5
 shared-slice-read-number-of-5 c = search needs
 
--- src/header.rt:23:43
 shared-slice-read-number-of-6 : tie.Need-shared-slice-read-number-of-6
 shared-slice-read-number-of-6 c = search needs
 
--- src/header.rt:23:49
 shared-slice-read-number-of-7 : tie.Need-shared-slice-read-number-of-7
 shared-slice-read-number-of-7 c = search needs
 
--- src/header.rt:23:56
 shared-slice-read-number-of-8 : tie.Need-shared-slice-read-number-of-8
 shared-slice-read-number-of-8 c = search needs
 
--- src/header.rt:23:19
 number-of-requires-2 : tie.Need-number-of-requires-2
 number-of-requires-2 c κs = search needs
 
--- src/header.rt:24:34
 shared-slice-read-number-of-9 : tie.Need-shared-slice-read-number-of-9
 shared-slice-read-number-of-9 c = search needs
 
--- src/header.rt:24:41
 shared-slice-read-number-of-10 : tie.Need-shared-slice-read-number-of-10
 shared-slice-read-number-of-10 c = search needs
 
--- src/header.rt:24:48
 shared-slice-read-number-of-11 : tie.Need-shared-slice-read-number-of-11
 shared-slice-read-number-of-11 c = search needs
 
--- src/header.rt:24:55
 shared-slice-read-number-of-12 : tie.Need-shared-slice-read-number-of-12
 shared-slice-read-number-of-12 c = search needs
 
--- src/header.rt:24:16
 number-of-requires-3 : tie.Need-number-of-requires-3
 number-of-requires-3 c κs = search needs
 
--- src/header.rt:25:35
 shared-slice-read-number-of-13 : tie.Need-shared-slice-read-number-of-13
 shared-slice-read-number-of-13 c = search needs
 
--- src/header.rt:25:42
 shared-slice-read-number-of-14 : tie.Need-shared-slice-read-number-of-14
 shared-slice-read-number-of-14 c = search needs
 
--- src/header.rt:25:49
 shared-slice-read-number-of-15 : tie.Need-shared-slice-read-number-of-15
 shared-slice-read-number-of-15 c = search needs
 
--- src/header.rt:25:56
 shared-slice-read-number-of-16 : tie.Need-shared-slice-read-number-of-16
 shared-slice-read-number-of-16 c = search needs
 
--- src/header.rt:25:17
 number-of-requires-4 : tie.Need-number-of-requires-4
 number-of-requires-4 c κs = search needs
 
--- src/header.rt:15:1
 returns : tie.Need-returns
 returns c = fields-in (c .before .before .before .before .before .before .before .before .before .before .before .before .before .before .before .before .before .before .before .before .before .before .before .args .p .now) (c .before .before .before .before .before .before .before .before .before .before .before .before .before .before .before .number-of .ensures) (c .before .before .before .before .before .before .before .before .before .before .number-of2 .ensures) (c .before .before .before .before .before .number-of3 .ensures) (c .number-of4 .ensures)
 

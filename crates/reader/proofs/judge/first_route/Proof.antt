@@ -1,14 +1,12 @@
+-- `reader::judge::first_route` meets its contract.
+-- Assumes nothing.
 use borrow.Author.Tests.{eq-eqb, ne-eqb}
 use Rattle.reader.proofs.judge.first_route.Statement.{statement}
 use Rattle.reader.proofs.judge.first_route.Tie as tie
-use Rattle.reader.proofs.judge.first_route.Reads as reads
-use Rattle.reader.proofs.judge.first_route.Lts as lts
 
--- src/judge.rt:115:1
 returns : tie.Need-returns
 returns c = rw (eq-eqb (c .before .args .routes) 0 (c .if1 .taken))
 
--- src/judge.rt:115:1
 returns-2 : tie.Need-returns-2
 returns-2 c = rw (ne-eqb (c .before .args .routes) 0 (c .if1 .left))
 

@@ -1,41 +1,33 @@
+-- `reader::judge::is_topic_part` meets its contract.
+-- Assumes nothing.
 use borrow.Author.Needs.{needs}
 use native.Mathlib.Omega.{arith}
-use mathlib.Core.Path.{sym, ap, _∙_}
+use mathlib.Core.Path.{sym, _∙_}
 use Prim.Native.Nat.{_-_}
 use lib.ListN.{length}
 use lib.Seq.{length-take-le}
 use Rattle.reader.proofs.Heads.{topic-none, topic-open, topic-closed}
 use Rattle.reader.proofs.judge.is_topic_part.Statement.{statement}
 use Rattle.reader.proofs.judge.is_topic_part.Tie as tie
-use Rattle.reader.proofs.judge.is_topic_part.Reads as reads
-use Rattle.reader.proofs.judge.is_topic_part.Lts as lts
-use Rattle.message.proofs.form.is_topic.Reads as is-topic-reads
 
--- src/judge.rt:84:9
 returns : tie.Need-returns
 returns c = topic-none (c .before .before .args .p .now) (c .if1 .taken)
 
--- src/judge.rt:86:15
 sub-end : tie.Need-sub-end
 sub-end c = search needs
 
--- src/judge.rt:87:8
 shared-slice-read-if2 : tie.Need-shared-slice-read-if2
 shared-slice-read-if2 c = search needs
 
--- src/judge.rt:88:9
 returns-2 : tie.Need-returns-2
 returns-2 c = topic-open (c .before .before .before .before .args .p .now) (c .before .before .if1 .left) (c .if2 .taken)
 
--- src/judge.rt:90:29
 slice-aggregate-is-topic : tie.Need-slice-aggregate-is-topic
 slice-aggregate-is-topic c = let p = c .before .before .before .before .before .args .p .now in sym (length-take-le (length p - 1) p (omega arith))
 
--- src/judge.rt:90:5
 is-topic-requires : tie.Need-is-topic-requires
 is-topic-requires c κs = search needs
 
--- src/judge.rt:80:1
 returns-3 : tie.Need-returns-3
 returns-3 c = c .is-topic .ensures ∙ topic-closed (c .before .before .before .before .before .before .args .p .now) (c .before .before .before .before .if1 .left) (c .before .before .if2 .left)
 

@@ -1,8 +1,9 @@
+-- `reader::judge::judge_parts` meets its contract.
+-- Assumes nothing.
 use borrow.Author.Needs.{needs}
 use native.Mathlib.Omega.{arith}
 use mathlib.Core.Path.{_≡_, sym, ap, _∙_}
-use mathlib.Core.Bool.{Bool, true, false, cond}
-use Prim.Native.Nat.{ℕ}
+use mathlib.Core.Bool.{Bool, cond}
 use borrow.Author.Tests.{not-true, not-false}
 use Rattle.reader.proofs.Agreeing.{wanted, empty-low, unfit-parts, wrong-count, right-count, many-routes, routes-tested, sorted}
 use Rattle.reader.proofs.Sorting.{judged-parts, judged-routes}
@@ -15,55 +16,36 @@ use Rattle.message.specs.Count.{one}
 use Rattle.octets.proofs.Numbers.{bytes-of}
 use Rattle.reader.proofs.judge.judge_parts.Statement.{statement}
 use Rattle.reader.proofs.judge.judge_parts.Tie as tie
-use Rattle.reader.proofs.judge.judge_parts.Reads as reads
-use Rattle.reader.proofs.judge.judge_parts.Lts as lts
-use Rattle.message.proofs.has_payload.Reads as has-payload-reads
-use Rattle.message.proofs.has_route.Reads as has-route-reads
-use Rattle.message.proofs.has_topic.Reads as has-topic-reads
-use Rattle.message.proofs.parts_fit.Reads as parts-fit-reads
-use Rattle.reader.proofs.judge.are_routes.Reads as are-routes-reads
-use Rattle.reader.proofs.judge.if_set.Reads as if-set-reads
-use Rattle.reader.proofs.judge.judge_rest.Reads as judge-rest-reads
 
--- src/judge.rt:180:9
 parts-fit-requires : tie.Need-parts-fit-requires
 parts-fit-requires c κs = search needs
 
--- src/judge.rt:181:9
 returns : tie.Need-returns
 returns c = let args = c .before .before .before .args in
     let body = args .body .now in
     sym (ap readAs (judged-parts (args .h) (front (partsFound body)) (unfit-parts body (args .w) (args .h) (c .before .before .before .pre) (sym (c .before .parts-fit .ensures) ∙ not-true _ (c .if1 .taken)))))
 
--- src/judge.rt:183:9
 has-route-requires : tie.Need-has-route-requires
 has-route-requires c κs = search needs
 
--- src/judge.rt:184:9
 if-set-requires : tie.Need-if-set-requires
 if-set-requires c κs = search needs
 
--- src/judge.rt:185:25
 has-topic-requires : tie.Need-has-topic-requires
 has-topic-requires c κs = search needs
 
--- src/judge.rt:185:9
 if-set-requires-2 : tie.Need-if-set-requires-2
 if-set-requires-2 c κs = search needs
 
--- src/judge.rt:186:27
 has-payload-requires : tie.Need-has-payload-requires
 has-payload-requires c κs = search needs
 
--- src/judge.rt:186:9
 if-set-requires-3 : tie.Need-if-set-requires-3
 if-set-requires-3 c κs = search needs
 
--- src/judge.rt:187:28
 if-set-requires-4 : tie.Need-if-set-requires-4
 if-set-requires-4 c κs = search needs
 
--- src/judge.rt:187:19
 add-if2 : tie.Need-add-if2
 add-if2 c = let args = c .before .before .before .before .before .before .before .before .before .before .args in
     let body = args .body .now in
@@ -74,7 +56,6 @@ add-if2 c = let args = c .before .before .before .before .before .before .before
     let payload : c .before .if-set3 .result ≡ one (hasPayload (args .h .flags)) = c .before .if-set3 .ensures ∙ ap one (c .before .before .has-payload .ensures) in
     omega (arith, routes, delimiter, topic, payload, empty-low body (args .w) (args .h) (c .before .before .before .before .before .before .before .before .before .before .pre) bytes, one-le (hasRoute (args .h .flags)), one-le (hasTopic (args .h .flags)), one-le (hasPayload (args .h .flags)))
 
--- src/judge.rt:187:19
 add-if2-2 : tie.Need-add-if2-2
 add-if2-2 c = let args = c .before .before .before .before .before .before .before .before .before .before .args in
     let body = args .body .now in
@@ -85,7 +66,6 @@ add-if2-2 c = let args = c .before .before .before .before .before .before .befo
     let payload : c .before .if-set3 .result ≡ one (hasPayload (args .h .flags)) = c .before .if-set3 .ensures ∙ ap one (c .before .before .has-payload .ensures) in
     omega (arith, routes, delimiter, topic, payload, empty-low body (args .w) (args .h) (c .before .before .before .before .before .before .before .before .before .before .pre) bytes, one-le (hasRoute (args .h .flags)), one-le (hasTopic (args .h .flags)), one-le (hasPayload (args .h .flags)))
 
--- src/judge.rt:187:19
 add-if2-3 : tie.Need-add-if2-3
 add-if2-3 c = let args = c .before .before .before .before .before .before .before .before .before .before .args in
     let body = args .body .now in
@@ -96,7 +76,6 @@ add-if2-3 c = let args = c .before .before .before .before .before .before .befo
     let payload : c .before .if-set3 .result ≡ one (hasPayload (args .h .flags)) = c .before .if-set3 .ensures ∙ ap one (c .before .before .has-payload .ensures) in
     omega (arith, routes, delimiter, topic, payload, empty-low body (args .w) (args .h) (c .before .before .before .before .before .before .before .before .before .before .pre) bytes, one-le (hasRoute (args .h .flags)), one-le (hasTopic (args .h .flags)), one-le (hasPayload (args .h .flags)))
 
--- src/judge.rt:187:19
 add-if2-4 : tie.Need-add-if2-4
 add-if2-4 c = let args = c .before .before .before .before .before .before .before .before .before .before .args in
     let body = args .body .now in
@@ -107,7 +86,6 @@ add-if2-4 c = let args = c .before .before .before .before .before .before .befo
     let payload : c .before .if-set3 .result ≡ one (hasPayload (args .h .flags)) = c .before .if-set3 .ensures ∙ ap one (c .before .before .has-payload .ensures) in
     omega (arith, routes, delimiter, topic, payload, empty-low body (args .w) (args .h) (c .before .before .before .before .before .before .before .before .before .before .pre) bytes, one-le (hasRoute (args .h .flags)), one-le (hasTopic (args .h .flags)), one-le (hasPayload (args .h .flags)))
 
--- src/judge.rt:188:9
 returns-2 : tie.Need-returns-2
 returns-2 c = let args = c .before .before .before .before .before .before .before .before .before .before .before .before .args in
     let body = args .body .now in
@@ -118,7 +96,6 @@ returns-2 c = let args = c .before .before .before .before .before .before .befo
     let payload : c .before .before .before .if-set3 .result ≡ one (hasPayload (args .h .flags)) = c .before .before .before .if-set3 .ensures ∙ ap one (c .before .before .before .before .has-payload .ensures) in
     sym (ap readAs (judged-parts (args .h) (front (partsFound body)) (wrong-count body (args .w) (args .h) (c .before .before .before .before .before .before .before .before .before .before .before .before .pre) (sym (c .before .before .before .before .before .before .before .before .before .before .parts-fit .ensures) ∙ not-false _ (c .before .before .before .before .before .before .before .before .before .if1 .left)) (λ (e : args .w .count ≡ wanted body (args .w) (args .h) (c .before .before .before .before .before .before .before .before .before .before .before .before .pre)). c .if2 .taken (omega (arith, routes, delimiter, topic, payload))))))
 
--- src/judge.rt:191:9
 returns-3 : tie.Need-returns-3
 returns-3 c = let args = c .before .before .before .before .before .before .before .before .before .before .before .before .before .args in
     let body = args .body .now in
@@ -130,11 +107,9 @@ returns-3 c = let args = c .before .before .before .before .before .before .befo
     let all : args .w .count ≡ wanted body (args .w) (args .h) (c .before .before .before .before .before .before .before .before .before .before .before .before .before .pre) = omega (arith, c .before .if2 .left, routes, delimiter, topic, payload) in
     sym (ap readAs (judged-routes (args .h) (front (partsFound body)) (right-count body (args .w) (args .h) (c .before .before .before .before .before .before .before .before .before .before .before .before .before .pre) (sym (c .before .before .before .before .before .before .before .before .before .before .before .parts-fit .ensures) ∙ not-false _ (c .before .before .before .before .before .before .before .before .before .before .if1 .left)) all) (many-routes body (args .w) (args .h) (c .before .before .before .before .before .before .before .before .before .before .before .before .before .pre) (sym (c .before .before .before .before .before .before .before .before .before .before .before .parts-fit .ensures) ∙ not-false _ (c .before .before .before .before .before .before .before .before .before .before .if1 .left)) all (c .before .before .before .before .before .before .before .before .if-set .result) routes (c .if3 .taken))))
 
--- src/judge.rt:193:8
 are-routes-requires : tie.Need-are-routes-requires
 are-routes-requires c κs = search needs
 
--- src/judge.rt:194:9
 judge-rest-requires : tie.Need-judge-rest-requires
 judge-rest-requires c κs = let args = c .before .before .before .before .before .before .before .before .before .before .before .before .before .before .before .args in
     let body = args .body .now in
@@ -146,11 +121,9 @@ judge-rest-requires c κs = let args = c .before .before .before .before .before
     let all : args .w .count ≡ wanted body (args .w) (args .h) (c .before .before .before .before .before .before .before .before .before .before .before .before .before .before .before .pre) = omega (arith, c .before .before .before .if2 .left, routes, delimiter, topic, payload) in
     sorted body (args .w) (args .h) (c .before .before .before .before .before .before .before .before .before .before .before .before .before .before .before .pre) (sym (c .before .before .before .before .before .before .before .before .before .before .before .before .before .parts-fit .ensures) ∙ not-false _ (c .before .before .before .before .before .before .before .before .before .before .before .before .if1 .left)) all (c .before .before .before .before .before .before .before .before .before .before .if-set .result) routes (c .before .before .if3 .left) (sym (c .before .are-routes .ensures) ∙ c .if4 .taken)
 
--- src/judge.rt:176:1
 returns-4 : tie.Need-returns-4
 returns-4 c = search needs
 
--- src/judge.rt:176:1
 returns-5 : tie.Need-returns-5
 returns-5 c = let args = c .before .before .before .before .before .before .before .before .before .before .before .before .before .before .before .args in
     let body = args .body .now in

@@ -1,43 +1,33 @@
+-- `reader::judge::piece_if` meets its contract.
+-- Assumes nothing.
 use borrow.Author.Needs.{needs}
 use native.Mathlib.Omega.{arith}
-use mathlib.Core.Path.{sym, ap, _∙_}
 use Rattle.reader.proofs.Stretches.{piece-size, piece-fits, piece-there}
 use Rattle.octets.proofs.Numbers.{bytes-of}
 use Rattle.reader.proofs.judge.piece_if.Statement.{statement}
 use Rattle.reader.proofs.judge.piece_if.Tie as tie
-use Rattle.reader.proofs.judge.piece_if.Reads as reads
-use Rattle.reader.proofs.judge.piece_if.Lts as lts
-use Rattle.reader.proofs.judge.stretch_at.Reads as stretch-at-reads
 
--- src/judge.rt:63:31
 sub-stretch-at : tie.Need-sub-stretch-at
 sub-stretch-at c = search needs
 
--- src/judge.rt:63:31
 part-stretch-at-start : tie.Need-part-stretch-at-start
 part-stretch-at-start c = search needs
 
--- src/judge.rt:63:31
 part-stretch-at-end : tie.Need-part-stretch-at-end
 part-stretch-at-end c = search needs
 
--- src/judge.rt:63:13
 stretch-at-requires : tie.Need-stretch-at-requires
 stretch-at-requires c κs = piece-size (c .before .before .before .args .body .now) (c .before .before .before .args .at) (bytes-of (c .before .before .before .args .body .now) (λ i. c .before .before .shared-slice-known .given i .fits)) (c .before .before .before .pre .1 .0) (c .before .before .before .pre .1 .1 (c .before .if1 .taken))
 
--- src/judge.rt:64:20
 add-data : tie.Need-add-data
 add-data c = omega (arith, piece-fits (c .before .before .before .before .before .args .body .now) (c .before .before .before .before .before .args .at) (bytes-of (c .before .before .before .before .before .args .body .now) (λ i. c .before .before .before .before .shared-slice-known .given i .fits)) (c .before .before .before .before .before .pre .1 .0) (c .before .before .before .before .before .pre .1 .1 (c .before .before .before .if1 .taken)) (c .before .stretch-at .result) (c .before .stretch-at .ensures))
 
--- src/judge.rt:68:19
 add-t9 : tie.Need-add-t9
 add-t9 c = omega (arith, piece-fits (c .before .before .before .before .before .before .args .body .now) (c .before .before .before .before .before .before .args .at) (bytes-of (c .before .before .before .before .before .before .args .body .now) (λ i. c .before .before .before .before .before .shared-slice-known .given i .fits)) (c .before .before .before .before .before .before .pre .1 .0) (c .before .before .before .before .before .before .pre .1 .1 (c .before .before .before .before .if1 .taken)) (c .before .before .stretch-at .result) (c .before .before .stretch-at .ensures))
 
--- src/judge.rt:56:1
 returns : tie.Need-returns
 returns c = rw (c .before .before .before .before .if1 .taken) (piece-there (c .before .before .before .before .before .before .args .body .now) (c .before .before .before .before .before .before .args .at) (bytes-of (c .before .before .before .before .before .before .args .body .now) (λ i. c .before .before .before .before .before .shared-slice-known .given i .fits)) (c .before .before .before .before .before .before .pre .1 .0) (c .before .before .before .before .before .before .pre .1 .1 (c .before .before .before .before .if1 .taken)) (c .before .before .stretch-at .result) (c .before .before .stretch-at .ensures))
 
--- src/judge.rt:56:1
 returns-2 : tie.Need-returns-2
 returns-2 c = rw (c .if1 .left)
 

@@ -1,61 +1,46 @@
+-- `reader::judge::placed` meets its contract.
+-- Assumes nothing.
 use borrow.Author.Needs.{needs}
 use native.Mathlib.Omega.{arith}
-use mathlib.Core.Path.{sym, ap, _∙_}
+use mathlib.Core.Path.{ap, _∙_}
 use mathlib.Core.Bool.{Bool, cond}
-use Prim.Native.Nat.{ℕ, _+_, _-_}
+use Prim.Native.Nat.{_+_, _-_}
 use mathlib.Core.Path.{_≡_}
 use Rattle.message.specs.Header.{hasTopic, hasPayload}
 use Rattle.message.specs.Count.{one}
 use Rattle.reader.proofs.judge.placed.Statement.{statement}
 use Rattle.reader.proofs.judge.placed.Tie as tie
-use Rattle.reader.proofs.judge.placed.Reads as reads
-use Rattle.reader.proofs.judge.placed.Lts as lts
-use Rattle.message.proofs.has_payload.Reads as has-payload-reads
-use Rattle.message.proofs.has_topic.Reads as has-topic-reads
-use Rattle.reader.proofs.judge.first_route.Reads as first-route-reads
-use Rattle.reader.proofs.judge.if_set.Reads as if-set-reads
 
--- src/judge.rt:140:9
 has-topic-requires : tie.Need-has-topic-requires
 has-topic-requires c κs = search needs
 
--- src/judge.rt:142:16
 add-t7 : tie.Need-add-t7
 add-t7 c = search needs
 
--- src/judge.rt:145:16
 first-route-requires : tie.Need-first-route-requires
 first-route-requires c κs = search needs
 
--- src/judge.rt:147:38
 add-if-set : tie.Need-add-if-set
 add-if-set c = search needs
 
--- src/judge.rt:147:20
 if-set-requires : tie.Need-if-set-requires
 if-set-requires c κs = search needs
 
--- src/judge.rt:148:30
 if-set-requires-2 : tie.Need-if-set-requires-2
 if-set-requires-2 c κs = search needs
 
--- src/judge.rt:148:18
 sub-t12 : tie.Need-sub-t12
 sub-t12 c = omega (arith, c .before .if-set2 .ensures ∙ ap one (c .before .before .before .before .before .has-topic .ensures), c .before .before .before .before .before .before .pre .topic-some)
 
--- src/judge.rt:151:27
 has-payload-requires : tie.Need-has-payload-requires
 has-payload-requires c κs = search needs
 
--- src/judge.rt:151:58
 add-if-set-2 : tie.Need-add-if-set-2
 add-if-set-2 c = search needs
 
--- src/judge.rt:151:20
 if-set-requires-3 : tie.Need-if-set-requires-3
 if-set-requires-3 c κs = search needs
 
--- src/judge.rt:136:1
 returns : tie.Need-returns
 returns c = let args = c .before .before .before .before .before .before .before .before .before .args in
     let start : c .before .before .before .before .before .if-set .result ≡ cond (hasTopic (args .h .flags)) (8 + args .topic .at) 0 = c .before .before .before .before .before .if-set .ensures ∙ ap (λ (t : Bool). cond t (8 + args .topic .at) 0) (c .before .before .before .before .before .before .before .before .has-topic .ensures) in

@@ -1,38 +1,29 @@
+-- `reader::judge::topic_wrong` meets its contract.
+-- Assumes nothing.
 use borrow.Author.Needs.{needs}
 use mathlib.Core.Path.{sym, ap, _∙_}
 use mathlib.Core.Bool.{not}
 use Rattle.reader.proofs.judge.topic_wrong.Statement.{statement}
 use Rattle.reader.proofs.judge.topic_wrong.Tie as tie
-use Rattle.reader.proofs.judge.topic_wrong.Reads as reads
-use Rattle.reader.proofs.judge.topic_wrong.Lts as lts
-use Rattle.message.proofs.has_topic.Reads as has-topic-reads
-use Rattle.reader.proofs.judge.is_topic_part.Reads as is-topic-part-reads
 
--- src/judge.rt:128:8
 has-topic-requires : tie.Need-has-topic-requires
 has-topic-requires c κs = search needs
 
--- src/judge.rt:129:24
 sub-is-topic-part : tie.Need-sub-is-topic-part
 sub-is-topic-part c = c .before .before .before .pre .starts (sym (c .before .has-topic .ensures) ∙ c .if1 .taken)
 
--- src/judge.rt:129:24
 part-is-topic-part-start : tie.Need-part-is-topic-part-start
 part-is-topic-part-start c = c .before .before .before .pre .starts (sym (c .before .has-topic .ensures) ∙ c .if1 .taken)
 
--- src/judge.rt:129:24
 part-is-topic-part-end : tie.Need-part-is-topic-part-end
 part-is-topic-part-end c = c .before .before .before .pre .ends (sym (c .before .has-topic .ensures) ∙ c .if1 .taken)
 
--- src/judge.rt:129:10
 is-topic-part-requires : tie.Need-is-topic-part-requires
 is-topic-part-requires c κs = search needs
 
--- src/judge.rt:122:1
 returns : tie.Need-returns
 returns c = rw (sym (c .before .before .before .has-topic .ensures) ∙ c .before .before .if1 .taken) (ap not (c .is-topic-part .ensures))
 
--- src/judge.rt:122:1
 returns-2 : tie.Need-returns-2
 returns-2 c = rw (sym (c .before .has-topic .ensures) ∙ c .if1 .left)
 

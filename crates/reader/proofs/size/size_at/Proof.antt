@@ -1,3 +1,5 @@
+-- `reader::size::size_at` meets its contract.
+-- Assumes nothing.
 use borrow.Author.Needs.{needs}
 use native.Mathlib.Omega.{arith}
 use mathlib.Core.Path.{ap, _∙_}
@@ -5,76 +7,55 @@ use Rattle.reader.proofs.Sizes.{size-none, size-short-passes, size-shor
 use Rattle.reader.specs.declared.size.Size.the-variants.{Data}
 use Rattle.reader.proofs.size.size_at.Statement.{statement}
 use Rattle.reader.proofs.size.size_at.Tie as tie
-use Rattle.reader.proofs.size.size_at.Reads as reads
-use Rattle.reader.proofs.size.size_at.Lts as lts
-use Rattle.octets.proofs.number_of.Reads as number-of-reads
-use Rattle.octets.proofs.wide.Reads as wide-reads
 
--- src/size.rt:16:9
 returns : tie.Need-returns
 returns c = size-none (c .before .before .args .s .now) (c .if1 .taken)
 
--- src/size.rt:18:30
 shared-slice-read-wide : tie.Need-shared-slice-read-wide
 shared-slice-read-wide c = search needs
 
--- src/size.rt:18:17
 wide-requires : tie.Need-wide-requires
 wide-requires c κs = search needs
 
--- src/size.rt:18:17
 cast-short : tie.Need-cast-short
 cast-short c = search needs
 
--- src/size.rt:19:18
 sub-behind : tie.Need-sub-behind
 sub-behind c = search needs
 
--- src/size.rt:22:13
 returns-2 : tie.Need-returns-2
 returns-2 c = size-short-passes (c .before .before .before .before .before .before .args .s .now) (omega arith) (omega arith) (omega arith)
 
--- src/size.rt:24:9
 returns-3 : tie.Need-returns-3
 returns-3 c = ap (Data 1) (c .before .before .wide .ensures) ∙ size-short (c .before .before .before .before .before .before .args .s .now) (omega arith) (omega arith) (omega arith)
 
--- src/size.rt:27:9
 returns-4 : tie.Need-returns-4
 returns-4 c = size-cut (c .before .before .before .before .before .before .args .s .now) (omega arith) (omega arith) (omega arith)
 
--- src/size.rt:29:34
 shared-slice-read-number-of : tie.Need-shared-slice-read-number-of
 shared-slice-read-number-of c = search needs
 
--- src/size.rt:29:40
 shared-slice-read-number-of-2 : tie.Need-shared-slice-read-number-of-2
 shared-slice-read-number-of-2 c = search needs
 
--- src/size.rt:29:46
 shared-slice-read-number-of-3 : tie.Need-shared-slice-read-number-of-3
 shared-slice-read-number-of-3 c = search needs
 
--- src/size.rt:29:52
 shared-slice-read-number-of-4 : tie.Need-shared-slice-read-number-of-4
 shared-slice-read-number-of-4 c = search needs
 
--- src/size.rt:29:16
 number-of-requires : tie.Need-number-of-requires
 number-of-requires c κs = search needs
 
--- src/size.rt:29:16
 cast-long : tie.Need-cast-long
 cast-long c = search needs
 
--- src/size.rt:31:9
 returns-5 : tie.Need-returns-5
 returns-5 c = size-small (c .before .before .before .before .before .before .before .before .before .before .before .before .args .s .now) (c .before .number-of .result) (omega arith) (omega arith) (c .before .number-of .ensures) (omega arith)
 
--- src/size.rt:34:9
 returns-6 : tie.Need-returns-6
 returns-6 c = size-long-passes (c .before .before .before .before .before .before .before .before .before .before .before .before .before .args .s .now) (c .before .before .number-of .result) (omega arith) (omega arith) (c .before .before .number-of .ensures) (omega arith) (omega arith)
 
--- src/size.rt:12:1
 returns-7 : tie.Need-returns-7
 returns-7 c = size-long (c .before .before .before .before .before .before .before .before .before .before .before .before .before .args .s .now) (c .before .before .number-of .result) (omega arith) (omega arith) (c .before .before .number-of .ensures) (omega arith) (omega arith)
 

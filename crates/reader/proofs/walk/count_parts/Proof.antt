@@ -1,3 +1,5 @@
+-- `reader::walk::count_parts` meets its contract.
+-- Assumes nothing.
 use native.Mathlib.Omega.{arith}
 use mathlib.Core.Path.{_≡_, sym, ap, _∙_, subst}
 use Prim.Native.Nat.{ℕ, _+_, _-_}
@@ -8,10 +10,6 @@ use Rattle.reader.specs.Walk.{sizeAt}
 use Rattle.octets.proofs.Numbers.{bytes-of}
 use Rattle.reader.proofs.walk.count_parts.Statement.{statement}
 use Rattle.reader.proofs.walk.count_parts.Tie as tie
-use Rattle.reader.proofs.walk.count_parts.Reads as reads
-use Rattle.reader.proofs.walk.count_parts.Lts as lts
-use Rattle.reader.proofs.size.size_at.Reads as size-at-reads
-use Rattle.reader.proofs.walk.next_empty.Reads as next-empty-reads
 
 abbrev Inv-loop : tie.InvT-loop
 Inv-loop body at₀ count₀ empty₀ last₀ at count empty last = Passed body at count empty last
@@ -31,67 +29,51 @@ more c = let v = c .before .before .before .before .before .before .before .befo
     subst (λ (e : ℕ). Passed body (v .at + size .0 .0 + size .0 .1 .0) (v .count + 1) e (v .at)) (sym (c .next-empty .ensures))
     (passed-more body (v .at) (v .count) (v .empty) (v .last) (v .inv) (c .before .before .before .before .before .before .before .if1 .left) (c .before .before .before .before .before .before .if2 .left) (bytes-of body (λ i. c .before .before .before .before .before .before .before .before .before .shared-slice-known .given i .fits)) (size .0 .0) (size .0 .1 .0) (sym (size .1) ∙ found (c .before .before .before .before)))
 
--- src/walk.rt:44:5
 loop-holds : tie.Need-loop-holds Inv-loop μ-loop
 loop-holds c = passed-none (c .before .args .body .now)
 
--- src/walk.rt:51:28
 sub-size-at : tie.Need-sub-size-at Inv-loop μ-loop
 sub-size-at c = c .before .before .loop .inv .within
 
--- src/walk.rt:51:28
 part-size-at-start : tie.Need-part-size-at-start Inv-loop μ-loop
 part-size-at-start c = c .before .before .loop .inv .within
 
--- src/walk.rt:51:28
 part-size-at-end : tie.Need-part-size-at-end Inv-loop μ-loop
 part-size-at-end c = search needs
 
--- src/walk.rt:51:13
 size-at-requires : tie.Need-size-at-requires Inv-loop μ-loop
 size-at-requires c κs = tt
 
--- src/walk.rt:54:37
 enum-told : tie.Need-enum-told Inv-loop μ-loop
 enum-told c = search needs
 
--- src/walk.rt:56:24
 enum-known-size : tie.Need-enum-known-size Inv-loop μ-loop
 enum-known-size c = search needs
 
--- src/walk.rt:57:17
 next-empty-requires : tie.Need-next-empty-requires Inv-loop μ-loop
 next-empty-requires c κs = (empty-few _ _ _ _ _ (c .before .before .before .before .before .before .before .loop .inv), omega (arith, c .before .before .before .before .before .before .before .loop .inv .few))
 
--- src/walk.rt:58:17
 add-count : tie.Need-add-count Inv-loop μ-loop
 add-count c = omega (arith, c .before .before .before .before .before .before .before .before .loop .inv .few)
 
--- src/walk.rt:60:22
 add-at : tie.Need-add-at Inv-loop μ-loop
 add-at c = omega (arith, more c .within)
 
--- src/walk.rt:60:22
 add-at-2 : tie.Need-add-at-2 Inv-loop μ-loop
 add-at-2 c = omega (arith, more c .within)
 
--- src/walk.rt:44:5
 loop-less : tie.Need-loop-less Inv-loop μ-loop
 loop-less c = omega (arith, c .before .before .before .before .before .before .before .before .loop .inv .few)
 
--- src/walk.rt:44:5
 loop-again : tie.Need-loop-again Inv-loop μ-loop
 loop-again c = more c
 
--- src/walk.rt:36:1
 returns : tie.Need-returns Inv-loop μ-loop
 returns c = let v = c .before .loop in passed-all (c .before .before .before .args .body .now) (v .at) (v .count) (v .empty) (v .last) (v .inv) (c .if1 .taken)
 
--- src/walk.rt:36:1
 returns-2 : tie.Need-returns-2 Inv-loop μ-loop
 returns-2 c = let v = c .before .before .loop in passed-many (c .before .before .before .before .args .body .now) (v .at) (v .count) (v .empty) (v .last) (v .inv) (c .before .if1 .left) (c .if2 .taken)
 
--- src/walk.rt:36:1
 returns-3 : tie.Need-returns-3 Inv-loop μ-loop
 returns-3 c = let v = c .before .before .before .before .before .before .loop in passed-wrong (c .before .before .before .before .before .before .before .before .args .body .now) (v .at) (v .count) (v .empty) (v .last) (v .inv) (c .before .before .before .before .before .if1 .left) (c .before .before .before .before .if2 .left) (sym (c .enum-told .given .1) ∙ found (c .before .before))
 

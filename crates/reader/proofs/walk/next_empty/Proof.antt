@@ -1,23 +1,19 @@
+-- `reader::walk::next_empty` meets its contract.
+-- Assumes nothing.
 use borrow.Author.Needs.{needs}
 use borrow.Author.Tests.{eq-eqb, ne-eqb}
 use Rattle.reader.proofs.walk.next_empty.Statement.{statement}
 use Rattle.reader.proofs.walk.next_empty.Tie as tie
-use Rattle.reader.proofs.walk.next_empty.Reads as reads
-use Rattle.reader.proofs.walk.next_empty.Lts as lts
 
--- src/walk.rt:29:38
 add-result : tie.Need-add-result
 add-result c = search needs
 
--- src/walk.rt:24:1
 returns : tie.Need-returns
 returns c = let args = c .before .before .args in rw (eq-eqb (args .empty) (args .count) (c .before .if1 .taken), eq-eqb (args .len) 0 (c .if2 .taken))
 
--- src/walk.rt:24:1
 returns-2 : tie.Need-returns-2
 returns-2 c = let args = c .before .before .args in rw (eq-eqb (args .empty) (args .count) (c .before .if1 .taken), ne-eqb (args .len) 0 (c .if2 .left))
 
--- src/walk.rt:24:1
 returns-3 : tie.Need-returns-3
 returns-3 c = let args = c .before .args in rw (ne-eqb (args .empty) (args .count) (c .if1 .left))
 
