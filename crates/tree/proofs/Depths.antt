@@ -102,8 +102,8 @@ module _ (tree : List ℕ) where
   unfolding treeGood
   good-rest g = right (wholeTree tree) (eqb (parentOf tree 0) noRank && allBelow (ranksIn tree) (λ r. leb (depthOf tree r) 16)) g
 
-  pub good-topless : treeGood tree ≡ true → parentOf tree 0 ≡ noRank
-  good-topless g = eqb-true (parentOf tree 0) noRank (left (eqb (parentOf tree 0) noRank) (allBelow (ranksIn tree) (λ r. leb (depthOf tree r) 16)) (good-rest g))
+  pub good-root : treeGood tree ≡ true → parentOf tree 0 ≡ noRank
+  good-root g = eqb-true (parentOf tree 0) noRank (left (eqb (parentOf tree 0) noRank) (allBelow (ranksIn tree) (λ r. leb (depthOf tree r) 16)) (good-rest g))
 
   pub good-depth : treeGood tree ≡ true → (r : ℕ) → r < ranksIn tree → depthOf tree r ≤ 16
   good-depth g r h =
@@ -133,7 +133,7 @@ module _ (tree : List ℕ) where
   accepted-of g =
       record {
         whole = good-whole g;
-        topless = good-topless g;
+        root = good-root g;
         depths = depthOf tree;
         given = record { top = depth-top; inside = parent-in g; below = depth-below g; most = good-depth g };
       }
@@ -164,7 +164,7 @@ module _ (tree : List ℕ) where
   unfolding treeGood
   good-of a =
       both (a .whole)
-      (both (eq-eqb _ _ (a .topless))
+      (both (eq-eqb _ _ (a .root))
       (all-of (λ r. leb (depthOf tree r) 16) (ranksIn tree) (λ r h. le-leb (depthOf tree r) 16 (rw (← depths-are (a .depths) (a .given) r h) (a .given .most r h)))))
 
   -- ---- the test by its cases, in the code's order

@@ -218,9 +218,10 @@ module _ (tree : List ℕ) (g : treeGood tree ≡ true) where
       under zero l e = absurd (n (sym e ∙ above-none tree target))
       under (suc k) l e =
           let next : towards tree from target ≡ above tree k target = rw (← e) (towards-down k target ht l) in
-          rw next (child-neighbour tree from (above tree k target) (sym (above-last tree k target) ∙ e), above-in k target ht (omega arith))
+          let inside = above-in k target ht (omega arith) in
+          rw next (child-neighbour tree from (above tree k target) hf inside (sym (above-last tree k target) ∙ e), inside)
 
       over : Aside tree target from → (isNeighbour tree from (towards tree from target) ≡ true) × (towards tree from target < ranksIn tree)
       over a =
-          rw (towards-up from target (λ k l e. a (suc k) l e))
-          (parent-neighbour tree from (parentOf tree from) refl, parent-in tree g from hf (aside-low target from ht a))
+          let inside = parent-in tree g from hf (aside-low target from ht a) in
+          rw (towards-up from target (λ k l e. a (suc k) l e)) (parent-neighbour tree from (parentOf tree from) hf inside refl, inside)

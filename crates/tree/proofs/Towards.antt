@@ -1,29 +1,38 @@
 -- Laws on the next broker. Assumes nothing.
 use mathlib.Core.Path.{_≡_, refl, ap, _∙_}
-use mathlib.Core.Bool.{true, or-true}
+use mathlib.Core.Bool.{true, false, or-true}
 use mathlib.Core.List.{List}
-use Prim.Native.Nat.{ℕ, zero, suc, _-_}
+use Prim.Native.Nat.{ℕ, zero, suc, _-_, _<_, _≤_}
 use native.Mathlib.Omega.{arith}
 use lib.Dec.{eqb}
-use borrow.Author.Tests.{eq-eqb, ne-eqb}
-use Rattle.tree.specs.Tree.{parentOf}
+use borrow.Author.Tests.{eq-eqb, ne-eqb, lt-ltb, le-ltb}
+use Rattle.tree.specs.Tree.{ranksIn, parentOf}
 use Rattle.tree.specs.Depths.{depthOf}
 use Rattle.tree.specs.Towards.{isNeighbour, hop, towards}
 
 -- ---- neighbours by the cases of the code
 
 module _ (tree : List ℕ) (a b : ℕ) where
-  pub parent-neighbour : parentOf tree a ≡ b → isNeighbour tree a b ≡ true
+  pub outside-neighbour : ranksIn tree ≤ a → isNeighbour tree a b ≡ false
   unfolding isNeighbour
-  parent-neighbour e = rw (eq-eqb _ _ e) refl
+  outside-neighbour h = rw (le-ltb a (ranksIn tree) h) refl
 
-  pub child-neighbour : parentOf tree b ≡ a → isNeighbour tree a b ≡ true
+  pub neighbour-outside : a < ranksIn tree → ranksIn tree ≤ b → isNeighbour tree a b ≡ false
   unfolding isNeighbour
-  child-neighbour e = rw (eq-eqb (parentOf tree b) a e) (or-true (eqb (parentOf tree a) b))
+  neighbour-outside ha hb = rw (lt-ltb a (ranksIn tree) ha, le-ltb b (ranksIn tree) hb) refl
 
-  pub other-neighbour : (parentOf tree a ≡ b → ⊥) → isNeighbour tree a b ≡ eqb (parentOf tree b) a
+  pub parent-neighbour : a < ranksIn tree → b < ranksIn tree → parentOf tree a ≡ b → isNeighbour tree a b ≡ true
   unfolding isNeighbour
-  other-neighbour h = rw (ne-eqb _ _ h) refl
+  parent-neighbour ha hb e = rw (lt-ltb a (ranksIn tree) ha, lt-ltb b (ranksIn tree) hb, eq-eqb (parentOf tree a) b e) refl
+
+  pub child-neighbour : a < ranksIn tree → b < ranksIn tree → parentOf tree b ≡ a → isNeighbour tree a b ≡ true
+  unfolding isNeighbour
+  child-neighbour ha hb e =
+      rw (lt-ltb a (ranksIn tree) ha, lt-ltb b (ranksIn tree) hb, eq-eqb (parentOf tree b) a e) (or-true (eqb (parentOf tree a) b))
+
+  pub other-neighbour : a < ranksIn tree → b < ranksIn tree → (parentOf tree a ≡ b → ⊥) → isNeighbour tree a b ≡ eqb (parentOf tree b) a
+  unfolding isNeighbour
+  other-neighbour ha hb h = rw (lt-ltb a (ranksIn tree) ha, lt-ltb b (ranksIn tree) hb, ne-eqb (parentOf tree a) b h) refl
 
 -- ---- a hop by its cases
 

@@ -12,6 +12,7 @@ use Rattle.tree.specs.Tree.{noRank, ranksIn, wholeTree, parentOf}
 -- "depths can be given so that rank 0 has 0, every other rank has its parent's plus 1, and none is above 16": d gives them
 pub record Depths (tree : List ℕ) (d : ℕ → ℕ) : Type 0 where
   pub top : d 0 ≡ 0
+  -- "its parent's": the parent is itself a rank of the tree, since the paper gives depths to ranks only, and d is a number everywhere
   pub inside : (r : ℕ) → r < ranksIn tree → (r ≡ 0 → ⊥) → parentOf tree r < ranksIn tree
   pub below : (r : ℕ) → r < ranksIn tree → (r ≡ 0 → ⊥) → d r ≡ d (parentOf tree r) + 1
   pub most : (r : ℕ) → r < ranksIn tree → d r ≤ 16
@@ -19,7 +20,7 @@ pub record Depths (tree : List ℕ) (d : ℕ → ℕ) : Type 0 where
 -- the paper's sentence: "Accepted exactly if depths can be given so that .."
 pub record Accepted (tree : List ℕ) : Type 0 where
   pub whole : wholeTree tree ≡ true
-  pub topless : parentOf tree 0 ≡ noRank
+  pub root : parentOf tree 0 ≡ noRank
   pub depths : ℕ → ℕ
   pub given : Depths tree depths
 

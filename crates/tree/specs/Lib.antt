@@ -1,4 +1,4 @@
--- The floor's tree, as paper 01 has it under "The floor's tables". To be read in this order: Tree, Depths, Checking, Towards.
+-- The tree of brokers, as paper 01 has it under "The floor's tables". To be read in this order: Tree, Depths, Checking, Towards.
 pub mod Tree
 pub mod Depths
 pub mod Checking

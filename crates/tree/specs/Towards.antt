@@ -1,14 +1,14 @@
 -- The next broker on the way from one rank to another, and who is whose neighbour. Assumes nothing.
 use Prim.Native.Nat.{ℕ, zero, suc}
-use mathlib.Core.Bool.{Bool, cond, _||_}
+use mathlib.Core.Bool.{Bool, cond, _&&_, _||_}
 use mathlib.Core.List.{List}
-use lib.Dec.{eqb}
-use Rattle.tree.specs.Tree.{parentOf}
+use lib.Dec.{eqb, ltb}
+use Rattle.tree.specs.Tree.{ranksIn, parentOf}
 use Rattle.tree.specs.Depths.{depthOf}
 
--- "a neighbour (parent or child)"
+-- "a neighbour (parent or child)": both are ranks of the tree, since the number that rank 0 holds for a parent is no broker's
 unfoldable pub isNeighbour : List ℕ → ℕ → ℕ → Bool
-isNeighbour tree a b = eqb (parentOf tree a) b || eqb (parentOf tree b) a
+isNeighbour tree a b = ltb a (ranksIn tree) && (ltb b (ranksIn tree) && (eqb (parentOf tree a) b || eqb (parentOf tree b) a))
 
 -- from one rank to another: the child of `from` on the way, if `from` is among the first `depth` parents of the target, else the parent of `from`
 unfoldable pub hop : List ℕ → ℕ → ℕ → ℕ → ℕ

@@ -1,4 +1,4 @@
-// The floor's tree: the parent and the depth of a rank, the check of a tree, and the next broker on the way to a rank.
+// The tree of brokers: the parent and the depth of a rank, the check of a tree, and the next broker on the way to a rank.
 use message::Refusal;
 ghost use mathlib.Core.Path.{_≡_};
 ghost use Prim.Native.Nat.{_+_, _*_, _<_, _≤_};
@@ -135,10 +135,17 @@ pub fn check_tree(tree: &[u8], depths: &mut [u8]) -> Checked
     Checked::Passed(n)
 }
 
-// Whether one rank is the other's parent.
+// Whether both are ranks of the tree and one is the other's parent.
 pub fn is_neighbour(tree: &[u8], a: u32, b: u32) -> bool
     ensures { λ r. ⌜ r ≡ isNeighbour (now (tree .entry)) a b ⌝ }
 {
+    let n = ranks_in(tree);
+    if a as usize >= n {
+        return false;
+    }
+    if b as usize >= n {
+        return false;
+    }
     if parent_of(tree, a) == b {
         return true;
     }

@@ -1,3 +1,5 @@
+-- `records::are_distinct` meets its contract.
+-- Assumes nothing.
 use borrow.Author.Count.{falls}
 use Prim.Native.Nat.{ℕ}
 use lib.ListN.{replicate, length-replicate, getD-replicate}

@@ -1,3 +1,5 @@
+-- `records::record` meets its contract.
+-- Assumes nothing.
 use Prim.Native.Nat.{_+_, _*_, _-_}
 use mathlib.Core.Path.{_≡_, refl}
 -- `records::record` meets its contract.

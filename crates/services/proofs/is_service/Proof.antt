@@ -1,3 +1,5 @@
+-- `services::is_service` meets its contract.
+-- Assumes nothing.
 use lib.ListN.{take, length-drop}
 use lib.Seq.{take-all}
 use Rattle.services.specs.Services.{nameLength, paddingIn}

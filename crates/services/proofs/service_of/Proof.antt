@@ -1,3 +1,5 @@
+-- `services::service_of` meets its contract.
+-- Assumes nothing.
 use lib.ListN.{length-take}
 -- `services::service_of` meets its contract: no period stands in front of i.
 -- Assumes nothing.

@@ -3,7 +3,6 @@
 use native.Mathlib.Omega.{arith}
 use lib.ListN.{length-take}
 use Rattle.services.proofs.Lookup.{none-of-long, whole-of-short}
-use borrow.Author.Needs.{needs}
 use Rattle.services.proofs.whole_or_none.Statement.{statement}
 use Rattle.services.proofs.whole_or_none.Tie as tie
 

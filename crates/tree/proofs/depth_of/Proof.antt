@@ -1,3 +1,5 @@
+-- `tree::depth_of` meets its contract.
+-- Assumes nothing.
 use Rattle.tree.proofs.Depths.{climb-turn, climb-stop, climb-end}
 -- `tree::depth_of` meets its contract: what was climbed and what is still to climb is the depth.
 -- Assumes nothing.
