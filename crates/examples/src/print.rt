@@ -4,11 +4,11 @@ use message::Refusal;
 use reader::Frame;
 use reader::Reading;
 
-pub fn text(s: &[u8]) {
+pub(crate) fn text(s: &[u8]) {
     io::write_all(STDOUT_FILENO, s);
 }
 
-pub fn number(n: usize) {
+pub(crate) fn number(n: usize) {
     io::print_decimal(STDOUT_FILENO, n as u64);
 }
 
@@ -21,7 +21,7 @@ fn byte(x: u8) {
 }
 
 // Bytes with a space between them.
-pub fn bytes(s: &[u8]) {
+pub(crate) fn bytes(s: &[u8]) {
     let mut i = 0;
     while i < s.len() {
         if 0 < i {
@@ -32,7 +32,7 @@ pub fn bytes(s: &[u8]) {
     }
 }
 
-pub fn refused(r: Refusal) {
+pub(crate) fn refused(r: Refusal) {
     text(b"refused, ");
     number(message::number(r) as usize);
     text(b"\n");
@@ -62,7 +62,7 @@ fn frame(f: Frame) {
     text(b" bytes in all\n");
 }
 
-pub fn reading(r: Reading) {
+pub(crate) fn reading(r: Reading) {
     match r {
         Reading::Refused(x) => refused(x),
         Reading::Accepted(f) => frame(f),
