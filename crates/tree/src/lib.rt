@@ -1,6 +1,7 @@
 // The tree of brokers: the parent and the depth of a rank, the check of a tree, and the next broker on the way to a rank.
 use message::Refusal;
 ghost use mathlib.Core.Path.{_≡_};
+ghost use mathlib.Core.Bool.{true};
 ghost use Prim.Native.Nat.{_+_, _*_, _<_, _≤_};
 ghost use lib.ListN.{length};
 ghost use Rattle.tree.specs.Tree.{ranksIn, wholeTree, parentOf};
@@ -71,8 +72,8 @@ fn is_whole(tree: &[u8]) -> bool
 }
 
 // The depth of a rank, where `depths` has those of the ranks below it. A rank whose parent is among them needs no climb.
-fn depth_after(tree: &[u8], depths: &[u8; 1024], rank: u32) -> u8
-    requires { ⌜ (rank < 1024) × Shallow (now tree) (now depths) rank ⌝ }
+fn depth_after(tree: &[u8], depths: &[u8], rank: u32) -> u8
+    requires { ⌜ (rank ≤ length (now depths)) × Shallow (now tree) (now depths) rank ⌝ }
     ensures { λ d. ⌜ d ≡ depthOf (now (tree .entry)) rank ⌝ }
 {
     let parent = parent_of(tree, rank);
@@ -97,7 +98,7 @@ pub fn is_tree(tree: &[u8]) -> bool
     let mut depths = [0u8; 1024];
     let mut r: u32 = 0;
     while (r as usize) < n {
-        let d = depth_after(tree, &depths, r);
+        let d = depth_after(tree, &depths[..], r);
         if d > 16 {
             return false;
         }
@@ -109,13 +110,14 @@ pub fn is_tree(tree: &[u8]) -> bool
 
 // Writes the depths of all ranks to the front of a buffer with room for them.
 fn put_depths(tree: &[u8], depths: &mut [u8])
-    requires { ⌜ (ranksIn (now tree) ≤ length (now depths)) × (ranksIn (now tree) ≤ 1024) ⌝ }
+    requires { ⌜ (treeGood (now tree) ≡ true) × (ranksIn (now tree) ≤ length (now depths)) × (ranksIn (now tree) ≤ 1024) ⌝ }
     ensures { λ _. ⌜ now (depths .exit) ≡ laid (depthsOf (now (tree .entry))) (now (depths .entry)) ⌝ }
 {
     let n = ranks_in(tree);
     let mut rank: u32 = 0;
     while (rank as usize) < n {
-        depths[rank as usize] = depth_of(tree, rank);
+        let d = depth_after(tree, depths, rank);
+        depths[rank as usize] = d;
         rank += 1;
     }
 }

@@ -34,7 +34,7 @@ put-depths-requires : tie.Need-put-depths-requires
 put-depths-requires c κs =
     let args = c .before .before .before .before .before .before .before .args in
     let right = sym (c .before .before .before .before .is-tree .ensures) ∙ not-false _ (c .before .before .before .if1 .left) in
-    (omega (arith, c .before .before .ranks-in .ensures), whole-few (args .tree .now) (good-whole (args .tree .now) right))
+    (right, omega (arith, c .before .before .ranks-in .ensures), whole-few (args .tree .now) (good-whole (args .tree .now) right))
 
 same-length : tie.Need-same-length
 same-length c = search needs

@@ -14,29 +14,29 @@ parent-of-requires c κs = search needs
 cast-result : tie.Need-cast-result
 cast-result c = search needs
 
-element-copy-out-result : tie.Need-element-copy-out-result
-element-copy-out-result c = search needs
+shared-slice-read-result : tie.Need-shared-slice-read-result
+shared-slice-read-result c = search needs
 
 add-result : tie.Need-add-result
 add-result c =
-    let args = c .before .before .before .before .args in
+    let args = c .before .before .before .before .before .args in
     let parent = c .before .before .parent-of .result in
-    omega (arith, c .before .before .before .before .pre .1 .right parent (c .before .if1 .taken), c .before .before .before .before .pre .1 .most parent (c .before .if1 .taken))
+    omega (arith, c .before .before .before .before .before .pre .1 .right parent (c .before .if1 .taken), c .before .before .before .before .before .pre .1 .most parent (c .before .if1 .taken))
 
 depth-of-requires : tie.Need-depth-of-requires
 depth-of-requires c κs = search needs
 
 returns : tie.Need-returns
 returns c =
-    let args = c .before .before .before .before .args in
+    let args = c .before .before .before .before .before .args in
     let tree = args .tree .now in
     let is = c .before .before .parent-of .ensures in
     let inside : parentOf tree (args .rank) < args .rank = rw (← is) (c .before .if1 .taken) in
     rw is
     (omega (
       arith,
-      c .before .before .before .before .pre .1 .right (parentOf tree (args .rank)) inside,
-      depth-next tree (args .rank) (λ e. absurd (omega arith)) (c .before .before .before .before .pre .1 .most (parentOf tree (args .rank)) inside),
+      c .before .before .before .before .before .pre .1 .right (parentOf tree (args .rank)) inside,
+      depth-next tree (args .rank) (λ e. absurd (omega arith)) (c .before .before .before .before .before .pre .1 .most (parentOf tree (args .rank)) inside),
     ))
 
 returns-2 : tie.Need-returns-2
@@ -48,7 +48,7 @@ depth-after-spec =
     (tie.spec
     parent-of-requires
     cast-result
-    element-copy-out-result
+    shared-slice-read-result
     add-result
     depth-of-requires
     returns

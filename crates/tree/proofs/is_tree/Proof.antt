@@ -43,6 +43,9 @@ loop-holds c =
 cast-loop : tie.Need-cast-loop Inv-loop μ-loop
 cast-loop c = omega arith
 
+slice-aggregate-depth-after : tie.Need-slice-aggregate-depth-after Inv-loop μ-loop
+slice-aggregate-depth-after c = sym (c .before .before .loop .inv .3)
+
 depth-after-requires : tie.Need-depth-after-requires Inv-loop μ-loop
 depth-after-requires c κs = (omega arith, c .before .before .loop .inv .4)
 
@@ -97,6 +100,7 @@ is-tree-spec =
     ranks-in-requires
     loop-holds
     cast-loop
+    slice-aggregate-depth-after
     depth-after-requires
     returns-3
     cast-depths
