@@ -3,4 +3,4 @@ pub mod Numbers
 pub mod Buffers
 pub mod Laying
 pub mod Rows
-pub mod Copying
+pub mod Copied

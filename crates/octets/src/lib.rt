@@ -4,7 +4,9 @@ ghost use mathlib.Core.List.{_∷_, []};
 ghost use Prim.Native.Nat.{_≤_};
 ghost use lib.ListN.{length};
 ghost use Rattle.octets.specs.Number.{number, four, rowBytes};
-ghost use Rattle.octets.specs.Laid.{laid, laidIfRoom};
+ghost use Rattle.octets.specs.Laid.{laidIfRoom};
+
+mod copying;
 
 // A byte as a wider number. A call of its own, so that a byte read from a slice carries its range along.
 pub fn wide(x: u8) -> u32
@@ -32,38 +34,16 @@ pub fn put_number(out: &mut [u8], n: usize)
     }
 }
 
-// Copies a block of at most 32,768 bytes. It goes through an array of its own: as no slice can overlap that, the compiler makes one
-// move of memory of the two loops and of the array nothing, where a loop from slice to slice stays a loop.
-fn copy_block(src: &[u8], dst: &mut [u8])
-    requires { ⌜ (length (now src) ≤ 32768) × (length (now src) ≤ length (now dst)) ⌝ }
-    ensures { λ _. ⌜ now (dst .exit) ≡ laid (now (src .entry)) (now (dst .entry)) ⌝ }
-{
-    let n = src.len();
-    let mut held = [0u8; 32768];
-    let mut i = 0;
-    while i < n {
-        held[i] = src[i];
-        i += 1;
-    }
-    let mut j = 0;
-    while j < n {
-        dst[j] = held[j];
-        j += 1;
-    }
-}
-
 // Copies src to the front of dst, if there is room for it.
 pub fn copy(src: &[u8], dst: &mut [u8])
     ensures { λ _. ⌜ now (dst .exit) ≡ laidIfRoom (now (src .entry)) (now (dst .entry)) ⌝ }
 {
     if src.len() <= dst.len() {
-        let mut at = 0;
-        while 32768 < src.len() - at {
-            let end = at + 32768;
-            copy_block(&src[at..end], &mut dst[at..]);
-            at = end;
+        if src.len() <= 64 {
+            copying::copy_short(src, dst);
+        } else {
+            copying::copy_long(src, dst);
         }
-        copy_block(&src[at..], &mut dst[at..]);
     }
 }
 
