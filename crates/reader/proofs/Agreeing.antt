@@ -18,10 +18,10 @@ use Rattle.message.proofs.Lists.{front-final}
 use Rattle.octets.specs.Number.{Bytes}
 use Rattle.message.proofs.Parts.{split}
 use Rattle.message.proofs.Headers.{header-tested}
-use Rattle.reader.specs.declared.walk.Walked.{Walked}
-use Rattle.reader.specs.Walk.{nextEmpty}
+use Rattle.parts.specs.declared.walk.Walked.{Walked}
+use Rattle.parts.specs.Walk.{nextEmpty}
 use Rattle.reader.specs.Judging.{partsFound, Headed, Sorted}
-use Rattle.reader.proofs.Passing.{empty-snoc, before-few}
+use Rattle.parts.proofs.Passing.{empty-snoc, before-few}
 
 -- ---- on numbers: n parts in front of the header, e of them in front of the first empty one; found is what the walk says of all parts
 

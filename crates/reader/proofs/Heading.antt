@@ -19,11 +19,11 @@ use Rattle.message.specs.Frame.{partBytes, joined}
 use Rattle.message.specs.Reading.{partsIn, front, final, beforeEmpty, judgedAs, judged}
 use Rattle.message.proofs.Lists.{front-final}
 use Rattle.message.proofs.Parts.{split, part-short, part-long}
-use Rattle.reader.specs.declared.walk.Walked.{Walked}
-use Rattle.reader.specs.declared.walk.Walk.the-variants.{Refused, Counted}
+use Rattle.parts.specs.declared.walk.Walked.{Walked}
+use Rattle.parts.specs.declared.walk.Walk.the-variants.{Refused, Counted}
 use Rattle.reader.specs.declared.header.Head.the-variants.{Wrong, Fields}
 use Rattle.reader.specs.Places.{headAs}
-use Rattle.reader.specs.Walk.{walkedAs}
+use Rattle.parts.specs.Walk.{walkedAs}
 use Rattle.reader.specs.Judging.{partsFound, Found, Headed}
 use Rattle.reader.proofs.Cursors.{joined-append}
 

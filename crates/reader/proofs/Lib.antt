@@ -1,6 +1,4 @@
 -- Laws about this crate's definitions.
-pub mod Sizes
-pub mod Passing
 pub mod Heads
 pub mod Stretches
 pub mod Routing

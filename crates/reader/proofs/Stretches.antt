@@ -15,7 +15,7 @@ use Rattle.message.proofs.Lists.{Each}
 use Rattle.message.proofs.Parts.{Sized, split, part-short, part-long}
 use Rattle.reader.specs.declared.Stretch.{Stretch}
 use Rattle.reader.specs.declared.judge.Piece.{Piece}
-use Rattle.reader.proofs.Passing.{part-from}
+use Rattle.parts.proofs.Passing.{part-from}
 use Rattle.reader.proofs.Heads.{number-at, NumberAt}
 use Rattle.reader.specs.Judging.{partsFound, Found, HasSize, stretchAt, pieceAt}
 

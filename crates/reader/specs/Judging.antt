@@ -16,7 +16,7 @@ use Rattle.message.specs.Reading.{partsIn, front, final, beforeEmpty, routesIn,
 use Rattle.reader.specs.declared.Stretch.{Stretch}
 use Rattle.reader.specs.declared.Frame.{Frame}
 use Rattle.reader.specs.Places.{stretchIf}
-use Rattle.reader.specs.declared.walk.Walked.{Walked}
+use Rattle.parts.specs.declared.walk.Walked.{Walked}
 use Rattle.reader.specs.declared.judge.Piece.{Piece}
 
 -- the parts of bytes that are known to have some, and that they are known to

@@ -1,4 +1,3 @@
 -- What the clauses of this crate's functions cite.
-pub mod Walk
 pub mod Places
 pub mod Judging

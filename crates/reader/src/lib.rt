@@ -10,8 +10,6 @@ ghost use Rattle.reader.specs.Places.{readAs};
 
 mod header;
 mod judge;
-mod size;
-mod walk;
 
 // Where bytes lie, counted from the frame's front. Both are 0 where the part is absent.
 pub struct Stretch {

@@ -1,15 +1,15 @@
--- `reader::walk::count_parts` meets its contract.
+-- `parts::walk::count_parts` meets its contract.
 -- Assumes nothing.
 use native.Mathlib.Omega.{arith}
 use mathlib.Core.Path.{_≡_, sym, ap, _∙_, subst}
 use Prim.Native.Nat.{ℕ, _+_, _-_}
 use lib.ListN.{drop}
 use borrow.Author.Needs.{needs}
-use Rattle.reader.proofs.Passing.{Passed, passed-none, passed-all, passed-many, passed-wrong, passed-more, part-from, empty-few}
-use Rattle.reader.specs.Walk.{sizeAt}
+use Rattle.parts.proofs.Passing.{Passed, passed-none, passed-all, passed-many, passed-wrong, passed-more, part-from, empty-few}
+use Rattle.parts.specs.Walk.{sizeAt}
 use Rattle.octets.proofs.Numbers.{bytes-of}
-use Rattle.reader.proofs.walk.count_parts.Statement.{statement}
-use Rattle.reader.proofs.walk.count_parts.Tie as tie
+use Rattle.parts.proofs.walk.count_parts.Statement.{statement}
+use Rattle.parts.proofs.walk.count_parts.Tie as tie
 
 abbrev Inv-loop : tie.InvT-loop
 Inv-loop body at₀ count₀ empty₀ last₀ at count empty last = Passed body at count empty last

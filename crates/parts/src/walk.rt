@@ -4,18 +4,17 @@ use crate::size::size_at;
 use message::Refusal;
 ghost use mathlib.Core.Path.{_≡_};
 ghost use Prim.Native.Nat.{_<_, _≤_};
-ghost use lib.ListN.{length};
 ghost use Rattle.message.specs.Reading.{partsIn};
-ghost use Rattle.reader.specs.Walk.{walkedAs, nextEmpty};
+ghost use Rattle.parts.specs.Walk.{walkedAs, nextEmpty};
 
 // How many parts there are, how many of them stand in front of the first empty one, and where the last one's size stands.
-pub(crate) struct Walked {
-    pub(crate) count: usize,
-    pub(crate) empty: usize,
-    pub(crate) last: usize,
+pub struct Walked {
+    pub count: usize,
+    pub empty: usize,
+    pub last: usize,
 }
 
-pub(crate) enum Walk {
+pub enum Walk {
     Refused(Refusal),
     Counted(Walked),
 }
@@ -33,8 +32,7 @@ fn next_empty(count: usize, empty: usize, len: usize) -> usize
 }
 
 // The parts of a body, counted as they come. A 69th is refused before its size is read.
-pub(crate) fn count_parts(body: &[u8]) -> Walk
-    requires { ⌜ length (now body) ≤ 32768 ⌝ }
+pub fn count_parts(body: &[u8]) -> Walk
     ensures { λ r. ⌜ r ≡ walkedAs (partsIn 68 (now (body .entry))) ⌝ }
 {
     let mut at: usize = 0;

@@ -7,10 +7,10 @@ use lib.ListN.{length}
 use Rattle.message.specs.Answer.{Answer, refused, answered}
 use Rattle.message.specs.Frame.{sizeBytes, joined}
 use Rattle.message.specs.Reading.{firstPart, front, beforeEmpty}
-use Rattle.reader.specs.declared.size.Size.{Size}
-use Rattle.reader.specs.declared.size.Size.the-variants.{Wrong, Data}
-use Rattle.reader.specs.declared.walk.Walk.{Walk}
-use Rattle.reader.specs.declared.walk.Walk.the-variants.{Refused, Counted}
+use Rattle.parts.specs.declared.size.Size.{Size}
+use Rattle.parts.specs.declared.size.Size.the-variants.{Wrong, Data}
+use Rattle.parts.specs.declared.walk.Walk.{Walk}
+use Rattle.parts.specs.declared.walk.Walk.the-variants.{Refused, Counted}
 
 -- a part that was cut: its data starts behind its size
 abbrev pub sizedAs : Answer (List ℕ × List ℕ) → Size

@@ -1,12 +1,12 @@
--- `reader::size::size_at` meets its contract.
+-- `parts::size::size_at` meets its contract.
 -- Assumes nothing.
 use borrow.Author.Needs.{needs}
 use native.Mathlib.Omega.{arith}
 use mathlib.Core.Path.{ap, _∙_}
-use Rattle.reader.proofs.Sizes.{size-none, size-short-passes, size-short, size-cut, size-small, size-long-passes, size-long}
-use Rattle.reader.specs.declared.size.Size.the-variants.{Data}
-use Rattle.reader.proofs.size.size_at.Statement.{statement}
-use Rattle.reader.proofs.size.size_at.Tie as tie
+use Rattle.parts.proofs.Sizes.{size-none, size-short-passes, size-short, size-cut, size-small, size-long-passes, size-long}
+use Rattle.parts.specs.declared.size.Size.the-variants.{Data}
+use Rattle.parts.proofs.size.size_at.Statement.{statement}
+use Rattle.parts.proofs.size.size_at.Tie as tie
 
 returns : tie.Need-returns
 returns c = size-none (c .before .before .args .s .now) (c .if1 .taken)

@@ -1,15 +1,15 @@
 // The size in front of a part.
 ghost use mathlib.Core.Path.{_≡_};
-ghost use Rattle.reader.specs.Walk.{sizeAt};
+ghost use Rattle.parts.specs.Walk.{sizeAt};
 
 // Where a part's data starts, counted from its size byte, and how many bytes it has; or its size is wrong.
-pub(crate) enum Size {
+pub enum Size {
     Wrong,
     Data(usize, usize),
 }
 
 // The size of the part that begins s.
-pub(crate) fn size_at(s: &[u8]) -> Size
+pub fn size_at(s: &[u8]) -> Size
     ensures { λ r. ⌜ r ≡ sizeAt (now (s .entry)) ⌝ }
 {
     if s.len() == 0 {

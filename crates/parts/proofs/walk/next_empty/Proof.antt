@@ -1,9 +1,9 @@
--- `reader::walk::next_empty` meets its contract.
+-- `parts::walk::next_empty` meets its contract.
 -- Assumes nothing.
 use borrow.Author.Needs.{needs}
 use borrow.Author.Tests.{eq-eqb, ne-eqb}
-use Rattle.reader.proofs.walk.next_empty.Statement.{statement}
-use Rattle.reader.proofs.walk.next_empty.Tie as tie
+use Rattle.parts.proofs.walk.next_empty.Statement.{statement}
+use Rattle.parts.proofs.walk.next_empty.Tie as tie
 
 add-result : tie.Need-add-result
 add-result c = search needs

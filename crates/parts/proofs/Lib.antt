@@ -1,0 +1,3 @@
+-- Laws about this crate's definitions.
+pub mod Sizes
+pub mod Passing
