@@ -1,12 +1,13 @@
 -- 7 and 8, by the counts of the walk.
 -- Assumes nothing.
 use mathlib.Core.Path.{_≡_, refl, sym, ap, _∙_}
-use mathlib.Core.Bool.{Bool, true, false, cond}
+use mathlib.Core.Bool.{Bool, true, false, cond, _&&_}
 use Prim.Native.Nat.{ℕ, suc, _+_, _<_, _≤_}
 use mathlib.Core.List.{List, [], _∷_, _++_}
 use native.Mathlib.Omega.{arith}
 use native.Mathlib.Decide.{ℕ-discrete}
-use borrow.Author.Tests.{eq-eqb, ne-eqb, le-leb, lt-leb}
+use lib.Dec.{eqb}
+use borrow.Author.Tests.{eq-eqb, ne-eqb, eqb-true, le-leb, lt-leb}
 use lib.ListN.{length, take, length-append}
 use lib.Seq.{take-append-le}
 use Rattle.message.specs.declared.Header.{Header}
@@ -14,14 +15,23 @@ use Rattle.message.specs.Count.{one}
 use Rattle.message.specs.Header.{hasTopic, hasPayload, hasRoute, partsFit}
 use Rattle.message.specs.Writing.{allRoutes, routesGood}
 use Rattle.message.specs.Reading.{front, final, beforeEmpty, routesIn, topicPlace, payloadPlace, partsAgree}
+use Rattle.message.proofs.Answers.{and-right}
 use Rattle.message.proofs.Lists.{front-final}
 use Rattle.octets.specs.Number.{Bytes}
 use Rattle.message.proofs.Parts.{split}
 use Rattle.message.proofs.Headers.{header-tested}
 use Rattle.parts.specs.declared.walk.Walked.{Walked}
 use Rattle.parts.specs.Walk.{nextEmpty}
-use Rattle.reader.specs.Judging.{partsFound, Headed, Sorted}
+use Rattle.reader.specs.Judging.{partsFound, partsWanted, Headed, Sorted}
 use Rattle.parts.proofs.Passing.{empty-snoc, before-few}
+
+-- two tests that hold of the same numbers
+same-test : {a b c d : ℕ} → (a ≡ b → c ≡ d) → (c ≡ d → a ≡ b) → eqb a b ≡ eqb c d
+same-test {a} {b} {c} {d} to from = go (ℕ-discrete a b)
+  where
+    go : Dec (a ≡ b) → eqb a b ≡ eqb c d
+    go (yes e) = eq-eqb a b e ∙ sym (eq-eqb c d (to e))
+    go (no n) = ne-eqb a b n ∙ sym (ne-eqb c d (λ (e : c ≡ d). n (from e)))
 
 -- ---- on numbers: n parts in front of the header, e of them in front of the first empty one; found is what the walk says of all parts
 
@@ -122,57 +132,49 @@ module _ (body : List ℕ) (w : Walked) (h : Header) (d : Headed body w h) where
   unfolding payloadPlace topicPlace
   place-is = omega (arith, routes-long)
 
-  -- what the code compares
-  abbrev pub wanted : ℕ
-  wanted = cond r (w .empty) 0 + one r + one (hasTopic (h .flags)) + one (hasPayload (h .flags)) + 1
-
-  pub unfit-parts : partsFit h ≡ false → partsAgree h fr ≡ false
-  unfolding partsAgree
-  unfit-parts e = rw e
-
-  module _ (fit : partsFit h ≡ true) where
-    pub wrong-count : (w .count ≡ wanted → ⊥) → partsAgree h fr ≡ false
+  module _ (routes : ℕ) (k : routes ≡ cond r (w .empty) 0) where
+    -- 7 is what the code compares
+    pub agree-tested : partsAgree h fr ≡ (partsFit h && eqb (w .count) (partsWanted (h .flags) routes))
     unfolding partsAgree
-    wrong-count n =
-        rw (fit, ne-eqb (length fr) (payloadPlace h fr + one (hasPayload (h .flags))) (λ (e : length fr ≡ payloadPlace h fr + one (hasPayload (h .flags))). n (omega (arith, count-is, counts .wrong (omega (arith, place-is))))))
+    agree-tested =
+        let place = payloadPlace h fr + one (hasPayload (h .flags)) in
+        let wanted = partsWanted (h .flags) routes in
+        let to : length fr ≡ place → w .count ≡ wanted = λ e. omega (arith, count-is, counts .wrong (omega (arith, place-is))) in
+        let from : w .count ≡ wanted → length fr ≡ place = λ e. omega (arith, place-is, counts .right (omega (arith, count-is)) .0) in
+        ap (λ (t : Bool). partsFit h && t) (same-test to from)
 
-    module _ (e : w .count ≡ wanted) where
+    module _ (agree : partsAgree h fr ≡ true) where
       both : (length fr ≡ cond r (length (beforeEmpty fr)) 0 + one r + others) × (cond r (w .empty) 0 ≡ cond r (length (beforeEmpty fr)) 0)
-      both = counts .right (omega (arith, count-is))
+      both = counts .right (omega (arith, count-is, eqb-true (w .count) (partsWanted (h .flags) routes) (and-right (partsFit h) (eqb (w .count) (partsWanted (h .flags) routes)) (sym agree-tested ∙ agree))))
 
-      pub right-count : partsAgree h fr ≡ true
-      unfolding partsAgree
-      right-count = rw (fit) (eq-eqb (length fr) (payloadPlace h fr + one (hasPayload (h .flags))) (omega (arith, both .0, place-is)))
+      pub routes-is : routes ≡ length (routesIn h fr)
+      routes-is = omega (arith, both .1, routes-long)
 
-      module _ (routes : ℕ) (k : routes ≡ cond r (w .empty) 0) where
-        pub routes-is : routes ≡ length (routesIn h fr)
-        routes-is = omega (arith, both .1, routes-long)
+      pub routes-in : routes ≤ length ps
+      routes-in = omega (arith, both .1, cond-few r fr, ap length two, length-append fr (final [] ps ∷ []))
 
-        pub routes-in : routes ≤ length ps
-        routes-in = omega (arith, both .1, cond-few r fr, ap length two, length-append fr (final [] ps ∷ []))
+      routes-are : take routes ps ≡ routesIn h fr
+      unfolding routesIn
+      routes-are =
+          ap (take routes) (sym two) ∙ take-append-le routes fr (final [] ps ∷ []) (omega (arith, both .1, cond-few r fr))
+          ∙ ap (λ (n : ℕ). take n fr) (k ∙ both .1) ∙ take-cond r fr
 
-        routes-are : take routes ps ≡ routesIn h fr
-        unfolding routesIn
-        routes-are =
-            ap (take routes) (sym two) ∙ take-append-le routes fr (final [] ps ∷ []) (omega (arith, both .1, cond-few r fr))
-            ∙ ap (λ (n : ℕ). take n fr) (k ∙ both .1) ∙ take-cond r fr
+      pub many-routes : 64 < routes → routesGood (routesIn h fr) ≡ false
+      unfolding routesGood
+      many-routes m = rw (lt-leb (length (routesIn h fr)) 64 (omega (arith, routes-is)))
 
-        pub many-routes : 64 < routes → routesGood (routesIn h fr) ≡ false
-        unfolding routesGood
-        many-routes m = rw (lt-leb (length (routesIn h fr)) 64 (omega (arith, routes-is)))
+      pub routes-tested : routes ≤ 64 → routesGood (routesIn h fr) ≡ allRoutes (take routes ps)
+      unfolding routesGood
+      routes-tested m = rw (le-leb (length (routesIn h fr)) 64 (omega (arith, routes-is)), routes-are)
 
-        pub routes-tested : routes ≤ 64 → routesGood (routesIn h fr) ≡ allRoutes (take routes ps)
-        unfolding routesGood
-        routes-tested m = rw (le-leb (length (routesIn h fr)) 64 (omega (arith, routes-is)), routes-are)
-
-        pub sorted : routes ≤ 64 → allRoutes (take routes ps) ≡ true → Sorted body h routes
-        sorted m a =
-            record {
-              found = d .found;
-              short = d .short;
-              headed = d .headed;
-              same = d .same;
-              agree = right-count;
-              count = routes-is;
-              good = routes-tested m ∙ a;
-            }
+      pub sorted : routes ≤ 64 → allRoutes (take routes ps) ≡ true → Sorted body h routes
+      sorted m a =
+          record {
+            found = d .found;
+            short = d .short;
+            headed = d .headed;
+            same = d .same;
+            agree = agree;
+            count = routes-is;
+            good = routes-tested m ∙ a;
+          }

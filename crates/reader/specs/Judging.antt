@@ -9,7 +9,7 @@ use Rattle.octets.specs.Number.{number}
 use Rattle.message.specs.declared.Header.{Header}
 use Rattle.message.specs.Answer.{Answer, refused, answered}
 use Rattle.message.specs.Count.{one}
-use Rattle.message.specs.Header.{hasTopic, hasPayload, headerIn, isHeader}
+use Rattle.message.specs.Header.{hasTopic, hasPayload, hasRoute, headerIn, isHeader}
 use Rattle.message.specs.Frame.{sizeBytes, partBytes}
 use Rattle.message.specs.Writing.{routesGood}
 use Rattle.message.specs.Reading.{partsIn, front, final, beforeEmpty, routesIn, partsAgree, isTopicPart}
@@ -78,6 +78,10 @@ placedAs size h routes topic payload =
       topic = stretchIf (hasTopic (h .flags)) (8 + topic .at) (topic .len - one (hasTopic (h .flags)));
       payload = stretchIf (hasPayload (h .flags)) (8 + payload .at) (payload .len);
     }
+
+-- 7, in numbers: the routes and their delimiter, topic and payload where they are flagged, and the header
+abbrev pub partsWanted : ℕ → ℕ → ℕ
+partsWanted flags routes = routes + one (hasRoute flags) + one (hasTopic flags) + one (hasPayload flags) + 1
 
 -- ---- the state of the judging
 

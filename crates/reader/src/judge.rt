@@ -2,6 +2,8 @@
 use crate::Frame;
 use crate::Reading;
 use crate::Stretch;
+use crate::agree::if_set;
+use crate::agree::parts_agree;
 use crate::header::Head;
 use crate::header::read_header;
 use message::Header;
@@ -10,7 +12,7 @@ use parts::walk::Walk;
 use parts::walk::Walked;
 use parts::walk::count_parts;
 ghost use mathlib.Core.Path.{_≡_};
-ghost use mathlib.Core.Bool.{true, cond};
+ghost use mathlib.Core.Bool.{true};
 ghost use Prim.Native.Nat.{_<_, _≤_};
 ghost use lib.ListN.{length, take, drop};
 ghost use Rattle.message.specs.Answer.{andThen};
@@ -24,13 +26,6 @@ struct Piece {
     at: usize,
     len: usize,
     next: usize,
-}
-
-// n where the flag is set, else 0.
-fn if_set(flag: bool, n: usize) -> usize
-    ensures { λ r. ⌜ r ≡ cond flag n 0 ⌝ }
-{
-    if flag { n } else { 0 }
 }
 
 // The data of the part that begins s, whose size is known to be right.
@@ -171,19 +166,14 @@ fn judge_rest(body: &[u8], h: Header, routes: usize) -> Reading
     }
 }
 
-// 7 and 8: whether the parts are those that type and flags ask for, and then the routes.
+// 7 and 8: whether the parts are those that type and flags ask for, and then the routes, which are the parts in front of the delimiter.
 fn judge_parts(body: &[u8], w: Walked, h: Header) -> Reading
     requires { ⌜ Headed (now body) w h ⌝ }
     ensures { λ r. ⌜ r ≡ readAs (judgedAs h (front (partsFound (now (body .entry))))) ⌝ }
 {
-    if !message::parts_fit(h) {
-        return Reading::Refused(Refusal::WrongParts);
-    }
-    let has_route = message::has_route(h.flags);
-    let routes = if_set(has_route, w.empty);
-    let topics = if_set(message::has_topic(h.flags), 1);
-    let payloads = if_set(message::has_payload(h.flags), 1);
-    if w.count != routes + if_set(has_route, 1) + topics + payloads + 1 {
+    let routes = if_set(message::has_route(h.flags), w.empty);
+    let agree = parts_agree(h, w.count, routes);
+    if !agree {
         return Reading::Refused(Refusal::WrongParts);
     }
     if 64 < routes {

@@ -8,6 +8,7 @@ ghost use lib.ListN.{length};
 ghost use Rattle.message.specs.Reading.{startsRight, readingOf};
 ghost use Rattle.reader.specs.Places.{readAs};
 
+mod agree;
 mod header;
 mod judge;
 
