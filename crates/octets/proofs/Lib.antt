@@ -3,4 +3,3 @@ pub mod Numbers
 pub mod Buffers
 pub mod Laying
 pub mod Rows
-pub mod Copied

@@ -1,12 +1,10 @@
-// Bytes: numbers of four bytes, and bytes copied to the front of a lent slice. Every public function is total.
+// Bytes: numbers of four bytes, read and written. Every public function is total.
 ghost use mathlib.Core.Path.{_≡_};
 ghost use mathlib.Core.List.{_∷_, []};
 ghost use Prim.Native.Nat.{_≤_};
 ghost use lib.ListN.{length};
 ghost use Rattle.octets.specs.Number.{number, four, rowBytes};
 ghost use Rattle.octets.specs.Laid.{laidIfRoom};
-
-mod copying;
 
 // A byte as a wider number. A call of its own, so that a byte read from a slice carries its range along.
 pub fn wide(x: u8) -> u32
@@ -31,19 +29,6 @@ pub fn put_number(out: &mut [u8], n: usize)
         out[1] = (n / 65536 % 256) as u8;
         out[2] = (n / 256 % 256) as u8;
         out[3] = (n % 256) as u8;
-    }
-}
-
-// Copies src to the front of dst, if there is room for it.
-pub fn copy(src: &[u8], dst: &mut [u8])
-    ensures { λ _. ⌜ now (dst .exit) ≡ laidIfRoom (now (src .entry)) (now (dst .entry)) ⌝ }
-{
-    if src.len() <= dst.len() {
-        if src.len() <= 64 {
-            copying::copy_short(src, dst);
-        } else {
-            copying::copy_long(src, dst);
-        }
     }
 }
 

@@ -32,7 +32,7 @@ fn write_part(out: &mut [u8], data: &[u8]) -> usize
     ensures { λ r. ⌜ Lays (partBytes (now («data» .entry))) (now (out .entry)) (now (out .exit)) r ⌝ }
 {
     let at = write_size(out, data.len());
-    octets::copy(data, &mut out[at..]);
+    copying::copy(data, &mut out[at..]);
     at + data.len()
 }
 
@@ -72,7 +72,7 @@ pub(crate) fn write_topic(out: &mut [u8], given: bool, topic: &[u8]) -> usize
 {
     if given {
         let at = write_size(out, topic.len() + 1);
-        octets::copy(topic, &mut out[at..]);
+        copying::copy(topic, &mut out[at..]);
         let end = at + topic.len();
         out[end] = 0;
         end + 1

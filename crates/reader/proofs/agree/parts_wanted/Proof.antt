@@ -7,7 +7,6 @@ use Prim.Native.Nat.{ℕ, _+_, _≤_}
 use Rattle.message.specs.Header.{hasTopic, hasPayload, hasRoute}
 use Rattle.message.specs.Count.{one}
 use Rattle.message.proofs.Counts.{one-le}
-use Rattle.reader.specs.Judging.{partsWanted}
 use Rattle.reader.proofs.agree.parts_wanted.Statement.{statement}
 use Rattle.reader.proofs.agree.parts_wanted.Tie as tie
 

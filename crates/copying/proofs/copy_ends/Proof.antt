@@ -1,14 +1,14 @@
--- `octets::copying::copy_ends` meets its contract.
+-- `copying::copy_ends` meets its contract.
 -- Assumes nothing.
 use native.Mathlib.Omega.{arith}
 use mathlib.Core.Path.{_≡_, _∙_}
 use Prim.Native.Nat.{_≤_, _-_}
-use lib.ListN.{length, take}
+use lib.ListN.{length}
 use lib.Seq.{length-take-le}
 use borrow.Author.Needs.{needs}
-use Rattle.octets.proofs.Copied.{Copied, copied-front, copied-length, copied-back, copied-behind, block-long, block-fits, copied-more, copied-all}
-use Rattle.octets.proofs.copying.copy_ends.Statement.{statement}
-use Rattle.octets.proofs.copying.copy_ends.Tie as tie
+use Rattle.copying.proofs.Copied.{Copied, copied-front, copied-length, copied-back, copied-behind, block-long, block-fits, copied-more, copied-all}
+use Rattle.copying.proofs.copy_ends.Statement.{statement}
+use Rattle.copying.proofs.copy_ends.Tie as tie
 
 -- the front is copied, the output is as long as it was, and the copy goes on from where the end begins
 module _ (c : tie.After-copy-block) where

@@ -1,13 +1,12 @@
--- `octets::copying::copy_long` meets its contract.
+-- `copying::copy_long` meets its contract.
 -- Assumes nothing.
 use native.Mathlib.Omega.{arith}
-use mathlib.Core.Path.{_≡_}
 use Prim.Native.Nat.{_+_, _-_, _≤_}
 use lib.ListN.{length}
 use borrow.Author.Needs.{needs}
-use Rattle.octets.proofs.Copied.{Copied, copied-none, copied-length, block-long, block-fits, copied-more, copied-all}
-use Rattle.octets.proofs.copying.copy_long.Statement.{statement}
-use Rattle.octets.proofs.copying.copy_long.Tie as tie
+use Rattle.copying.proofs.Copied.{Copied, copied-none, copied-length, block-long, block-fits, copied-more, copied-all}
+use Rattle.copying.proofs.copy_long.Statement.{statement}
+use Rattle.copying.proofs.copy_long.Tie as tie
 
 abbrev Inv-loop : tie.InvT-loop
 Inv-loop src dst₀ at₀ dst at = Copied src dst₀ dst at

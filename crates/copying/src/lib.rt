@@ -1,8 +1,8 @@
-// How bytes are copied: a short run by two moves of a fixed width, a long one block by block.
+// Bytes copied to the front of a lent slice: a short run by two moves of a fixed width, a long one block by block.
 ghost use mathlib.Core.Path.{_≡_};
 ghost use Prim.Native.Nat.{_+_, _≤_};
 ghost use lib.ListN.{length};
-ghost use Rattle.octets.specs.Laid.{laid};
+ghost use Rattle.octets.specs.Laid.{laid, laidIfRoom};
 
 // Copies a block of at most 32,768 bytes. It goes through an array of its own: as no slice can overlap that, the compiler makes one
 // move of memory of the two loops and of the array nothing, where a loop from slice to slice stays a loop.
@@ -37,7 +37,7 @@ fn copy_ends(src: &[u8], dst: &mut [u8], width: usize)
 }
 
 // Copies at most 64 bytes.
-pub(crate) fn copy_short(src: &[u8], dst: &mut [u8])
+fn copy_short(src: &[u8], dst: &mut [u8])
     requires { ⌜ (length (now src) ≤ 64) × (length (now src) ≤ length (now dst)) ⌝ }
     ensures { λ _. ⌜ now (dst .exit) ≡ laid (now (src .entry)) (now (dst .entry)) ⌝ }
 {
@@ -56,7 +56,7 @@ pub(crate) fn copy_short(src: &[u8], dst: &mut [u8])
 }
 
 // Copies any number of bytes, block by block.
-pub(crate) fn copy_long(src: &[u8], dst: &mut [u8])
+fn copy_long(src: &[u8], dst: &mut [u8])
     requires { ⌜ length (now src) ≤ length (now dst) ⌝ }
     ensures { λ _. ⌜ now (dst .exit) ≡ laid (now (src .entry)) (now (dst .entry)) ⌝ }
 {
@@ -67,4 +67,17 @@ pub(crate) fn copy_long(src: &[u8], dst: &mut [u8])
         at = end;
     }
     copy_block(&src[at..], &mut dst[at..]);
+}
+
+// Copies src to the front of dst, if there is room for it.
+pub fn copy(src: &[u8], dst: &mut [u8])
+    ensures { λ _. ⌜ now (dst .exit) ≡ laidIfRoom (now (src .entry)) (now (dst .entry)) ⌝ }
+{
+    if src.len() <= dst.len() {
+        if src.len() <= 64 {
+            copy_short(src, dst);
+        } else {
+            copy_long(src, dst);
+        }
+    }
 }

@@ -1,11 +1,11 @@
--- `octets::copy` meets its contract.
+-- `copying::copy` meets its contract.
 -- Assumes nothing.
 use native.Mathlib.Omega.{arith}
 use mathlib.Core.Path.{sym, _∙_}
 use borrow.Author.Needs.{needs}
 use Rattle.octets.proofs.Buffers.{laid-room, laid-none}
-use Rattle.octets.proofs.copy.Statement.{statement}
-use Rattle.octets.proofs.copy.Tie as tie
+use Rattle.copying.proofs.copy.Statement.{statement}
+use Rattle.copying.proofs.copy.Tie as tie
 
 copy-short-requires : tie.Need-copy-short-requires
 copy-short-requires c κs = search needs

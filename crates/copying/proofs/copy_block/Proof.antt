@@ -1,4 +1,4 @@
--- `octets::copying::copy_block` meets its contract.
+-- `copying::copy_block` meets its contract.
 -- Assumes nothing.
 use native.Mathlib.Omega.{arith}
 use mathlib.Core.Path.{_≡_, refl, sym, ap, _∙_}
@@ -7,9 +7,9 @@ use Prim.Native.Nat.{ℕ, _≤_, _-_}
 use borrow.Author.Needs.{needs}
 use lib.ListN.{length, take, drop, length-set}
 use lib.Seq.{take-length}
-use Rattle.octets.proofs.Buffers.{copy-more, held-more, held-at}
-use Rattle.octets.proofs.copying.copy_block.Statement.{statement}
-use Rattle.octets.proofs.copying.copy_block.Tie as tie
+use Rattle.copying.proofs.Held.{copy-more, held-more, held-at}
+use Rattle.copying.proofs.copy_block.Statement.{statement}
+use Rattle.copying.proofs.copy_block.Tie as tie
 
 abbrev Inv-loop : tie.InvT-loop
 Inv-loop src dst n held₀ i₀ held i = (i ≤ n) × (length held ≡ 32768) × (take i held ≡ take i src)
