@@ -2,12 +2,13 @@
 -- Assumes nothing.
 use native.Mathlib.Omega.{arith}
 use mathlib.Core.Path.{_≡_, sym, ap, _∙_, subst}
+use mathlib.Core.List.{List}
 use Prim.Native.Nat.{ℕ, _+_, _-_}
-use lib.ListN.{drop}
+use lib.ListN.{length, drop}
 use borrow.Author.Needs.{needs}
+use Rattle.octets.proofs.Numbers.{bytes-of}
 use Rattle.parts.proofs.Passing.{Passed, passed-none, passed-all, passed-many, passed-wrong, passed-more, part-from, empty-few}
 use Rattle.parts.specs.Walk.{sizeAt}
-use Rattle.octets.proofs.Numbers.{bytes-of}
 use Rattle.parts.proofs.walk.count_parts.Statement.{statement}
 use Rattle.parts.proofs.walk.count_parts.Tie as tie
 
@@ -17,17 +18,36 @@ Inv-loop body at₀ count₀ empty₀ last₀ at count empty last = Passed body 
 abbrev μ-loop : tie.MeasureT-loop
 μ-loop body at₀ count₀ empty₀ last₀ at count empty last = 68 - count
 
--- what is known of the size that was found, of the bytes that are left
-found : (c : tie.After-size-at Inv-loop μ-loop) → c .size-at .result ≡ sizeAt (drop (c .before .before .before .before .loop .at) (c .before .before .before .before .before .before .args .body .now))
-found c = c .size-at .ensures ∙ ap sizeAt (part-from (c .before .before .before .before .before .before .args .body .now) (c .before .before .before .before .loop .at))
+-- the turn in which a size was read
+abbrev turn : tie.After-size-at Inv-loop μ-loop → tie.At-loop Inv-loop μ-loop
+turn c = c .before .before .before .before
+
+abbrev bodyOf : tie.At-loop Inv-loop μ-loop → List ℕ
+bodyOf h = h .before .before .args .body .now
+
+-- it was read of the bytes that are left
+found : (c : tie.After-size-at Inv-loop μ-loop) → c .size-at .result ≡ sizeAt (drop (turn c .loop .at) (bodyOf (turn c)))
+found c = c .size-at .ensures ∙ ap sizeAt (part-from (bodyOf (turn c)) (turn c .loop .at))
 
 -- the parts passed after one more
-more : (c : tie.After-next-empty Inv-loop μ-loop) → Inv-loop (c .before .before .before .before .before .before .before .before .before .before .args .body .now) 0 0 0 0 (c .before .before .before .before .before .before .before .before .loop .at + c .before .before .size .given .0 .0 + c .before .before .size .given .0 .1 .0) (c .before .before .before .before .before .before .before .before .loop .count + 1) (c .next-empty .result) (c .before .before .before .before .before .before .before .before .loop .at)
-more c = let v = c .before .before .before .before .before .before .before .before .loop in
-    let body = c .before .before .before .before .before .before .before .before .before .before .args .body .now in
-    let size = c .before .before .size .given in
-    subst (λ (e : ℕ). Passed body (v .at + size .0 .0 + size .0 .1 .0) (v .count + 1) e (v .at)) (sym (c .next-empty .ensures))
-    (passed-more body (v .at) (v .count) (v .empty) (v .last) (v .inv) (c .before .before .before .before .before .before .before .if1 .left) (c .before .before .before .before .before .before .if2 .left) (bytes-of body (λ i. c .before .before .before .before .before .before .before .before .before .shared-slice-known .given i .fits)) (size .0 .0) (size .0 .1 .0) (sym (size .1) ∙ found (c .before .before .before .before)))
+module _ (c : tie.After-next-empty Inv-loop μ-loop) where
+  abbrev sized : tie.After-size-at Inv-loop μ-loop
+  sized = c .before .before .before .before
+
+  abbrev start : ℕ
+  start = c .before .before .size .given .0 .0
+
+  abbrev len : ℕ
+  len = c .before .before .size .given .0 .1 .0
+
+  more : Passed (bodyOf (turn sized)) (turn sized .loop .at + start + len) (turn sized .loop .count + 1) (c .next-empty .result) (turn sized .loop .at)
+  more =
+      let v = turn sized .loop in
+      let bytes = bytes-of (bodyOf (turn sized)) (λ i. turn sized .before .shared-slice-known .given i .fits) in
+      let room : v .count ≡ 68 → ⊥ = search needs in
+      let left : v .at ≡ length (bodyOf (turn sized)) → ⊥ = search needs in
+      subst (λ (e : ℕ). Passed (bodyOf (turn sized)) (v .at + start + len) (v .count + 1) e (v .at)) (sym (c .next-empty .ensures))
+      (passed-more (bodyOf (turn sized)) (v .at) (v .count) (v .empty) (v .last) (v .inv) left room bytes start len (sym (c .before .before .size .given .1) ∙ found sized))
 
 loop-holds : tie.Need-loop-holds Inv-loop μ-loop
 loop-holds c = passed-none (c .before .args .body .now)
@@ -51,10 +71,11 @@ enum-known-size : tie.Need-enum-known-size Inv-loop μ-loop
 enum-known-size c = search needs
 
 next-empty-requires : tie.Need-next-empty-requires Inv-loop μ-loop
-next-empty-requires c κs = (empty-few _ _ _ _ _ (c .before .before .before .before .before .before .before .loop .inv), omega (arith, c .before .before .before .before .before .before .before .loop .inv .few))
+next-empty-requires c κs = let v = c .before .before .before .before .before .before .before .loop in
+    (empty-few _ _ _ _ _ (v .inv), omega (arith, v .inv .few))
 
 add-count : tie.Need-add-count Inv-loop μ-loop
-add-count c = omega (arith, c .before .before .before .before .before .before .before .before .loop .inv .few)
+add-count c = omega (arith, turn (sized c) .loop .inv .few)
 
 add-at : tie.Need-add-at Inv-loop μ-loop
 add-at c = omega (arith, more c .within)
@@ -63,19 +84,24 @@ add-at-2 : tie.Need-add-at-2 Inv-loop μ-loop
 add-at-2 c = omega (arith, more c .within)
 
 loop-less : tie.Need-loop-less Inv-loop μ-loop
-loop-less c = omega (arith, c .before .before .before .before .before .before .before .before .loop .inv .few)
+loop-less c = omega (arith, turn (sized c) .loop .inv .few)
 
 loop-again : tie.Need-loop-again Inv-loop μ-loop
 loop-again c = more c
 
 returns : tie.Need-returns Inv-loop μ-loop
-returns c = let v = c .before .loop in passed-all (c .before .before .before .args .body .now) (v .at) (v .count) (v .empty) (v .last) (v .inv) (c .if1 .taken)
+returns c = let h = c .before in
+    passed-all (bodyOf h) _ _ _ _ (h .loop .inv) (c .if1 .taken)
 
 returns-2 : tie.Need-returns-2 Inv-loop μ-loop
-returns-2 c = let v = c .before .before .loop in passed-many (c .before .before .before .before .args .body .now) (v .at) (v .count) (v .empty) (v .last) (v .inv) (c .before .if1 .left) (c .if2 .taken)
+returns-2 c = let h = c .before .before in
+    passed-many (bodyOf h) _ _ _ _ (h .loop .inv) (c .before .if1 .left) (c .if2 .taken)
 
 returns-3 : tie.Need-returns-3 Inv-loop μ-loop
-returns-3 c = let v = c .before .before .before .before .before .before .loop in passed-wrong (c .before .before .before .before .before .before .before .before .args .body .now) (v .at) (v .count) (v .empty) (v .last) (v .inv) (c .before .before .before .before .before .if1 .left) (c .before .before .before .before .if2 .left) (sym (c .enum-told .given .1) ∙ found (c .before .before))
+returns-3 c = let h = turn (c .before .before) in
+    let left : h .loop .at ≡ length (bodyOf h) → ⊥ = search needs in
+    let room : h .loop .count ≡ 68 → ⊥ = search needs in
+    passed-wrong (bodyOf h) _ _ _ _ (h .loop .inv) left room (sym (c .enum-told .given .1) ∙ found (c .before .before))
 
 pub count-parts-spec : {M : Type 1} → statement M
 count-parts-spec =
