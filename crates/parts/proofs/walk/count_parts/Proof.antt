@@ -31,14 +31,17 @@ found c = c .size-at .ensures ∙ ap sizeAt (part-from (bodyOf (turn c)) (turn c
 
 -- the parts passed after one more
 module _ (c : tie.After-next-empty Inv-loop μ-loop) where
+  abbrev part : tie.After-size Inv-loop μ-loop
+  part = c .before .before
+
   abbrev sized : tie.After-size-at Inv-loop μ-loop
-  sized = c .before .before .before .before
+  sized = part .before .before
 
   abbrev start : ℕ
-  start = c .before .before .size .given .0 .0
+  start = part .size .given .0 .0
 
   abbrev len : ℕ
-  len = c .before .before .size .given .0 .1 .0
+  len = part .size .given .0 .1 .0
 
   more : Passed (bodyOf (turn sized)) (turn sized .loop .at + start + len) (turn sized .loop .count + 1) (c .next-empty .result) (turn sized .loop .at)
   more =
@@ -47,16 +50,16 @@ module _ (c : tie.After-next-empty Inv-loop μ-loop) where
       let room : v .count ≡ 68 → ⊥ = search needs in
       let left : v .at ≡ length (bodyOf (turn sized)) → ⊥ = search needs in
       subst (λ (e : ℕ). Passed (bodyOf (turn sized)) (v .at + start + len) (v .count + 1) e (v .at)) (sym (c .next-empty .ensures))
-      (passed-more (bodyOf (turn sized)) (v .at) (v .count) (v .empty) (v .last) (v .inv) left room bytes start len (sym (c .before .before .size .given .1) ∙ found sized))
+      (passed-more (bodyOf (turn sized)) (v .at) (v .count) (v .empty) (v .last) (v .inv) left room bytes start len (sym (part .size .given .1) ∙ found sized))
 
 loop-holds : tie.Need-loop-holds Inv-loop μ-loop
 loop-holds c = passed-none (c .before .args .body .now)
 
 sub-size-at : tie.Need-sub-size-at Inv-loop μ-loop
-sub-size-at c = c .before .before .loop .inv .within
+sub-size-at c = search needs
 
 part-size-at-start : tie.Need-part-size-at-start Inv-loop μ-loop
-part-size-at-start c = c .before .before .loop .inv .within
+part-size-at-start c = search needs
 
 part-size-at-end : tie.Need-part-size-at-end Inv-loop μ-loop
 part-size-at-end c = search needs
@@ -93,12 +96,16 @@ returns : tie.Need-returns Inv-loop μ-loop
 returns c = let h = c .before in
     passed-all (bodyOf h) _ _ _ _ (h .loop .inv) (c .if1 .taken)
 
-returns-2 : tie.Need-returns-2 Inv-loop μ-loop
-returns-2 c = let h = c .before .before in
-    passed-many (bodyOf h) _ _ _ _ (h .loop .inv) (c .before .if1 .left) (c .if2 .taken)
+too-many : tie.Need-returns-2 Inv-loop μ-loop
+too-many c =
+    let h = c .before .before in
+    let left : h .loop .at ≡ length (bodyOf h) → ⊥ = search needs in
+    passed-many (bodyOf h) _ _ _ _ (h .loop .inv) left (c .if2 .taken)
 
-returns-3 : tie.Need-returns-3 Inv-loop μ-loop
-returns-3 c = let h = turn (c .before .before) in
+-- there was room for the part whose size is wrong: 5 comes before its size is read
+wrong-size : tie.Need-returns-3 Inv-loop μ-loop
+wrong-size c =
+    let h = turn (c .before .before) in
     let left : h .loop .at ≡ length (bodyOf h) → ⊥ = search needs in
     let room : h .loop .count ≡ 68 → ⊥ = search needs in
     passed-wrong (bodyOf h) _ _ _ _ (h .loop .inv) left room (sym (c .enum-told .given .1) ∙ found (c .before .before))
@@ -123,5 +130,5 @@ count-parts-spec =
     loop-less
     loop-again
     returns
-    returns-2
-    returns-3)
+    too-many
+    wrong-size)
