@@ -1,16 +1,18 @@
 -- The header, the four bytes in front and the topic's part: a law for each case of their tests.
 -- Assumes nothing.
-use mathlib.Core.Path.{_≡_, refl, _∙_}
-use mathlib.Core.Bool.{true, false}
-use Prim.Native.Nat.{ℕ, zero, suc, _+_, _-_, _<_}
+use mathlib.Core.Path.{_≡_, refl, sym, _∙_}
+use mathlib.Core.Bool.{Bool, true, false, _&&_}
+use Prim.Native.Nat.{ℕ, zero, suc, _+_, _-_, _*_, _<_}
 use mathlib.Core.List.{List, [], _∷_}
 use native.Mathlib.Omega.{arith}
 use native.Mathlib.Nat.{le-of-suc-le-suc}
-use borrow.Author.Tests.{eq-eqb, ne-eqb}
+use borrow.Author.Tests.{eq-eqb, ne-eqb, eqb-true}
 use lib.Dec.{eqb}
 use lib.ListN.{length, getD, take, drop}
 use lib.Seq.{getD-drop}
-use Rattle.octets.specs.Number.{number}
+use Rattle.octets.specs.Number.{number, Bytes}
+use Rattle.octets.proofs.Numbers.{bytes-at}
+use Rattle.message.proofs.Answers.{true-false, and-left, and-right}
 use Rattle.message.specs.declared.Header.{Header}
 use Rattle.message.specs.Header.{isKnown, headerIn, isHeader}
 use Rattle.message.specs.Forms.{isTopic}
@@ -59,18 +61,30 @@ module _ (p : List ℕ) where
 
 -- ---- the four bytes in front
 
-module _ (b : List ℕ) where
-  pub start-first : (getD b 0 0 ≡ 255 → ⊥) → false ≡ startsRight b
-  start-first n = rw (ne-eqb (getD b 0 0) 255 n)
+-- four bytes, and the number that they are
+module _ (n p q r t : ℕ) (bq : q < 256) (br : r < 256) (bt : t < 256) (is : n ≡ p * 16777216 + q * 65536 + r * 256 + t) where
+  abbrev each : Bool
+  each = eqb p 255 && (eqb q 238 && (eqb r 0 && eqb t 18))
 
-  pub start-second : getD b 0 0 ≡ 255 → (getD b 1 0 ≡ 238 → ⊥) → false ≡ startsRight b
-  start-second e n = rw (eq-eqb (getD b 0 0) 255 e, ne-eqb (getD b 1 0) 238 n)
+  start-is : eqb n 4293787666 ≡ each
+  start-is = go each refl
+    where
+      go : (all : Bool) → each ≡ all → eqb n 4293787666 ≡ all
+      go true e =
+          let e₁ = and-right (eqb p 255) (eqb q 238 && (eqb r 0 && eqb t 18)) e in
+          let e₂ = and-right (eqb q 238) (eqb r 0 && eqb t 18) e₁ in
+          let first = eqb-true p 255 (and-left (eqb p 255) (eqb q 238 && (eqb r 0 && eqb t 18)) e) in
+          let second = eqb-true q 238 (and-left (eqb q 238) (eqb r 0 && eqb t 18) e₁) in
+          let third = eqb-true r 0 (and-left (eqb r 0) (eqb t 18) e₂) in
+          let last = eqb-true t 18 (and-right (eqb r 0) (eqb t 18) e₂) in
+          eq-eqb n 4293787666 (omega (arith, first, second, third, last))
+      go false e =
+          ne-eqb n 4293787666 (λ (k : n ≡ 4293787666).
+          let same : each ≡ true = rw (eq-eqb p 255 (omega arith), eq-eqb q 238 (omega arith), eq-eqb r 0 (omega arith), eq-eqb t 18 (omega arith)) in
+          true-false (sym same ∙ e))
 
-  pub start-third : getD b 0 0 ≡ 255 → getD b 1 0 ≡ 238 → (getD b 2 0 ≡ 0 → ⊥) → false ≡ startsRight b
-  start-third e k n = rw (eq-eqb (getD b 0 0) 255 e, eq-eqb (getD b 1 0) 238 k, ne-eqb (getD b 2 0) 0 n)
-
-  pub start-last : getD b 0 0 ≡ 255 → getD b 1 0 ≡ 238 → getD b 2 0 ≡ 0 → eqb (getD b 3 0) 18 ≡ startsRight b
-  start-last e k l = rw (eq-eqb (getD b 0 0) 255 e, eq-eqb (getD b 1 0) 238 k, eq-eqb (getD b 2 0) 0 l)
+pub start-tested : (b : List ℕ) → Bytes b → (n : ℕ) → NumberAt b 0 n → eqb n 4293787666 ≡ startsRight b
+start-tested b bytes n is = start-is n (getD b 0 0) (getD b 1 0) (getD b 2 0) (getD b 3 0) (bytes-at b 1 bytes) (bytes-at b 2 bytes) (bytes-at b 3 bytes) is
 
 -- ---- the topic's part
 

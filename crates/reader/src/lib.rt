@@ -34,21 +34,12 @@ pub enum Reading {
     Accepted(Frame),
 }
 
-// Whether a frame's four bytes stand in front.
+// Whether a frame's four bytes stand in front. They are compared as one number, FF EE 00 12.
 fn starts_right(bytes: &[u8]) -> bool
     requires { ⌜ 4 ≤ length (now bytes) ⌝ }
     ensures { λ r. ⌜ r ≡ startsRight (now (bytes .entry)) ⌝ }
 {
-    if bytes[0] != 255 {
-        return false;
-    }
-    if bytes[1] != 238 {
-        return false;
-    }
-    if bytes[2] != 0 {
-        return false;
-    }
-    bytes[3] == 18
+    octets::number_of(bytes[0], bytes[1], bytes[2], bytes[3]) == 4293787666
 }
 
 // Reads the frame at the front of bytes. What lies behind it is ignored.
