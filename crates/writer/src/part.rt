@@ -8,7 +8,7 @@ ghost use Rattle.message.specs.Header.{headerBytes};
 ghost use Rattle.message.specs.Frame.{sizeBytes, partBytes, joined, partIf};
 ghost use Rattle.message.specs.Writing.{cutRoutes};
 ghost use Rattle.octets.specs.Lays.{Lays};
-ghost use Rattle.writer.specs.Parts.{groupOf};
+ghost use Rattle.draft.specs.Parts.{groupOf};
 use message::Header;
 
 // The size in front of a part: one byte up to 254, else 255 and four bytes.

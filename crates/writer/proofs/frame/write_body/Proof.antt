@@ -5,7 +5,8 @@ use mathlib.Core.Path.{refl}
 use mathlib.Core.List.{[], _∷_, _++_}
 use Rattle.message.specs.Header.{headerBytes}
 use Rattle.message.specs.Frame.{partBytes, joined, partIf}
-use Rattle.writer.proofs.Bodies.{body-parts, group-fits, topic-fits, payload-fits, header-fits}
+use Rattle.draft.proofs.Bodies.{body-parts}
+use Rattle.writer.proofs.Bodies.{group-fits, topic-fits, payload-fits, header-fits}
 use Rattle.octets.proofs.Laying.{lays-more, lays-rest, lays-within}
 use borrow.Author.Needs.{needs}
 use Rattle.writer.proofs.frame.write_body.Statement.{statement}

@@ -8,7 +8,8 @@ use Rattle.octets.specs.Number.{four}
 use Rattle.octets.specs.Laid.{laid}
 use Rattle.message.specs.Frame.{bodyOf}
 use Rattle.message.specs.Writing.{givenMessage}
-use Rattle.writer.proofs.Bodies.{frame-length, frame-bytes}
+use Rattle.draft.proofs.Bodies.{frame-length}
+use Rattle.writer.proofs.Bodies.{frame-bytes}
 use Rattle.octets.proofs.Laying.{lays-room, lays-leaf, lays-more, lays-rest, lays-within}
 use borrow.Author.Needs.{needs}
 use Rattle.writer.proofs.frame.write_frame.Statement.{statement}

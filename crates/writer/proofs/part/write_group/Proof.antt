@@ -4,7 +4,7 @@ use native.Mathlib.Omega.{arith}
 use mathlib.Core.List.{[], _∷_}
 use lib.ListN.{length-append}
 use Rattle.message.specs.Frame.{joined}
-use Rattle.writer.proofs.Cuts.{cut}
+use Rattle.draft.proofs.Cuts.{cut}
 use Rattle.writer.proofs.Parts.{group-parts}
 use Rattle.octets.proofs.Laying.{lays-more, lays-within, lays-rest}
 use borrow.Author.Needs.{needs}

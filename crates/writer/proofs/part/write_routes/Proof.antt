@@ -9,7 +9,8 @@ use lib.ListN.{length, take, drop, length-append, drop-of-length-le}
 use borrow.Rule.Slice.PartMut.{midOf, putMid}
 use Rattle.message.specs.Frame.{partBytes, joined}
 use Rattle.octets.specs.Lays.{Lays}
-use Rattle.writer.proofs.Cuts.{cut, cut-next, route-width}
+use Rattle.draft.proofs.Cuts.{cut, route-width}
+use Rattle.writer.proofs.Parts.{cut-next}
 use Rattle.octets.proofs.Laying.{lays-none, lays-more, lays-length, lays-rest}
 use Rattle.writer.proofs.part.write_routes.Statement.{statement}
 use Rattle.writer.proofs.part.write_routes.Tie as tie

@@ -6,7 +6,7 @@ use mathlib.Core.Path.{ap}
 use lib.ListN.{length, length-set}
 use Rattle.octets.specs.Number.{four}
 use Rattle.octets.proofs.Laying.{lays-none, lays-byte, lays-leaf, lays-length}
-use Rattle.writer.proofs.Parts.{size-one, size-five}
+use Rattle.draft.proofs.Parts.{size-one, size-five}
 use Rattle.writer.proofs.part.write_size.Statement.{statement}
 use Rattle.writer.proofs.part.write_size.Tie as tie
 
