@@ -19,21 +19,23 @@ use Rattle.draft.proofs.Bodies.{body-parts, frame-length}
 pub front-fits : (w x : List ℕ) {n : ℕ} → length (w ++ x) ≤ n → length w ≤ n
 front-fits w x h = omega (arith, length-append w x)
 
--- r, t and p say which flags are set
-module _ (h : Header) (routes topic payload : List ℕ) {r t p : Bool} (er : r ≡ hasRoute (h .flags)) (et : t ≡ hasTopic (h .flags)) (ep : p ≡ hasPayload (h .flags)) where
-  -- what fits an output that the body fits: the parts up to each of them
-  module _ {n : ℕ} (room : length (bodyOf (givenMessage h routes topic payload)) ≤ n) where
-    pub header-fits : length (joined (groupOf r routes) ++ joined (partIf t (topic ++ (0 ∷ []))) ++ joined (partIf p payload) ++ partBytes (headerBytes h)) ≤ n
-    header-fits = rw (body-parts h routes topic payload er et ep) at room
+-- an output of n bytes has room for the body of what is given
+pub record Room (h : Header) (routes topic payload : List ℕ) (n : ℕ) : Type 0 where
+  pub body : length (bodyOf (givenMessage h routes topic payload)) ≤ n
 
-    pub payload-fits : length (joined (groupOf r routes) ++ joined (partIf t (topic ++ (0 ∷ []))) ++ joined (partIf p payload)) ≤ n
-    payload-fits = front-fits (joined (groupOf r routes) ++ joined (partIf t (topic ++ (0 ∷ []))) ++ joined (partIf p payload)) (partBytes (headerBytes h)) header-fits
+-- and so for the parts up to each of them; r, t and p say which flags are set
+module _ {h : Header} {routes topic payload : List ℕ} {n : ℕ} (room : Room h routes topic payload n) {r t p : Bool} (er : r ≡ hasRoute (h .flags)) (et : t ≡ hasTopic (h .flags)) (ep : p ≡ hasPayload (h .flags)) where
+  pub header-fits : length (joined (groupOf r routes) ++ joined (partIf t (topic ++ (0 ∷ []))) ++ joined (partIf p payload) ++ partBytes (headerBytes h)) ≤ n
+  header-fits = rw (body-parts h routes topic payload er et ep) at (room .body)
 
-    pub topic-fits : length (joined (groupOf r routes) ++ joined (partIf t (topic ++ (0 ∷ [])))) ≤ n
-    topic-fits = front-fits (joined (groupOf r routes) ++ joined (partIf t (topic ++ (0 ∷ [])))) (joined (partIf p payload)) payload-fits
+  pub payload-fits : length (joined (groupOf r routes) ++ joined (partIf t (topic ++ (0 ∷ []))) ++ joined (partIf p payload)) ≤ n
+  payload-fits = front-fits (joined (groupOf r routes) ++ joined (partIf t (topic ++ (0 ∷ []))) ++ joined (partIf p payload)) (partBytes (headerBytes h)) header-fits
 
-    pub group-fits : length (joined (groupOf r routes)) ≤ n
-    group-fits = front-fits (joined (groupOf r routes)) (joined (partIf t (topic ++ (0 ∷ [])))) topic-fits
+  pub topic-fits : length (joined (groupOf r routes) ++ joined (partIf t (topic ++ (0 ∷ [])))) ≤ n
+  topic-fits = front-fits (joined (groupOf r routes) ++ joined (partIf t (topic ++ (0 ∷ [])))) (joined (partIf p payload)) payload-fits
+
+  pub group-fits : length (joined (groupOf r routes)) ≤ n
+  group-fits = front-fits (joined (groupOf r routes)) (joined (partIf t (topic ++ (0 ∷ [])))) topic-fits
 
 -- its four bytes FF EE 00 12 are those of one number
 pub frame-bytes : (m : Message) (n : ℕ) → n ≡ length (frameOf m) → four 4293787666 ++ four (n - 8) ++ bodyOf m ≡ frameOf m
