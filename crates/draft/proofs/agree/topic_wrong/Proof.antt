@@ -2,15 +2,14 @@
 -- Assumes nothing.
 use mathlib.Core.Path.{sym, ap, _∙_}
 use mathlib.Core.Bool.{not}
-use borrow.Author.Needs.{needs}
 use Rattle.draft.proofs.agree.topic_wrong.Statement.{statement}
 use Rattle.draft.proofs.agree.topic_wrong.Tie as tie
 
 has-topic-requires : tie.Need-has-topic-requires
-has-topic-requires c κs = search needs
+has-topic-requires c κs = tt
 
 is-topic-requires : tie.Need-is-topic-requires
-is-topic-requires c κs = search needs
+is-topic-requires c κs = tt
 
 returns : tie.Need-returns
 returns c = rw (sym (c .before .before .has-topic .ensures) ∙ c .before .if1 .taken) (ap not (c .is-topic .ensures))

@@ -11,13 +11,13 @@ use Rattle.draft.proofs.length.body_length.Statement.{statement}
 use Rattle.draft.proofs.length.body_length.Tie as tie
 
 has-route-requires : tie.Need-has-route-requires
-has-route-requires c κs = search needs
+has-route-requires c κs = tt
 
 group-length-requires : tie.Need-group-length-requires
 group-length-requires c κs = search needs
 
 has-topic-requires : tie.Need-has-topic-requires
-has-topic-requires c κs = search needs
+has-topic-requires c κs = tt
 
 add-part-length : tie.Need-add-part-length
 add-part-length c = search needs
@@ -32,7 +32,7 @@ add-upto c =
     omega (arith, start .pre, group-most (c .before .before .before .has-route .result) (length (args .routes .now)), part-most (c .before .has-topic .result) (length (args .topic .now) + 1))
 
 has-payload-requires : tie.Need-has-payload-requires
-has-payload-requires c κs = search needs
+has-payload-requires c κs = tt
 
 part-length-requires-2 : tie.Need-part-length-requires-2
 part-length-requires-2 c κs = search needs

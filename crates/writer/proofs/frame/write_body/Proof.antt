@@ -1,6 +1,7 @@
 -- `writer::frame::write_body` meets its contract: each part is laid behind those before it, and what the whole body has room for has room for each.
 -- Assumes nothing.
 use native.Mathlib.Omega.{arith}
+use native.Mathlib.Nat.{le-refl}
 use mathlib.Core.Path.{refl}
 use mathlib.Core.List.{List, [], _∷_, _++_}
 use Prim.Native.Nat.{ℕ, _+_, _-_, _≤_}
@@ -9,11 +10,10 @@ use borrow.Rule.Slice.PartMut.{putMid}
 use Rattle.message.specs.Header.{headerBytes}
 use Rattle.message.specs.Frame.{partBytes, joined, partIf}
 use Rattle.octets.specs.Lays.{Lays}
-use Rattle.octets.proofs.Laying.{lays-more, lays-rest, lays-within}
+use Rattle.octets.proofs.Laying.{lays-more, lays-length, lays-rest, lays-within}
 use Rattle.draft.specs.Parts.{groupOf}
 use Rattle.draft.proofs.Bodies.{body-parts}
 use Rattle.writer.proofs.Bodies.{Room, group-fits, topic-fits, payload-fits, header-fits}
-use borrow.Author.Needs.{needs}
 use Rattle.writer.proofs.frame.write_body.Statement.{statement}
 use Rattle.writer.proofs.frame.write_body.Tie as tie
 
@@ -73,7 +73,7 @@ module _ (c : tie.After-write-payload) where
   payload-laid = lays-more (topic-laid (titled (c .before))) (c .write-payload .ensures)
 
 has-route-requires : tie.Need-has-route-requires
-has-route-requires c κs = search needs
+has-route-requires c κs = tt
 
 write-group-requires : tie.Need-write-group-requires
 write-group-requires c κs = (start c .pre .0, group-room c)
@@ -86,10 +86,10 @@ part-write-topic-start : tie.Need-part-write-topic-start
 part-write-topic-start c = sub-write-topic c
 
 part-write-topic-end : tie.Need-part-write-topic-end
-part-write-topic-end c = search needs
+part-write-topic-end c = le-refl _
 
 has-topic-requires : tie.Need-has-topic-requires
-has-topic-requires c κs = search needs
+has-topic-requires c κs = tt
 
 write-topic-requires : tie.Need-write-topic-requires
 write-topic-requires c κs = lays-rest (routed c .write-group .ensures) _ (topic-room c)
@@ -106,10 +106,10 @@ part-write-payload-start : tie.Need-part-write-payload-start
 part-write-payload-start c = sub-write-payload c
 
 part-write-payload-end : tie.Need-part-write-payload-end
-part-write-payload-end c = search needs
+part-write-payload-end c = le-refl _
 
 has-payload-requires : tie.Need-has-payload-requires
-has-payload-requires c κs = search needs
+has-payload-requires c κs = tt
 
 write-payload-requires : tie.Need-write-payload-requires
 write-payload-requires c κs = lays-rest (topic-laid (titled c)) _ (payload-room c)
@@ -126,7 +126,7 @@ part-write-header-start : tie.Need-part-write-header-start
 part-write-header-start c = sub-write-header c
 
 part-write-header-end : tie.Need-part-write-header-end
-part-write-header-end c = search needs
+part-write-header-end c = le-refl _
 
 write-header-requires : tie.Need-write-header-requires
 write-header-requires c κs = let d = c .before .before .before in
@@ -134,13 +134,13 @@ write-header-requires c κs = let d = c .before .before .before in
     lays-rest (payload-laid d) (partBytes (headerBytes (start b .args .header)))
     (header-fits (room (start b)) (b .has-route .ensures) (titled (d .before) .before .has-topic .ensures) (d .before .has-payload .ensures))
 
-same-length : tie.Need-same-length
-same-length c = search needs
-
 returns : tie.Need-returns
 returns c = let d = c .before .before .before .before .before .before in
     let b = begun (d .before) in
     rw (body-parts _ _ _ _ (b .has-route .ensures) (titled (d .before) .before .has-topic .ensures) (d .before .has-payload .ensures)) (lays-more (payload-laid d) (c .before .before .write-header .ensures))
+
+same-length : tie.Need-same-length
+same-length c = lays-length (returns c) (start (begun (c .before .before .before .before .before .before .before)) .pre .1)
 
 add-result : tie.Need-add-result
 add-result c = let s = start (begun (c .before .before .before .before .before .before .before)) in

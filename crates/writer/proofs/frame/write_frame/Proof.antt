@@ -1,20 +1,21 @@
 -- `writer::frame::write_frame` meets its contract: the start, the body's length and the body, one behind the other.
 -- Assumes nothing.
 use native.Mathlib.Omega.{arith}
+use native.Mathlib.Nat.{le-refl}
 use mathlib.Core.Path.{_≡_, ap, _∙_}
 use mathlib.Core.List.{List, _++_}
 use Prim.Native.Nat.{ℕ, _+_, _-_, _≤_}
 use lib.ListN.{length}
+use borrow.Rule.Slice.PartMut.{putMid}
 use Rattle.octets.specs.Number.{four}
 use Rattle.octets.specs.Laid.{laid}
 use Rattle.octets.specs.Lays.{Lays}
-use Rattle.octets.proofs.Laying.{lays-more, lays-rest, lays-within}
+use Rattle.octets.proofs.Laying.{lays-more, lays-length, lays-rest, lays-within}
 use Rattle.message.specs.Message.{Message}
 use Rattle.message.specs.Frame.{bodyOf}
 use Rattle.message.specs.Writing.{givenMessage}
 use Rattle.draft.proofs.Bodies.{frame-length}
 use Rattle.writer.proofs.Bodies.{frame-bytes}
-use borrow.Author.Needs.{needs}
 use Rattle.writer.proofs.frame.write_frame.Statement.{statement}
 use Rattle.writer.proofs.frame.write_frame.Tie as tie
 
@@ -51,19 +52,24 @@ part-write-body-start : tie.Need-part-write-body-start
 part-write-body-start c = sub-write-body c
 
 part-write-body-end : tie.Need-part-write-body-end
-part-write-body-end c = search needs
+part-write-body-end c = le-refl _
 
 write-body-requires : tie.Need-write-body-requires
 write-body-requires c κs = let d = c .before .before .before in
     (start d .pre .0, lays-rest (front d) (bodyOf (given (start d))) (omega (arith, room (start d))))
 
+-- the body is laid behind them
+whole : (c : tie.After-write-body) → Lays ((four 4293787666 ++ four (start (c .before .before .before .before) .args .n - 8)) ++ bodyOf (given (start (c .before .before .before .before)))) (start (c .before .before .before .before) .args .out .now) (putMid 8 (length (c .before .before .before .before .write-pair .last .0) - 8) (c .before .before .before .before .write-pair .last .0) (c .write-body .last .0)) (8 + c .write-body .result)
+whole c = lays-more (front (c .before .before .before .before)) (c .write-body .ensures)
+
 same-length : tie.Need-same-length
-same-length c = search needs
+same-length c = let d = c .before .before in
+    lays-length (whole d) (omega (arith, room (start (d .before .before .before .before))))
 
 returns : tie.Need-returns
-returns c = let d = c .before .before .before .before .before .before in
-    let s = start d in
-    lays-more (front d) (c .before .before .write-body .ensures) .bytes ∙ ap (λ (xs : List ℕ). laid xs (s .args .out .now)) (frame-bytes (given s) (s .args .n) (s .pre .1 .0))
+returns c = let d = c .before .before in
+    let s = start (d .before .before .before .before) in
+    whole d .bytes ∙ ap (λ (xs : List ℕ). laid xs (s .args .out .now)) (frame-bytes (given s) (s .args .n) (s .pre .1 .0))
 
 pub write-frame-spec : {M : Type 1} → statement M
 write-frame-spec =

@@ -1,6 +1,7 @@
 -- `writer::part::write_header` meets its contract: five bytes are stored, and four numbers laid behind them.
 -- Assumes nothing.
 use native.Mathlib.Omega.{arith}
+use native.Mathlib.Nat.{le-refl}
 use Prim.Native.Nat.{ℕ, _-_, _≤_}
 use mathlib.Core.List.{List, [], _∷_, _++_}
 use lib.ListN.{length, set, length-set}
@@ -66,7 +67,7 @@ part-write-pair-start : tie.Need-part-write-pair-start
 part-write-pair-start c = sub-write-pair c
 
 part-write-pair-end : tie.Need-part-write-pair-end
-part-write-pair-end c = search needs
+part-write-pair-end c = le-refl _
 
 cast-write-pair : tie.Need-cast-write-pair
 cast-write-pair c = search needs
@@ -86,7 +87,7 @@ part-write-pair-start-2 : tie.Need-part-write-pair-start-2
 part-write-pair-start-2 c = sub-write-pair-2 c
 
 part-write-pair-end-2 : tie.Need-part-write-pair-end-2
-part-write-pair-end-2 c = search needs
+part-write-pair-end-2 c = le-refl _
 
 cast-write-pair-3 : tie.Need-cast-write-pair-3
 cast-write-pair-3 c = search needs

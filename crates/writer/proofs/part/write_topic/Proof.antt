@@ -1,6 +1,7 @@
 -- `writer::part::write_topic` meets its contract: size, topic and zero byte, one behind the other.
 -- Assumes nothing.
 use native.Mathlib.Omega.{arith}
+use native.Mathlib.Nat.{le-refl}
 use Prim.Native.Nat.{_+_}
 use mathlib.Core.List.{_++_}
 use lib.ListN.{length, length-append}
@@ -34,10 +35,10 @@ part-copy-start : tie.Need-part-copy-start
 part-copy-start c = sub-copy c
 
 part-copy-end : tie.Need-part-copy-end
-part-copy-end c = search needs
+part-copy-end c = le-refl _
 
 copy-requires : tie.Need-copy-requires
-copy-requires c κs = search needs
+copy-requires c κs = tt
 
 add-end : tie.Need-add-end
 add-end c =
