@@ -36,8 +36,15 @@ abbrev rest : tie.Start → Answer (List ℕ)
 rest s = measured (s .args .room) (givenMessage (s .args .header) (s .args .routes .now) (s .args .topic .now) (s .args .payload .now))
 
 -- the order in which the five tests are told
-order : (d : tie.After-fields-good) → refuseIf (not (d .before .before .before .before .is-known .result)) WrongHeader (refuseIf (not (d .before .before .before .parts-agree .result)) WrongParts (refuseIf (not (d .before .before .routes-good .result)) WrongRoute (refuseIf (d .before .topic-wrong .result) WrongTopic (refuseIf (not (d .fields-good .result)) WrongField (rest (d .before .before .before .before .before .before .before .before)))))) ≡ written (d .before .before .before .before .before .before .before .before)
-order d = order-is _ _ _ _ _ (d .before .before .before .before .is-known .ensures) (d .before .before .before .parts-agree .ensures) (d .before .before .routes-good .ensures) (d .before .topic-wrong .ensures) (d .fields-good .ensures)
+order : (d : tie.After-fields-good) →
+    refuseIf (not (d .before .before .before .before .is-known .result)) WrongHeader
+    (refuseIf (not (d .before .before .before .parts-agree .result)) WrongParts
+    (refuseIf (not (d .before .before .routes-good .result)) WrongRoute
+    (refuseIf (d .before .topic-wrong .result) WrongTopic
+    (refuseIf (not (d .fields-good .result)) WrongField (rest (d .before .before .before .before .before .before .before .before)))))) ≡ written (d .before .before .before .before .before .before .before .before)
+order d =
+    order-is _ _ _ _ _ (d .before .before .before .before .is-known .ensures) (d .before .before .before .parts-agree .ensures) (d .before .before .routes-good .ensures)
+    (d .before .topic-wrong .ensures) (d .fields-good .ensures)
 
 returns : tie.Need-returns
 returns c = ap draftedAs (rw (c .if1 .taken) at (order (c .before)))
@@ -52,7 +59,8 @@ returns-4 : tie.Need-returns-4
 returns-4 c = ap draftedAs (rw (c .before .before .before .if1 .left, c .before .before .if2 .left, c .before .if3 .left, c .if4 .taken) at (order (c .before .before .before .before)))
 
 returns-5 : tie.Need-returns-5
-returns-5 c = ap draftedAs (rw (c .before .before .before .before .if1 .left, c .before .before .before .if2 .left, c .before .before .if3 .left, c .before .if4 .left, c .if5 .taken) at (order (c .before .before .before .before .before)))
+returns-5 c = let o = order (c .before .before .before .before .before) in
+    ap draftedAs (rw (c .before .before .before .before .if1 .left, c .before .before .before .if2 .left, c .before .before .if3 .left, c .before .if4 .left, c .if5 .taken) at o)
 
 measure-requires : tie.Need-measure-requires
 measure-requires c κs = let d = c .before .before .before .before .before in
@@ -61,7 +69,8 @@ measure-requires c κs = let d = c .before .before .before .before .before in
     (agree, (good, sym (d .before .topic-wrong .ensures) ∙ c .before .if4 .left))
 
 returns-6 : tie.Need-returns-6
-returns-6 c = c .measure .ensures ∙ ap draftedAs (rw (c .before .before .before .before .before .if1 .left, c .before .before .before .before .if2 .left, c .before .before .before .if3 .left, c .before .before .if4 .left, c .before .if5 .left) at (order (c .before .before .before .before .before .before)))
+returns-6 c = let o = order (c .before .before .before .before .before .before) in
+    c .measure .ensures ∙ ap draftedAs (rw (c .before .before .before .before .before .if1 .left, c .before .before .before .before .if2 .left, c .before .before .before .if3 .left, c .before .before .if4 .left, c .before .if5 .left) at o)
 
 pub judge-spec : {M : Type 1} → statement M
 judge-spec =

@@ -19,7 +19,8 @@ parts-fit-requires c κs = tt
 
 returns : tie.Need-returns
 returns c = let args = c .before .before .before .before .before .args in
-    rw (not-true (c .before .parts-fit .result) (c .if1 .taken)) at (agrees (args .header) (args .routes .now) (args .topic .now) (args .payload .now) (c .before .parts-fit .ensures) refl refl refl refl refl refl)
+    rw (not-true (c .before .parts-fit .result) (c .if1 .taken)) at (agrees (args .header) (args .routes .now) (args .topic .now) (args .payload .now)
+    (c .before .parts-fit .ensures) refl refl refl refl refl refl)
 
 has-route-requires : tie.Need-has-route-requires
 has-route-requires c κs = tt
@@ -31,7 +32,8 @@ returns-2 : tie.Need-returns-2
 returns-2 c = let m = c .before in
     let args = m .before .before .before .before .before .before .before .args in
     rw (fit m, not-true (m .may-be-given .result) (c .if2 .taken)) at
-    (agrees (args .header) (args .routes .now) (args .topic .now) (args .payload .now) (m .before .before .before .parts-fit .ensures) (m .before .has-route .ensures) refl refl (m .may-be-given .ensures) refl refl)
+    (agrees (args .header) (args .routes .now) (args .topic .now) (args .payload .now)
+    (m .before .before .before .parts-fit .ensures) (m .before .has-route .ensures) refl refl (m .may-be-given .ensures) refl refl)
 
 has-topic-requires : tie.Need-has-topic-requires
 has-topic-requires c κs = tt
@@ -44,7 +46,9 @@ returns-3 c = let n = c .before in
     let m = n .before .before .before in
     let args = m .before .before .before .before .before .before .before .args in
     rw (fit m, routed n, not-true (n .may-be-given2 .result) (c .if3 .taken)) at
-    (agrees (args .header) (args .routes .now) (args .topic .now) (args .payload .now) (m .before .before .before .parts-fit .ensures) (m .before .has-route .ensures) (n .before .has-topic .ensures) refl (m .may-be-given .ensures) (n .may-be-given2 .ensures) refl)
+    (agrees (args .header) (args .routes .now) (args .topic .now) (args .payload .now)
+    (m .before .before .before .parts-fit .ensures) (m .before .has-route .ensures) (n .before .has-topic .ensures) refl
+    (m .may-be-given .ensures) (n .may-be-given2 .ensures) refl)
 
 has-payload-requires : tie.Need-has-payload-requires
 has-payload-requires c κs = tt
@@ -57,7 +61,9 @@ returns-4 c = let n = c .before .before .before in
     let m = n .before .before .before in
     let args = m .before .before .before .before .before .before .before .args in
     rw (fit m, routed n, not-false (n .may-be-given2 .result) (c .before .before .if3 .left)) at
-    (agrees (args .header) (args .routes .now) (args .topic .now) (args .payload .now) (m .before .before .before .parts-fit .ensures) (m .before .has-route .ensures) (n .before .has-topic .ensures) (c .before .has-payload .ensures) (m .may-be-given .ensures) (n .may-be-given2 .ensures) (c .may-be-given3 .ensures))
+    (agrees (args .header) (args .routes .now) (args .topic .now) (args .payload .now)
+    (m .before .before .before .parts-fit .ensures) (m .before .has-route .ensures) (n .before .has-topic .ensures) (c .before .has-payload .ensures)
+    (m .may-be-given .ensures) (n .may-be-given2 .ensures) (c .may-be-given3 .ensures))
 
 pub parts-agree-spec : {M : Type 1} → statement M
 parts-agree-spec =

@@ -69,7 +69,13 @@ module _ (c : tie.After-has-payload) where
   payload-room = payload-fits (room (start begun)) (begun .has-route .ensures) (titled .before .has-topic .ensures) (c .has-payload .ensures)
 
 module _ (c : tie.After-write-payload) where
-  payload-laid : Lays (upto-payload (c .before)) (start (begun (c .before)) .args .out .now) (behind (topic-end (titled (c .before))) (topic-out (titled (c .before))) (c .write-payload .last .0)) (topic-end (titled (c .before)) + c .write-payload .result)
+  abbrev payload-end : ℕ
+  payload-end = topic-end (titled (c .before)) + c .write-payload .result
+
+  abbrev payload-out : List ℕ
+  payload-out = behind (topic-end (titled (c .before))) (topic-out (titled (c .before))) (c .write-payload .last .0)
+
+  payload-laid : Lays (upto-payload (c .before)) (start (begun (c .before)) .args .out .now) payload-out payload-end
   payload-laid = lays-more (topic-laid (titled (c .before))) (c .write-payload .ensures)
 
 has-route-requires : tie.Need-has-route-requires

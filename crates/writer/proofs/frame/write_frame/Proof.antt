@@ -59,17 +59,27 @@ write-body-requires c κs = let d = c .before .before .before in
     (start d .pre .0, lays-rest (front d) (bodyOf (given (start d))) (omega (arith, room (start d))))
 
 -- the body is laid behind them
-whole : (c : tie.After-write-body) → Lays ((four 4293787666 ++ four (start (c .before .before .before .before) .args .n - 8)) ++ bodyOf (given (start (c .before .before .before .before)))) (start (c .before .before .before .before) .args .out .now) (putMid 8 (length (c .before .before .before .before .write-pair .last .0) - 8) (c .before .before .before .before .write-pair .last .0) (c .write-body .last .0)) (8 + c .write-body .result)
-whole c = lays-more (front (c .before .before .before .before)) (c .write-body .ensures)
+module _ (e : tie.After-write-body) where
+  abbrev headed : tie.After-write-pair
+  headed = e .before .before .before .before
+
+  abbrev bytes : List ℕ
+  bytes = (four 4293787666 ++ four (start headed .args .n - 8)) ++ bodyOf (given (start headed))
+
+  abbrev left : List ℕ
+  left = putMid 8 (length (headed .write-pair .last .0) - 8) (headed .write-pair .last .0) (e .write-body .last .0)
+
+  whole : Lays bytes (start headed .args .out .now) left (8 + e .write-body .result)
+  whole = lays-more (front headed) (e .write-body .ensures)
 
 same-length : tie.Need-same-length
-same-length c = let d = c .before .before in
-    lays-length (whole d) (omega (arith, room (start (d .before .before .before .before))))
+same-length c = let e = c .before .before in
+    lays-length (whole e) (omega (arith, room (start (headed e))))
 
 returns : tie.Need-returns
-returns c = let d = c .before .before in
-    let s = start (d .before .before .before .before) in
-    whole d .bytes ∙ ap (λ (xs : List ℕ). laid xs (s .args .out .now)) (frame-bytes (given s) (s .args .n) (s .pre .1 .0))
+returns c = let e = c .before .before in
+    let s = start (headed e) in
+    whole e .bytes ∙ ap (λ (xs : List ℕ). laid xs (s .args .out .now)) (frame-bytes (given s) (s .args .n) (s .pre .1 .0))
 
 pub write-frame-spec : {M : Type 1} → statement M
 write-frame-spec =

@@ -10,7 +10,7 @@ use Rattle.octets.specs.Number.{four}
 use Rattle.message.specs.declared.Header.{Header}
 use Rattle.message.specs.Header.{headerBytes}
 use Rattle.octets.specs.Lays.{Lays}
-use Rattle.octets.proofs.Laying.{lays-none, lays-byte, lays-more, lays-length, lays-rest, lays-within}
+use Rattle.octets.proofs.Laying.{lays-none, lays-byte, lays-more, lays-length, lays-rest}
 use borrow.Author.Needs.{needs}
 use Rattle.writer.proofs.part.write_header.Statement.{statement}
 use Rattle.writer.proofs.part.write_header.Tie as tie
@@ -61,7 +61,8 @@ slice-write-out-5 : tie.Need-slice-write-out-5
 slice-write-out-5 c = simp length-set (omega (arith, room (c .before)))
 
 sub-write-pair : tie.Need-sub-write-pair
-sub-write-pair c = lays-within (front (c .before)) (omega (arith, room (c .before)))
+sub-write-pair c = let s = c .before in
+    omega (arith, room s, lays-length (front s) (omega (arith, room s)))
 
 part-write-pair-start : tie.Need-part-write-pair-start
 part-write-pair-start c = sub-write-pair c
@@ -81,7 +82,7 @@ write-pair-requires c κs = let s = c .before .before .before .before in
 
 sub-write-pair-2 : tie.Need-sub-write-pair-2
 sub-write-pair-2 c = let d = c .before .before in
-    lays-within (numbers d) (omega (arith, room (start d)))
+    omega (arith, room (start d), lays-length (numbers d) (omega (arith, room (start d))))
 
 part-write-pair-start-2 : tie.Need-part-write-pair-start-2
 part-write-pair-start-2 c = sub-write-pair-2 c
