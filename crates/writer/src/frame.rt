@@ -38,7 +38,6 @@ pub(crate) fn write_frame(
     requires { ⌜ n ≤ length (now out) ⌝ }
     ensures { λ _. ⌜ now (out .exit) ≡ laid (frameOf (givenMessage header (now (routes .entry)) (now (topic .entry)) (now (payload .entry)))) (now (out .entry)) ⌝ }
 {
-    octets::put_number(out, 4293787666);
-    octets::put_number(&mut out[4..], n - 8);
+    part::write_pair(out, 4293787666, n - 8);
     write_body(&mut out[8..], header, routes, topic, payload);
 }

@@ -3,11 +3,11 @@ ghost use mathlib.Core.Path.{_≡_};
 ghost use lib.ListN.{length};
 ghost use Rattle.message.specs.Writing.{writingInto, givenMessage};
 ghost use Rattle.writer.specs.Written.{writtenAs, outputOf};
+use draft::Drafted;
 use message::Header;
 use message::Refusal;
 
 mod frame;
-mod judge;
 mod part;
 
 // What the writer tells: why it wrote nothing, or how long the frame is that it wrote.
@@ -21,10 +21,10 @@ pub fn write(header: Header, routes: &[u8], topic: &[u8], payload: &[u8], out: &
     ensures { λ r. ⌜ r ≡ writtenAs (writingInto (length (now (out .entry))) (givenMessage header (now (routes .entry)) (now (topic .entry)) (now (payload .entry)))) ⌝ }
     ensures { λ _. ⌜ now (out .exit) ≡ outputOf (writingInto (length (now (out .entry))) (givenMessage header (now (routes .entry)) (now (topic .entry)) (now (payload .entry)))) (now (out .entry)) ⌝ }
 {
-    let judged = judge::judge(header, routes, topic, payload, out.len());
-    match judged {
-        Written::Refused(r) => Written::Refused(r),
-        Written::Frame(n) => {
+    let drafted = draft::judge(header, routes, topic, payload, out.len());
+    match drafted {
+        Drafted::Refused(r) => Written::Refused(r),
+        Drafted::Frame(n) => {
             frame::write_frame(out, n, header, routes, topic, payload);
             Written::Frame(n)
         }

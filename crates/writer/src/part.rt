@@ -4,11 +4,12 @@ ghost use mathlib.Core.Path.{_≡_};
 ghost use mathlib.Core.List.{_∷_, [], _++_};
 ghost use Prim.Native.Nat.{_≤_, _%_};
 ghost use lib.ListN.{length};
+ghost use Rattle.octets.specs.Number.{four};
 ghost use Rattle.message.specs.Header.{headerBytes};
 ghost use Rattle.message.specs.Frame.{sizeBytes, partBytes, joined, partIf};
 ghost use Rattle.message.specs.Writing.{cutRoutes};
 ghost use Rattle.octets.specs.Lays.{Lays};
-ghost use Rattle.writer.specs.Parts.{groupOf};
+ghost use Rattle.draft.specs.Parts.{groupOf};
 use message::Header;
 
 // The size in front of a part: one byte up to 254, else 255 and four bytes.
@@ -89,6 +90,15 @@ pub(crate) fn write_payload(out: &mut [u8], given: bool, payload: &[u8]) -> usiz
     if given { write_part(out, payload) } else { 0 }
 }
 
+// Two numbers, one behind the other.
+pub(crate) fn write_pair(out: &mut [u8], a: usize, b: usize)
+    requires { ⌜ 8 ≤ length (now out) ⌝ }
+    ensures { λ _. ⌜ Lays (four a ++ four b) (now (out .entry)) (now (out .exit)) 8 ⌝ }
+{
+    octets::put_number(out, a);
+    octets::put_number(&mut out[4..], b);
+}
+
 // The header's part: 20 bytes, of which the last sixteen are four numbers.
 pub(crate) fn write_header(out: &mut [u8], header: Header) -> usize
     requires { ⌜ length (partBytes (headerBytes header)) ≤ length (now out) ⌝ }
@@ -99,9 +109,15 @@ pub(crate) fn write_header(out: &mut [u8], header: Header) -> usize
     out[2] = 1;
     out[3] = header.kind;
     out[4] = header.flags;
-    octets::put_number(&mut out[5..], header.userid as usize);
-    octets::put_number(&mut out[9..], header.rolemask as usize);
-    octets::put_number(&mut out[13..], header.first as usize);
-    octets::put_number(&mut out[17..], header.second as usize);
+    write_pair(
+        &mut out[5..],
+        header.userid as usize,
+        header.rolemask as usize,
+    );
+    write_pair(
+        &mut out[13..],
+        header.first as usize,
+        header.second as usize,
+    );
     21
 }

@@ -6,53 +6,57 @@ use Prim.Native.Nat.{ℕ}
 use lib.ListN.{length}
 use Rattle.message.specs.Answer.{Answer}
 use Rattle.message.specs.Writing.{writingInto, givenMessage}
-use Rattle.writer.specs.Written.{outputOf}
-use Rattle.writer.proofs.Answers.{told-refused, told-given}
+use Rattle.writer.specs.declared.Written.the-variants.{Frame}
+use Rattle.writer.specs.Written.{writtenAs, outputOf}
+use Rattle.draft.proofs.Answers.{Told, told-refused, told-given}
 use borrow.Author.Needs.{needs}
 use Rattle.writer.proofs.write.Statement.{statement}
 use Rattle.writer.proofs.write.Tie as tie
 
 judge-requires : tie.Need-judge-requires
-judge-requires c κs = search needs
+judge-requires c κs = tt
 
-enum-known-judged : tie.Need-enum-known-judged
-enum-known-judged c = search needs
+enum-known-drafted : tie.Need-enum-known-drafted
+enum-known-drafted c = search needs
 
-enum-known-judged-2 : tie.Need-enum-known-judged-2
-enum-known-judged-2 c = search needs
+enum-known-drafted-2 : tie.Need-enum-known-drafted-2
+enum-known-drafted-2 c = search needs
+
+-- what is to be written
+abbrev answer : tie.Start → Answer (List ℕ)
+answer s = writingInto (length (s .args .out .now)) (givenMessage (s .args .header) (s .args .routes .now) (s .args .topic .now) (s .args .payload .now))
+
+-- what is known of it where its frame's length was told
+abbrev ToldOf : tie.Start → ℕ → Type 0
+ToldOf s = Told (length (s .args .out .now)) (s .args .header) (s .args .routes .now) (s .args .topic .now) (s .args .payload .now)
+
+told : (c : tie.After-drafted2) → ToldOf (c .before .before .before .before .before .before .before) (c .drafted2 .given .0 .0)
+told c = told-given _ _ _ _ _ (sym (c .before .before .judge .ensures) ∙ c .drafted2 .given .1)
 
 write-frame-requires : tie.Need-write-frame-requires
-write-frame-requires c κs =
-    let args = c .before .before .before .before .before .before .before .before .before .args in
-    let out = args .out .now in
-    let told = told-given (length out) (args .header) (args .routes .now) (args .topic .now) (args .payload .now) (sym (c .before .before .before .before .judge .ensures) ∙ c .before .before .judged2 .given .1) in
-    (told .3, (told .1, told .2))
+write-frame-requires c κs = let t = told (c .before .before) in
+    (t .whole, (t .long, t .fits))
 
 returns : tie.Need-returns
-returns c =
-    let args = c .before .before .before .before .before .before .before .before .args in
-    let out = args .out .now in
-    let m = givenMessage (args .header) (args .routes .now) (args .topic .now) (args .payload .now) in
-    let into = told-refused (writingInto (length out) m) (sym (c .before .before .before .judge .ensures) ∙ c .before .judged .given .1) in
-    (sym (c .before .judged .given .1) ∙ c .before .before .before .judge .ensures, ap (λ (a : Answer (List ℕ)). outputOf a out) (sym into))
+returns c = let start = c .before .before .before .before .before .before .before .before in
+    let into = told-refused (answer start) (sym (c .before .before .before .judge .ensures) ∙ c .before .drafted .given .1) in
+    (ap writtenAs (sym into), ap (λ (a : Answer (List ℕ)). outputOf a (start .args .out .now)) (sym into))
 
 same-length : tie.Need-same-length
 same-length c = search needs
 
 returns-2 : tie.Need-returns-2
-returns-2 c =
-    let args = c .before .before .before .before .before .before .before .before .before .before .before .before .args in
-    let out = args .out .now in
-    let told = told-given (length out) (args .header) (args .routes .now) (args .topic .now) (args .payload .now) (sym (c .before .before .before .before .before .before .before .judge .ensures) ∙ c .before .before .before .before .before .judged2 .given .1) in
-    (sym (c .before .before .before .before .before .judged2 .given .1) ∙ c .before .before .before .before .before .before .before .judge .ensures, c .before .before .write-frame .ensures ∙ ap (λ (a : Answer (List ℕ)). outputOf a out) (sym (told .0)))
+returns-2 c = let t = told (c .before .before .before .before .before) in
+    let out = c .before .before .before .before .before .before .before .before .before .before .before .before .args .out .now in
+    (ap Frame (t .long) ∙ ap writtenAs (sym (t .writes)), c .before .before .write-frame .ensures ∙ ap (λ (a : Answer (List ℕ)). outputOf a out) (sym (t .writes)))
 
 pub write-spec : {M : Type 1} → statement M
 write-spec =
     tie.close
     (tie.spec
     judge-requires
-    enum-known-judged
-    enum-known-judged-2
+    enum-known-drafted
+    enum-known-drafted-2
     write-frame-requires
     returns
     same-length

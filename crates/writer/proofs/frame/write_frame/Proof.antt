@@ -1,96 +1,92 @@
 -- `writer::frame::write_frame` meets its contract: the start, the body's length and the body, one behind the other.
 -- Assumes nothing.
 use native.Mathlib.Omega.{arith}
-use mathlib.Core.Path.{ap, _∙_}
-use mathlib.Core.List.{List}
-use Prim.Native.Nat.{ℕ, _-_}
+use native.Mathlib.Nat.{le-refl}
+use mathlib.Core.Path.{_≡_, ap, _∙_}
+use mathlib.Core.List.{List, _++_}
+use Prim.Native.Nat.{ℕ, _+_, _-_, _≤_}
+use lib.ListN.{length}
+use borrow.Rule.Slice.PartMut.{putMid}
 use Rattle.octets.specs.Number.{four}
 use Rattle.octets.specs.Laid.{laid}
+use Rattle.octets.specs.Lays.{Lays}
+use Rattle.octets.proofs.Laying.{lays-more, lays-length, lays-rest, lays-within}
+use Rattle.message.specs.Message.{Message}
 use Rattle.message.specs.Frame.{bodyOf}
 use Rattle.message.specs.Writing.{givenMessage}
-use Rattle.writer.proofs.Bodies.{frame-length, frame-bytes}
-use Rattle.octets.proofs.Laying.{lays-room, lays-leaf, lays-more, lays-rest, lays-within}
-use borrow.Author.Needs.{needs}
+use Rattle.draft.proofs.Bodies.{frame-length}
+use Rattle.writer.proofs.Bodies.{frame-bytes}
 use Rattle.writer.proofs.frame.write_frame.Statement.{statement}
 use Rattle.writer.proofs.frame.write_frame.Tie as tie
 
-put-number-requires : tie.Need-put-number-requires
-put-number-requires c κs = search needs
+-- the message that is given, and its frame is eight bytes longer than its body
+module _ (s : tie.Start) where
+  abbrev given : Message
+  given = givenMessage (s .args .header) (s .args .routes .now) (s .args .topic .now) (s .args .payload .now)
 
-sub-put-number : tie.Need-sub-put-number
-sub-put-number c =
-    let start = c .before .before .before .before .before .before .before .before in
-    let args = start .args in
-    let m = givenMessage (args .header) (args .routes .now) (args .topic .now) (args .payload .now) in
-    let long = frame-length m in
-    let l = lays-room {xs = four 4293787666} {lent = args .out .now} (omega (arith, start .pre)) (c .before .before .put-number .ensures) in
-    lays-within l (omega (arith, start .pre))
+  long : s .args .n ≡ length (bodyOf given) + 8
+  long = s .pre .1 .0 ∙ frame-length given
 
-part-put-number-start : tie.Need-part-put-number-start
-part-put-number-start c = sub-put-number c
+  room : length (bodyOf given) + 8 ≤ length (s .args .out .now)
+  room = omega (arith, long, s .pre .1 .1)
 
-part-put-number-end : tie.Need-part-put-number-end
-part-put-number-end c = search needs
+-- the start and the body's length are laid
+module _ (c : tie.After-write-pair) where
+  abbrev start : tie.Start
+  start = c .before .before .before .before .before .before
 
-sub-put-number-2 : tie.Need-sub-put-number-2
-sub-put-number-2 c =
-    let start = c .before .before .before .before .before .before .before .before .before in
-    let args = start .args in
-    omega (arith, start .pre, frame-length (givenMessage (args .header) (args .routes .now) (args .topic .now) (args .payload .now)))
+  front : Lays (four 4293787666 ++ four (start .args .n - 8)) (start .args .out .now) (c .write-pair .last .0) 8
+  front = c .write-pair .ensures
 
-put-number-requires-2 : tie.Need-put-number-requires-2
-put-number-requires-2 c κs = search needs
+sub-write-pair : tie.Need-sub-write-pair
+sub-write-pair c = omega (arith, long (c .before .before .before .before .before))
+
+write-pair-requires : tie.Need-write-pair-requires
+write-pair-requires c κs = omega (arith, room (c .before .before .before .before .before))
 
 sub-write-body : tie.Need-sub-write-body
-sub-write-body c =
-    let start = c .before .before .before .before .before .before .before .before .before .before .before .before in
-    let args = start .args in
-    let m = givenMessage (args .header) (args .routes .now) (args .topic .now) (args .payload .now) in
-    let long = frame-length m in
-    let l = lays-room {xs = four 4293787666} {lent = args .out .now} (omega (arith, start .pre)) (c .before .before .before .before .before .before .put-number .ensures) in
-    let l = lays-leaf l (four (args .n - 8)) (omega (arith, start .pre)) (c .before .before .put-number2 .ensures) in
-    lays-within l (omega (arith, start .pre))
+sub-write-body c = let d = c .before .before in
+    lays-within (front d) (omega (arith, room (start d)))
 
 part-write-body-start : tie.Need-part-write-body-start
 part-write-body-start c = sub-write-body c
 
 part-write-body-end : tie.Need-part-write-body-end
-part-write-body-end c = search needs
+part-write-body-end c = le-refl _
 
 write-body-requires : tie.Need-write-body-requires
-write-body-requires c κs =
-    let start = c .before .before .before .before .before .before .before .before .before .before .before .before .before in
-    let args = start .args in
-    let m = givenMessage (args .header) (args .routes .now) (args .topic .now) (args .payload .now) in
-    let long = frame-length m in
-    let l = lays-room {xs = four 4293787666} {lent = args .out .now} (omega (arith, start .pre)) (c .before .before .before .before .before .before .before .put-number .ensures) in
-    let l = lays-leaf l (four (args .n - 8)) (omega (arith, start .pre)) (c .before .before .before .put-number2 .ensures) in
-    (start .pre .0, lays-rest l (bodyOf m) (omega (arith, start .pre)))
+write-body-requires c κs = let d = c .before .before .before in
+    (start d .pre .0, lays-rest (front d) (bodyOf (given (start d))) (omega (arith, room (start d))))
+
+-- the body is laid behind them
+module _ (e : tie.After-write-body) where
+  abbrev headed : tie.After-write-pair
+  headed = e .before .before .before .before
+
+  abbrev bytes : List ℕ
+  bytes = (four 4293787666 ++ four (start headed .args .n - 8)) ++ bodyOf (given (start headed))
+
+  abbrev left : List ℕ
+  left = putMid 8 (length (headed .write-pair .last .0) - 8) (headed .write-pair .last .0) (e .write-body .last .0)
+
+  whole : Lays bytes (start headed .args .out .now) left (8 + e .write-body .result)
+  whole = lays-more (front headed) (e .write-body .ensures)
 
 same-length : tie.Need-same-length
-same-length c = search needs
+same-length c = let e = c .before .before in
+    lays-length (whole e) (omega (arith, room (start (headed e))))
 
 returns : tie.Need-returns
-returns c =
-    let start = c .before .before .before .before .before .before .before .before .before .before .before .before .before .before .before .before in
-    let args = start .args in
-    let m = givenMessage (args .header) (args .routes .now) (args .topic .now) (args .payload .now) in
-    let long = frame-length m in
-    let l = lays-room {xs = four 4293787666} {lent = args .out .now} (omega (arith, start .pre)) (c .before .before .before .before .before .before .before .before .before .before .put-number .ensures) in
-    let l = lays-leaf l (four (args .n - 8)) (omega (arith, start .pre)) (c .before .before .before .before .before .before .put-number2 .ensures) in
-    let l = lays-more l (c .before .before .write-body .ensures) in
-    l .bytes ∙ ap (λ (xs : List ℕ). laid xs (args .out .now)) (frame-bytes m (args .n) (start .pre .1 .0))
+returns c = let e = c .before .before in
+    let s = start (headed e) in
+    whole e .bytes ∙ ap (λ (xs : List ℕ). laid xs (s .args .out .now)) (frame-bytes (given s) (s .args .n) (s .pre .1 .0))
 
 pub write-frame-spec : {M : Type 1} → statement M
 write-frame-spec =
     tie.close
     (tie.spec
-    put-number-requires
-    sub-put-number
-    part-put-number-start
-    part-put-number-end
-    sub-put-number-2
-    put-number-requires-2
+    sub-write-pair
+    write-pair-requires
     sub-write-body
     part-write-body-start
     part-write-body-end

@@ -5,11 +5,13 @@ use mathlib.Core.Path.{_≡_, refl, sym, ap, _∙_}
 use mathlib.Core.List.{List, [], _++_, append-assoc, append-nil}
 use Prim.Native.Nat.{ℕ, _+_, _-_, _%_, _<_, _≤_}
 use native.Mathlib.Omega.{arith}
+use native.Mathlib.Nat.{le-refl}
 use lib.ListN.{length, take, drop, length-append, drop-of-length-le}
 use borrow.Rule.Slice.PartMut.{midOf, putMid}
 use Rattle.message.specs.Frame.{partBytes, joined}
 use Rattle.octets.specs.Lays.{Lays}
-use Rattle.writer.proofs.Cuts.{cut, cut-next, route-width}
+use Rattle.draft.proofs.Cuts.{cut, route-width}
+use Rattle.writer.proofs.Parts.{cut-next}
 use Rattle.octets.proofs.Laying.{lays-none, lays-more, lays-length, lays-rest}
 use Rattle.writer.proofs.part.write_routes.Statement.{statement}
 use Rattle.writer.proofs.part.write_routes.Tie as tie
@@ -63,7 +65,7 @@ part-write-part-start : tie.Need-part-write-part-start Inv-loop μ-loop
 part-write-part-start c = sub-write-part c
 
 part-write-part-end : tie.Need-part-write-part-end Inv-loop μ-loop
-part-write-part-end c = omega arith
+part-write-part-end c = le-refl _
 
 add-write-part : tie.Need-add-write-part Inv-loop μ-loop
 add-write-part c = omega (arith, c .before .before .before .before .before .pre .0)

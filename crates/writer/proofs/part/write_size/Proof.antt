@@ -2,11 +2,12 @@
 -- Assumes nothing.
 use borrow.Author.Needs.{needs}
 use native.Mathlib.Omega.{arith}
+use native.Mathlib.Nat.{le-refl}
 use mathlib.Core.Path.{ap}
 use lib.ListN.{length, length-set}
 use Rattle.octets.specs.Number.{four}
 use Rattle.octets.proofs.Laying.{lays-none, lays-byte, lays-leaf, lays-length}
-use Rattle.writer.proofs.Parts.{size-one, size-five}
+use Rattle.draft.proofs.Parts.{size-one, size-five}
 use Rattle.writer.proofs.part.write_size.Statement.{statement}
 use Rattle.writer.proofs.part.write_size.Tie as tie
 
@@ -26,10 +27,10 @@ part-put-number-start : tie.Need-part-put-number-start
 part-put-number-start c = simp length-set (omega (arith, ap length (size-five (c .before .before .args .n) (omega arith))))
 
 part-put-number-end : tie.Need-part-put-number-end
-part-put-number-end c = search needs
+part-put-number-end c = le-refl _
 
 put-number-requires : tie.Need-put-number-requires
-put-number-requires c κs = search needs
+put-number-requires c κs = tt
 
 same-length : tie.Need-same-length
 same-length c = search needs

@@ -1,0 +1,67 @@
+-- Laws on the writer's answer: from what is told back to the writing, and from the writing to the writing into an output of so many bytes.
+-- Assumes nothing.
+use mathlib.Core.Path.{_≡_, refl, ap, _∙_}
+use mathlib.Core.Bool.{Bool, true, false, not, _&&_}
+use Prim.Native.Nat.{ℕ, _%_, _≤_}
+use mathlib.Core.List.{List}
+use native.Mathlib.Omega.{arith}
+use lib.Dec.{ltb}
+use lib.ListN.{length}
+use borrow.Author.Tests.{not-false, ltb-false}
+use Rattle.message.specs.declared.Refusal.{Refusal}
+use Rattle.message.specs.declared.Refusal.the-variants.{LongBody, WrongHeader, WrongParts, WrongRoute, WrongTopic, WrongField, ShortOutput}
+use Rattle.message.specs.Answer.{Answer, refused, answered, refuseIf}
+use Rattle.message.specs.declared.Header.{Header}
+use Rattle.message.specs.Header.{hasTopic, isKnown, partsFit, fieldsGood}
+use Rattle.message.specs.Forms.{isTopic}
+use Rattle.message.specs.Frame.{bodyOf, frameOf}
+use Rattle.message.specs.Writing.{partsGivenFit, routesGood, writingInto, givenMessage}
+use Rattle.draft.specs.declared.Drafted.the-variants.{Refused, Frame}
+use Rattle.draft.specs.Drafted.{draftedAs, measured}
+use Rattle.draft.proofs.Cuts.{cut, good-whole}
+use Rattle.draft.proofs.Judging.{order-is}
+
+pub told-refused : (a : Answer (List ℕ)) {r : Refusal} → draftedAs a ≡ Refused r → a ≡ refused r
+told-refused (refused s) e = cc
+told-refused (answered frame) e = absurd (let z : _≡_ {A = ℕ} 0 1 = cc in omega arith)
+
+told-frame : (a : Answer (List ℕ)) {n : ℕ} → draftedAs a ≡ Frame n → (frame : List ℕ) × (a ≡ answered frame) × (n ≡ length frame)
+told-frame (refused s) e = absurd (let z : _≡_ {A = ℕ} 0 1 = cc in omega arith)
+told-frame (answered frame) e = (frame, refl, cc)
+
+never : {A : Type 0} {r : Refusal} {a : A} → refused r ≡ answered a → ⊥
+never e = let z : _≡_ {A = ℕ} 0 1 = cc in omega arith
+
+-- an answer at the end of the writer's order has passed all its tests
+no-refusal : (k a r t f l s : Bool) {x : List ℕ} (frame : List ℕ) → refuseIf k WrongHeader (refuseIf a WrongParts (refuseIf r WrongRoute (refuseIf t WrongTopic (refuseIf f WrongField (refuseIf l LongBody (refuseIf s ShortOutput (answered x))))))) ≡ answered frame → (frame ≡ x) × (r ≡ false) × (s ≡ false)
+no-refusal true a r t f l s frame e = absurd (never e)
+no-refusal false true r t f l s frame e = absurd (never e)
+no-refusal false false true t f l s frame e = absurd (never e)
+no-refusal false false false true f l s frame e = absurd (never e)
+no-refusal false false false false true l s frame e = absurd (never e)
+no-refusal false false false false false true s frame e = absurd (never e)
+no-refusal false false false false false false true frame e = absurd (never e)
+no-refusal false false false false false false false frame e = (cc, refl, refl)
+
+-- what a frame's length that is told says of the message that is given: its frame is written, which fits, and its routes are whole
+pub record Told (room : ℕ) (h : Header) (routes topic payload : List ℕ) (n : ℕ) : Type 0 where
+  pub writes : writingInto room (givenMessage h routes topic payload) ≡ answered (frameOf (givenMessage h routes topic payload))
+  pub long : n ≡ length (frameOf (givenMessage h routes topic payload))
+  pub fits : n ≤ room
+  pub whole : length routes % 37 ≡ 0
+
+pub told-given : (room : ℕ) (h : Header) (routes topic payload : List ℕ) {n : ℕ} → draftedAs (writingInto room (givenMessage h routes topic payload)) ≡ Frame n → Told room h routes topic payload n
+unfolding measured
+told-given room h routes topic payload e =
+    let m = givenMessage h routes topic payload in
+    let told = told-frame (writingInto room m) e in
+    let is =
+    no-refusal (not (isKnown h)) (not (partsFit h && partsGivenFit m)) (not (routesGood (cut routes))) (hasTopic (h .flags) && not (isTopic topic)) (not (fieldsGood h)) (ltb 32768 (length (bodyOf m))) (ltb room (length (frameOf m)))
+    (told .0) (order-is h routes topic payload room refl refl refl refl refl ∙ told .1) in
+    let long = told .2 ∙ ap length (is .0) in
+    record {
+      writes = told .1 ∙ ap answered (is .0);
+      long = long;
+      fits = omega (arith, long, ltb-false room (length (frameOf m)) (is .2));
+      whole = good-whole routes (not-false (routesGood (cut routes)) (is .1));
+    }

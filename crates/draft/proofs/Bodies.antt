@@ -1,0 +1,38 @@
+-- Laws on the body and the frame of the message that the writer is given: the body is the routing group, the topic's part, the payload's
+-- part and the header's part, one after another.
+-- Assumes nothing.
+use mathlib.Core.Path.{_≡_}
+use mathlib.Core.Bool.{Bool, true}
+use Prim.Native.Nat.{ℕ, _+_, _%_, _≤_}
+use mathlib.Core.List.{List, [], _∷_, _++_, append-nil, append-assoc}
+use native.Mathlib.Omega.{arith}
+use lib.ListN.{length, length-append}
+use Rattle.message.specs.declared.Header.{Header}
+use Rattle.message.specs.Header.{hasTopic, hasPayload, hasRoute, headerBytes}
+use Rattle.message.specs.Message.{Message}
+use Rattle.message.specs.Frame.{partBytes, joined, partIf, partsOf, bodyOf, frameOf}
+use Rattle.message.specs.Writing.{givenMessage}
+use Rattle.draft.specs.Parts.{groupOf, groupLength, partLength}
+use Rattle.draft.proofs.Parts.{joined-append, part-takes, group-takes, part-most, group-most}
+
+-- r, t and p say which flags are set
+module _ (h : Header) (routes topic payload : List ℕ) {r t p : Bool} (er : r ≡ hasRoute (h .flags)) (et : t ≡ hasTopic (h .flags)) (ep : p ≡ hasPayload (h .flags)) where
+  pub body-parts : bodyOf (givenMessage h routes topic payload) ≡ joined (groupOf r routes) ++ joined (partIf t (topic ++ (0 ∷ []))) ++ joined (partIf p payload) ++ partBytes (headerBytes h)
+  unfolding bodyOf partsOf givenMessage
+  body-parts = rw (er, et, ep) (simp (joined-append, append-assoc, append-nil))
+
+  pub body-length : length routes % 37 ≡ 0 → length (bodyOf (givenMessage h routes topic payload)) ≡ groupLength r (length routes) + partLength t (length topic + 1) + partLength p (length payload) + 21
+  unfolding headerBytes
+  body-length e = rw (body-parts, length-append, length-append, length-append, group-takes r routes e, part-takes t, part-takes p, length-append topic (0 ∷ []))
+
+  pub body-most : length routes % 37 ≡ 0 → length routes ≤ 2368 → length topic ≤ 255 → length payload ≤ 32768 → length (bodyOf (givenMessage h routes topic payload)) ≤ 40000
+  body-most e hr ht hp = rw (body-length e) (omega (arith, group-most r (length routes), part-most t (length topic + 1), part-most p (length payload)))
+
+  -- a body is longer than its payload
+  pub payload-shorter : p ≡ true → length payload ≤ length (bodyOf (givenMessage h routes topic payload))
+  payload-shorter e = rw (body-parts, length-append, length-append, length-append, part-takes p, e) (omega arith)
+
+-- the frame is eight bytes and the body
+pub frame-length : (m : Message) → length (frameOf m) ≡ length (bodyOf m) + 8
+unfolding frameOf
+frame-length m = omega arith

@@ -1,0 +1,92 @@
+-- Laws on what the writer refuses: its order, and what the tests that were passed tell of the parts.
+-- Assumes nothing.
+use mathlib.Core.Path.{_≡_, refl, sym, ap, _∙_}
+use mathlib.Core.Bool.{Bool, true, false, not, _&&_, _||_, true≢false}
+use Prim.Native.Nat.{ℕ, suc, _<_, _≤_}
+use mathlib.Core.List.{List, [], _∷_}
+use native.Mathlib.Omega.{arith}
+use native.Mathlib.Decide.{decLe}
+use native.Mathlib.Nat.{lt-of-not-le}
+use lib.Dec.{eqb}
+use lib.ListN.{length}
+use borrow.Author.Tests.{ne-eqb, eqb-true, lt-ltb, le-ltb}
+use Rattle.message.specs.declared.Header.{Header}
+use Rattle.message.specs.declared.Refusal.{Refusal}
+use Rattle.message.specs.declared.Refusal.the-variants.{LongBody, WrongHeader, WrongParts, WrongRoute, WrongTopic, WrongField, ShortOutput}
+use Rattle.message.specs.Answer.{Answer, refused, answered, refuseIf, andThen}
+use Rattle.message.specs.Header.{hasTopic, hasPayload, hasRoute, isKnown, partsFit, fieldsGood}
+use Rattle.message.specs.Message.{Message}
+use Rattle.message.specs.Forms.{isTopic}
+use Rattle.message.specs.Frame.{bodyOf, frameOf}
+use Rattle.message.specs.Writing.{isEmpty, partsGivenFit, routesGood, writing, writingInto, givenMessage}
+use Rattle.draft.specs.Drafted.{measured}
+use Rattle.message.proofs.Topics.{topic-long}
+use Rattle.draft.proofs.Cuts.{cut, cut-empty}
+use Rattle.draft.proofs.Bodies.{payload-shorter}
+
+pub empty-length : (xs : List ℕ) → eqb (length xs) 0 ≡ isEmpty xs
+empty-length [] = refl
+empty-length (x ∷ xs) = ne-eqb (suc (length xs)) 0 (λ (e : suc (length xs) ≡ 0). omega arith)
+
+last-two : (f a b c : Bool) → (f && (a && (b && c))) ≡ true → (b ≡ true) × (c ≡ true)
+last-two true true true c e = (refl, e)
+last-two true true false c e = absurd (true≢false (sym e))
+last-two true false b c e = absurd (true≢false (sym e))
+last-two false a b c e = absurd (true≢false (sym e))
+
+is-empty : (xs : List ℕ) → isEmpty xs ≡ true → length xs ≡ 0
+is-empty xs e = eqb-true (length xs) 0 (empty-length xs ∙ e)
+
+-- what follows an answer follows each of its refusals
+then-if : (test : Bool) (r : Refusal) (next : Answer (List ℕ)) (f : List ℕ → Answer (List ℕ)) → andThen (refuseIf test r next) f ≡ refuseIf test r (andThen next f)
+then-if true r next f = refl
+then-if false r next f = refl
+
+module _ (h : Header) (routes topic payload : List ℕ) where
+  -- r, t and p say which flags are set, f whether they fit the type
+  pub agrees : {f r t p a b c : Bool} → f ≡ partsFit h → r ≡ hasRoute (h .flags) → t ≡ hasTopic (h .flags) → p ≡ hasPayload (h .flags) → a ≡ (r || isEmpty routes) → b ≡ (t || isEmpty topic) → c ≡ (p || isEmpty payload) → (f && (a && (b && c))) ≡ (partsFit h && partsGivenFit (givenMessage h routes topic payload))
+  unfolding partsGivenFit givenMessage
+  agrees ef er et ep ea eb ec = rw (ea, eb, ec, ef, er, et, ep, cut-empty)
+
+  -- the writer's order, up to the body's length and the output's
+  pub order-is : (room : ℕ) {k a r t f : Bool} → k ≡ isKnown h → a ≡ (partsFit h && partsGivenFit (givenMessage h routes topic payload)) → r ≡ routesGood (cut routes) → t ≡ (hasTopic (h .flags) && not (isTopic topic)) → f ≡ fieldsGood h → refuseIf (not k) WrongHeader (refuseIf (not a) WrongParts (refuseIf (not r) WrongRoute (refuseIf t WrongTopic (refuseIf (not f) WrongField (measured room (givenMessage h routes topic payload)))))) ≡ writingInto room (givenMessage h routes topic payload)
+  unfolding writingInto writing measured givenMessage
+  order-is room ek ea er et ef = rw (ek, ea, er, et, ef, then-if, then-if, then-if, then-if, then-if, then-if)
+
+  -- what is known where the parts agree with type and flags
+  module _ (agree : (partsFit h && partsGivenFit (givenMessage h routes topic payload)) ≡ true) where
+    given : ((hasTopic (h .flags) || isEmpty topic) ≡ true) × ((hasPayload (h .flags) || isEmpty payload) ≡ true)
+    given = last-two (partsFit h) (hasRoute (h .flags) || isEmpty routes) (hasTopic (h .flags) || isEmpty topic) (hasPayload (h .flags) || isEmpty payload) (agrees refl refl refl refl refl refl refl ∙ agree)
+
+    -- a topic that is not refused is short, there or not
+    pub topic-short : (hasTopic (h .flags) && not (isTopic topic)) ≡ false → length topic ≤ 255
+    topic-short good = go (hasTopic (h .flags)) (given .0) good
+      where
+        short : Dec (length topic ≤ 255) → not (isTopic topic) ≡ false → length topic ≤ 255
+        short (yes l) e = l
+        short (no l) e = absurd (true≢false (sym (ap not (topic-long topic (omega (arith, lt-of-not-le l)) (lt-of-not-le l))) ∙ e))
+
+        go : (t : Bool) → (t || isEmpty topic) ≡ true → (t && not (isTopic topic)) ≡ false → length topic ≤ 255
+        go true g e = short (decLe (length topic) 255) e
+        go false g e = omega (arith, is-empty topic g)
+
+    -- a long payload is there, so that the body is long
+    pub payload-long : 32768 < length payload → 32768 < length (bodyOf (givenMessage h routes topic payload))
+    payload-long l = go (hasPayload (h .flags)) refl (given .1)
+      where
+        go : (p : Bool) → p ≡ hasPayload (h .flags) → (p || isEmpty payload) ≡ true → 32768 < length (bodyOf (givenMessage h routes topic payload))
+        go true e g = omega (arith, payload-shorter h routes topic payload refl refl e refl)
+        go false e g = absurd (omega (arith, is-empty payload g))
+
+module _ (room : ℕ) (m : Message) where
+  pub measured-long : 32768 < length (bodyOf m) → measured room m ≡ refused LongBody
+  unfolding measured
+  measured-long l = rw (lt-ltb 32768 (length (bodyOf m)) l)
+
+  pub measured-short : length (bodyOf m) ≤ 32768 → room < length (frameOf m) → measured room m ≡ refused ShortOutput
+  unfolding measured
+  measured-short l h = rw (le-ltb 32768 (length (bodyOf m)) l, lt-ltb room (length (frameOf m)) h)
+
+  pub measured-fits : length (bodyOf m) ≤ 32768 → length (frameOf m) ≤ room → measured room m ≡ answered (frameOf m)
+  unfolding measured
+  measured-fits l h = rw (le-ltb 32768 (length (bodyOf m)) l, le-ltb room (length (frameOf m)) h)

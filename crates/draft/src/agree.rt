@@ -1,0 +1,63 @@
+// Whether the parts that are given agree with the header, and are of their forms.
+ghost use mathlib.Core.Path.{_≡_};
+ghost use mathlib.Core.Bool.{_&&_, _||_, not};
+ghost use lib.ListN.{length};
+ghost use Rattle.message.specs.Header.{hasTopic, partsFit};
+ghost use Rattle.message.specs.Forms.{isTopic};
+ghost use Rattle.message.specs.Writing.{isEmpty, partsGivenFit, routesGood, cutRoutes, givenMessage};
+use message::Header;
+
+// Whether a part may be given: its flag is set, or it is empty.
+fn may_be_given(flag: bool, part: &[u8]) -> bool
+    ensures { λ r. ⌜ r ≡ (flag || isEmpty (now (part .entry))) ⌝ }
+{
+    if flag { true } else { part.len() == 0 }
+}
+
+// Whether the flags fit the type and no part is given without its flag.
+pub(crate) fn parts_agree(header: Header, routes: &[u8], topic: &[u8], payload: &[u8]) -> bool
+    ensures { λ r. ⌜ r ≡ (partsFit header && partsGivenFit (givenMessage header (now (routes .entry)) (now (topic .entry)) (now (payload .entry)))) ⌝ }
+{
+    let flags = header.flags;
+    if !message::parts_fit(header) {
+        return false;
+    }
+    if !may_be_given(message::has_route(flags), routes) {
+        return false;
+    }
+    if !may_be_given(message::has_topic(flags), topic) {
+        return false;
+    }
+    may_be_given(message::has_payload(flags), payload)
+}
+
+// Whether there are at most 64 routes of 37 bytes, and each is of the form.
+pub(crate) fn routes_good(routes: &[u8]) -> bool
+    ensures { λ r. ⌜ r ≡ routesGood (cutRoutes (length (now (routes .entry))) (now (routes .entry))) ⌝ }
+{
+    if 2368 < routes.len() {
+        return false;
+    }
+    if routes.len() % 37 != 0 {
+        return false;
+    }
+    let mut i = 0;
+    while i < routes.len() {
+        if !message::form::is_route(&routes[i..i + 37]) {
+            return false;
+        }
+        i += 37;
+    }
+    true
+}
+
+// Whether there is a topic that is not of the form.
+pub(crate) fn topic_wrong(flags: u8, topic: &[u8]) -> bool
+    ensures { λ r. ⌜ r ≡ (hasTopic flags && not (isTopic (now (topic .entry)))) ⌝ }
+{
+    if message::has_topic(flags) {
+        !message::form::is_topic(topic)
+    } else {
+        false
+    }
+}
