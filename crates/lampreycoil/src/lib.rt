@@ -11,8 +11,8 @@ ghost use lib.ListN.{length};
 ghost use Rattle.octets.specs.Number.{rowBytes};
 ghost use Rattle.octets.specs.Laid.{laid};
 ghost use Rattle.lampreycoil.specs.Calls.{returned, recorded, readRow, readCall, headerOf, writeCall, wrote};
+ghost use Rattle.message.specs.Answer.{writtenOver};
 ghost use Rattle.message.specs.Writing.{givenMessage};
-ghost use Rattle.writer.specs.Written.{outputOf};
 
 pub mod tables;
 
@@ -76,7 +76,7 @@ pub extern "C" fn lampreycoil_write(
     row: &mut [u8],
 ) -> u32
     ensures { λ r. ⌜ r ≡ returned (writeCall (givenMessage (headerOf kind flags userid rolemask first second) (now (routes .entry)) (now (topic .entry)) (now (payload .entry))) (length (now (out .entry))) (length (now (row .entry)))) ⌝ }
-    ensures { λ _. ⌜ now (out .exit) ≡ outputOf (writeCall (givenMessage (headerOf kind flags userid rolemask first second) (now (routes .entry)) (now (topic .entry)) (now (payload .entry))) (length (now (out .entry))) (length (now (row .entry)))) (now (out .entry)) ⌝ }
+    ensures { λ _. ⌜ now (out .exit) ≡ writtenOver (writeCall (givenMessage (headerOf kind flags userid rolemask first second) (now (routes .entry)) (now (topic .entry)) (now (payload .entry))) (length (now (out .entry))) (length (now (row .entry)))) (now (out .entry)) ⌝ }
     ensures { λ _. ⌜ now (row .exit) ≡ recorded (wrote (writeCall (givenMessage (headerOf kind flags userid rolemask first second) (now (routes .entry)) (now (topic .entry)) (now (payload .entry))) (length (now (out .entry))) (length (now (row .entry))))) (now (row .entry)) ⌝ }
 {
     if row.len() < 4 {

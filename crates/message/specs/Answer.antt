@@ -1,6 +1,9 @@
 -- An answer, or the refusal that stands in its place. Demand 1: "every public call ends with an answer or the refusal that the paper's table names"
 -- Assumes nothing.
+use Prim.Native.Nat.{ℕ}
 use mathlib.Core.Bool.{Bool, true, false}
+use mathlib.Core.List.{List}
+use Rattle.octets.specs.Laid.{laid}
 use Rattle.message.specs.declared.Refusal.{Refusal}
 
 pub data Answer (A : Type 0) : Type 0 where
@@ -16,3 +19,8 @@ refuseIf false r next = next
 abbrev pub andThen : {A B : Type 0} → Answer A → (A → Answer B) → Answer B
 andThen (refused r) f = refused r
 andThen (answered a) f = f a
+
+-- what is left in a lent output: the bytes of the answer over its front, "and bytes behind them stay"; a refusal "writes nothing"
+abbrev pub writtenOver : Answer (List ℕ) → List ℕ → List ℕ
+writtenOver (refused r) out = out
+writtenOver (answered xs) out = laid xs out

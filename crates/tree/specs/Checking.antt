@@ -4,7 +4,6 @@ use mathlib.Core.Bool.{not}
 use mathlib.Core.List.{List}
 use lib.Dec.{ltb}
 use lib.ListN.{length}
-use Rattle.octets.specs.Laid.{laid}
 use Rattle.message.specs.declared.Refusal.the-variants.{WrongTree, ShortOutput}
 use Rattle.message.specs.Answer.{Answer, refused, answered, refuseIf}
 use Rattle.tree.specs.declared.Checked.{Checked}
@@ -25,8 +24,3 @@ depthsInto room tree = refuseIf (not (treeGood tree)) WrongTree (refuseIf (ltb r
 abbrev pub howMany : Answer (List ℕ) → Answer ℕ
 howMany (refused r) = refused r
 howMany (answered xs) = answered (length xs)
-
--- "the rest of it untouched"; "A refusal carries its number and writes nothing"
-abbrev pub writtenOver : Answer (List ℕ) → List ℕ → List ℕ
-writtenOver (refused r) out = out
-writtenOver (answered xs) out = laid xs out

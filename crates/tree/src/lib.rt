@@ -6,7 +6,8 @@ ghost use Prim.Native.Nat.{_+_, _*_, _<_, _≤_};
 ghost use lib.ListN.{length};
 ghost use Rattle.tree.specs.Tree.{ranksIn, wholeTree, parentOf};
 ghost use Rattle.tree.specs.Depths.{depthOf, treeGood, depthsOf, Shallow};
-ghost use Rattle.tree.specs.Checking.{told, depthsInto, howMany, writtenOver};
+ghost use Rattle.message.specs.Answer.{writtenOver};
+ghost use Rattle.tree.specs.Checking.{told, depthsInto, howMany};
 ghost use Rattle.tree.specs.Towards.{isNeighbour, hop, towards};
 ghost use Rattle.octets.specs.Laid.{laid};
 

@@ -2,7 +2,8 @@
 ghost use mathlib.Core.Path.{_≡_};
 ghost use lib.ListN.{length};
 ghost use Rattle.message.specs.Writing.{writingInto, givenMessage};
-ghost use Rattle.writer.specs.Written.{writtenAs, outputOf};
+ghost use Rattle.message.specs.Answer.{writtenOver};
+ghost use Rattle.writer.specs.Written.{writtenAs};
 use draft::Drafted;
 use message::Header;
 use message::Refusal;
@@ -19,7 +20,7 @@ pub enum Written {
 // Writes the message's frame to the front of out. What stands behind the frame stays as it was, and a refusal writes nothing.
 pub fn write(header: Header, routes: &[u8], topic: &[u8], payload: &[u8], out: &mut [u8]) -> Written
     ensures { λ r. ⌜ r ≡ writtenAs (writingInto (length (now (out .entry))) (givenMessage header (now (routes .entry)) (now (topic .entry)) (now (payload .entry)))) ⌝ }
-    ensures { λ _. ⌜ now (out .exit) ≡ outputOf (writingInto (length (now (out .entry))) (givenMessage header (now (routes .entry)) (now (topic .entry)) (now (payload .entry)))) (now (out .entry)) ⌝ }
+    ensures { λ _. ⌜ now (out .exit) ≡ writtenOver (writingInto (length (now (out .entry))) (givenMessage header (now (routes .entry)) (now (topic .entry)) (now (payload .entry)))) (now (out .entry)) ⌝ }
 {
     let drafted = draft::judge(header, routes, topic, payload, out.len());
     match drafted {

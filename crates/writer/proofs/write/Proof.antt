@@ -4,10 +4,10 @@ use mathlib.Core.Path.{sym, ap, _∙_}
 use mathlib.Core.List.{List}
 use Prim.Native.Nat.{ℕ}
 use lib.ListN.{length}
-use Rattle.message.specs.Answer.{Answer}
+use Rattle.message.specs.Answer.{Answer, writtenOver}
 use Rattle.message.specs.Writing.{writingInto, givenMessage}
 use Rattle.writer.specs.declared.Written.the-variants.{Frame}
-use Rattle.writer.specs.Written.{writtenAs, outputOf}
+use Rattle.writer.specs.Written.{writtenAs}
 use Rattle.draft.proofs.Answers.{Told, told-refused, told-given}
 use borrow.Author.Needs.{needs}
 use Rattle.writer.proofs.write.Statement.{statement}
@@ -40,7 +40,7 @@ write-frame-requires c κs = let t = told (c .before .before) in
 returns : tie.Need-returns
 returns c = let start = c .before .before .before .before .before .before .before .before in
     let into = told-refused (answer start) (sym (c .before .before .before .judge .ensures) ∙ c .before .drafted .given .1) in
-    (ap writtenAs (sym into), ap (λ (a : Answer (List ℕ)). outputOf a (start .args .out .now)) (sym into))
+    (ap writtenAs (sym into), ap (λ (a : Answer (List ℕ)). writtenOver a (start .args .out .now)) (sym into))
 
 same-length : tie.Need-same-length
 same-length c = search needs
@@ -48,7 +48,7 @@ same-length c = search needs
 returns-2 : tie.Need-returns-2
 returns-2 c = let t = told (c .before .before .before .before .before) in
     let out = c .before .before .before .before .before .before .before .before .before .before .before .before .args .out .now in
-    (ap Frame (t .long) ∙ ap writtenAs (sym (t .writes)), c .before .before .write-frame .ensures ∙ ap (λ (a : Answer (List ℕ)). outputOf a out) (sym (t .writes)))
+    (ap Frame (t .long) ∙ ap writtenAs (sym (t .writes)), c .before .before .write-frame .ensures ∙ ap (λ (a : Answer (List ℕ)). writtenOver a out) (sym (t .writes)))
 
 pub write-spec : {M : Type 1} → statement M
 write-spec =

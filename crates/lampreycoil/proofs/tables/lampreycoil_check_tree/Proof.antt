@@ -7,8 +7,8 @@ use Prim.Native.Nat.{ℕ}
 use lib.ListN.{length}
 use Rattle.lampreycoil.proofs.TreeCalls.{tree-short, tree-on, tree-refused, tree-returned, tree-wrote}
 use Rattle.lampreycoil.specs.Calls.{returned, recorded, wrote}
-use Rattle.tree.specs.Checking.{told, depthsInto, writtenOver}
-use Rattle.message.specs.Answer.{Answer}
+use Rattle.tree.specs.Checking.{told, depthsInto}
+use Rattle.message.specs.Answer.{Answer, writtenOver}
 use Rattle.octets.proofs.Buffers.{laid-room}
 use Rattle.octets.specs.Number.{rowBytes}
 use Rattle.lampreycoil.proofs.tables.lampreycoil_check_tree.Statement.{statement}
