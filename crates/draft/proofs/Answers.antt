@@ -13,7 +13,7 @@ use Rattle.message.specs.declared.Refusal.the-variants.{LongBody, WrongHeader, 
 use Rattle.message.specs.Answer.{Answer, refused, answered, refuseIf}
 use Rattle.message.specs.declared.Header.{Header}
 use Rattle.message.specs.Header.{hasTopic, isKnown, partsFit, fieldsGood}
-use Rattle.message.specs.Forms.{isTopic}
+use Rattle.form.specs.Forms.{isTopic}
 use Rattle.message.specs.Frame.{bodyOf, frameOf}
 use Rattle.message.specs.Writing.{partsGivenFit, routesGood, writingInto, givenMessage}
 use Rattle.draft.specs.declared.Drafted.the-variants.{Refused, Frame}

@@ -11,10 +11,10 @@ use lib.Dec.{leb}
 use lib.ListN.{length, take, drop, length-append, length-take, length-drop}
 use lib.Seq.{length-take-le, drop-drop}
 use borrow.Author.Tests.{le-leb, lt-leb}
-use Rattle.message.specs.Forms.{isRoute}
+use Rattle.form.specs.Forms.{isRoute}
 use Rattle.message.specs.Frame.{partBytes, joined}
 use Rattle.message.specs.Writing.{cutRoutes, allRoutes, routesGood, isEmpty}
-use Rattle.message.proofs.Routes.{route-length}
+use Rattle.form.proofs.Routes.{route-length}
 
 -- all the bytes, cut
 abbrev pub cut : List ℕ → List (List ℕ)

@@ -16,11 +16,11 @@ use Rattle.message.specs.declared.Refusal.the-variants.{LongBody, WrongHeader, 
 use Rattle.message.specs.Answer.{Answer, refused, answered, refuseIf, andThen}
 use Rattle.message.specs.Header.{hasTopic, hasPayload, hasRoute, isKnown, partsFit, fieldsGood}
 use Rattle.message.specs.Message.{Message}
-use Rattle.message.specs.Forms.{isTopic}
+use Rattle.form.specs.Forms.{isTopic}
 use Rattle.message.specs.Frame.{bodyOf, frameOf}
 use Rattle.message.specs.Writing.{isEmpty, partsGivenFit, routesGood, writing, writingInto, givenMessage}
 use Rattle.draft.specs.Drafted.{measured}
-use Rattle.message.proofs.Topics.{topic-long}
+use Rattle.form.proofs.Topics.{topic-long}
 use Rattle.draft.proofs.Cuts.{cut, cut-empty}
 use Rattle.draft.proofs.Bodies.{payload-shorter}
 

@@ -3,7 +3,7 @@ ghost use mathlib.Core.Path.{_≡_};
 ghost use mathlib.Core.Bool.{_&&_, _||_, not};
 ghost use lib.ListN.{length};
 ghost use Rattle.message.specs.Header.{hasTopic, partsFit};
-ghost use Rattle.message.specs.Forms.{isTopic};
+ghost use Rattle.form.specs.Forms.{isTopic};
 ghost use Rattle.message.specs.Writing.{isEmpty, partsGivenFit, routesGood, cutRoutes, givenMessage};
 use message::Header;
 
@@ -43,7 +43,7 @@ pub(crate) fn routes_good(routes: &[u8]) -> bool
     }
     let mut i = 0;
     while i < routes.len() {
-        if !message::form::is_route(&routes[i..i + 37]) {
+        if !form::is_route(&routes[i..i + 37]) {
             return false;
         }
         i += 37;
@@ -56,7 +56,7 @@ pub(crate) fn topic_wrong(flags: u8, topic: &[u8]) -> bool
     ensures { λ r. ⌜ r ≡ (hasTopic flags && not (isTopic (now (topic .entry)))) ⌝ }
 {
     if message::has_topic(flags) {
-        !message::form::is_topic(topic)
+        !form::is_topic(topic)
     } else {
         false
     }

@@ -3,7 +3,7 @@ ghost use mathlib.Core.Path.{_≡_};
 ghost use mathlib.Core.Bool.{true, false, _&&_, not};
 ghost use lib.ListN.{length};
 ghost use Rattle.message.specs.Header.{hasTopic, partsFit};
-ghost use Rattle.message.specs.Forms.{isTopic};
+ghost use Rattle.form.specs.Forms.{isTopic};
 ghost use Rattle.message.specs.Writing.{partsGivenFit, routesGood, cutRoutes, writingInto, givenMessage};
 ghost use Rattle.draft.specs.Drafted.{draftedAs, measured};
 use message::Header;

@@ -9,7 +9,7 @@ use lib.Dec.{eqb, leb}
 use lib.ListN.{length}
 use Rattle.message.specs.declared.Refusal.the-variants.{WrongTree, WrongIdentities}
 use Rattle.message.specs.Answer.{refused, answered}
-use Rattle.message.specs.Forms.{isRoute}
+use Rattle.form.specs.Forms.{isRoute}
 use Rattle.records.specs.declared.Found.the-variants.{At, Nothing}
 use Rattle.records.specs.Below.{allBelow, noneTwice}
 use Rattle.records.specs.Bytes.{sameBytes}

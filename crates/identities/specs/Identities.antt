@@ -6,7 +6,7 @@ use lib.Dec.{eqb, leb}
 use lib.ListN.{length}
 use Rattle.message.specs.declared.Refusal.the-variants.{WrongTree, WrongIdentities}
 use Rattle.message.specs.Answer.{Answer, answered, refuseIf}
-use Rattle.message.specs.Forms.{isRoute}
+use Rattle.form.specs.Forms.{isRoute}
 use Rattle.records.specs.declared.Found.{Found}
 use Rattle.records.specs.Below.{allBelow, noneTwice}
 use Rattle.records.specs.Bytes.{sameBytes}

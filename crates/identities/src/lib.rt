@@ -40,7 +40,7 @@ pub fn are_identities(tree: &[u8], identities: &[u8]) -> bool
     }
     let mut rank = 0;
     while rank < n {
-        if !message::form::is_route(identity_at(identities, rank)) {
+        if !form::is_route(identity_at(identities, rank)) {
             return false;
         }
         rank += 1;

@@ -8,7 +8,7 @@ use native.Mathlib.Omega.{arith}
 use borrow.Author.Tests.{eqb-true, leb-true}
 use lib.Dec.{eqb, leb}
 use lib.ListN.{length}
-use Rattle.message.specs.Forms.{Place, routePlaces, stands, matches, isRoute, isTopic, noZero}
+use Rattle.form.specs.Forms.{Place, routePlaces, stands, matches, isRoute, isTopic, noZero}
 use Rattle.message.specs.Writing.{allRoutes, routesGood}
 use Rattle.message.specs.Reading.{front, final, isTopicPart}
 use Rattle.message.proofs.Answers.{true-false, and-left, and-right}

@@ -1,7 +1,4 @@
 -- Laws about this crate's definitions, for its own proofs and those of the crates above. RoundTrip has the two that carry the project.
-pub mod Counts
-pub mod Routes
-pub mod Topics
 pub mod Fields
 pub mod Answers
 pub mod Lists

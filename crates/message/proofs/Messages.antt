@@ -12,11 +12,11 @@ use Rattle.octets.specs.Number.{Bytes}
 use Rattle.message.specs.declared.Header.{Header}
 use Rattle.message.specs.Answer.{answered}
 use Rattle.message.specs.Header.{hasTopic, hasPayload, hasRoute, isKnown, partsFit, fieldsGood, headerBytes, headerIn, isHeader}
-use Rattle.message.specs.Forms.{isTopic}
+use Rattle.form.specs.Forms.{isTopic}
 use Rattle.message.specs.Message.{Message, FieldsFit}
 use Rattle.message.specs.Frame.{partsOf, bodyOf, frameOf}
 use Rattle.message.specs.Writing.{isEmpty, partsGivenFit, routesGood, writing}
-use Rattle.message.specs.Count.{one}
+use Rattle.form.specs.Count.{one}
 use Rattle.message.specs.Reading.{front, final, beforeEmpty, routesIn, topicPlace, payloadPlace, partsAgree, isTopicPart, messageIn, judgedAs, judged}
 use Rattle.message.proofs.Answers.{and-left, and-right, and-not, and-not-false, passed, answered-same}
 use Rattle.message.proofs.Lists.{front-snoc, final-snoc, front-final}

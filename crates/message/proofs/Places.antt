@@ -11,7 +11,7 @@ use lib.ListN.{length, getD, drop, length-append, length-drop}
 use lib.Seq.{getD-drop, getD-append-add}
 use Rattle.message.specs.Frame.{partIf}
 use Rattle.message.specs.Writing.{isEmpty}
-use Rattle.message.specs.Count.{one}
+use Rattle.form.specs.Count.{one}
 use Rattle.message.specs.Reading.{beforeEmpty}
 use Rattle.message.proofs.Answers.{true-false}
 use Rattle.message.proofs.Lists.{Each, before-empty, before-split}

@@ -9,9 +9,9 @@ use Rattle.octets.specs.Number.{number}
 use Rattle.message.specs.declared.Header.{Header}
 use Rattle.message.specs.declared.Refusal.the-variants.{ShortInput, WrongStart, LongBody, WrongSize, ManyParts, WrongHeader, WrongParts, WrongRoute, WrongTopic, WrongField}
 use Rattle.message.specs.Answer.{Answer, refused, answered, refuseIf, andThen}
-use Rattle.message.specs.Count.{one}
+use Rattle.form.specs.Count.{one}
 use Rattle.message.specs.Header.{hasTopic, hasPayload, hasRoute, partsFit, fieldsGood, headerIn, isHeader}
-use Rattle.message.specs.Forms.{isTopic}
+use Rattle.form.specs.Forms.{isTopic}
 use Rattle.message.specs.Message.{Message}
 use Rattle.message.specs.Frame.{frameStart}
 use Rattle.message.specs.Writing.{routesGood}

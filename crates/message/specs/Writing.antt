@@ -8,7 +8,7 @@ use Rattle.message.specs.declared.Header.{Header}
 use Rattle.message.specs.declared.Refusal.the-variants.{LongBody, WrongHeader, WrongParts, WrongRoute, WrongTopic, WrongField, ShortOutput}
 use Rattle.message.specs.Answer.{Answer, answered, refuseIf, andThen}
 use Rattle.message.specs.Header.{hasTopic, hasPayload, hasRoute, isKnown, partsFit, fieldsGood}
-use Rattle.message.specs.Forms.{isRoute, isTopic}
+use Rattle.form.specs.Forms.{isRoute, isTopic}
 use Rattle.message.specs.Message.{Message}
 use Rattle.message.specs.Frame.{bodyOf, frameOf}
 

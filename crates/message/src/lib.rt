@@ -3,8 +3,6 @@ ghost use mathlib.Core.Path.{_≡_};
 ghost use Rattle.message.specs.Refusals.{numberOf};
 ghost use Rattle.message.specs.Header.{hasTopic, hasPayload, hasRoute, isType, isKnown, partsFit, fieldsGood};
 
-pub mod form;
-
 // Why a call says no: a name for each row of "Numbers for a no".
 pub enum Refusal {
     ShortInput,

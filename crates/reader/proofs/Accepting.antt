@@ -11,7 +11,7 @@ use lib.Seq.{length-take-le}
 use Rattle.octets.specs.Number.{Bytes}
 use Rattle.message.specs.declared.Header.{Header}
 use Rattle.message.specs.Answer.{answered}
-use Rattle.message.specs.Count.{one}
+use Rattle.form.specs.Count.{one}
 use Rattle.message.specs.Header.{hasTopic, hasPayload, hasRoute, fieldsGood}
 use Rattle.message.specs.Message.{Message}
 use Rattle.message.specs.Frame.{sizeBytes, partBytes, joined, partIf, bodyOf, frameOf, partsOf}

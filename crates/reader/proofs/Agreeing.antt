@@ -11,7 +11,7 @@ use borrow.Author.Tests.{eq-eqb, ne-eqb, eqb-true, le-leb, lt-leb}
 use lib.ListN.{length, take, length-append}
 use lib.Seq.{take-append-le}
 use Rattle.message.specs.declared.Header.{Header}
-use Rattle.message.specs.Count.{one}
+use Rattle.form.specs.Count.{one}
 use Rattle.message.specs.Header.{hasTopic, hasPayload, hasRoute, partsFit}
 use Rattle.message.specs.Writing.{allRoutes, routesGood}
 use Rattle.message.specs.Reading.{front, final, beforeEmpty, routesIn, topicPlace, payloadPlace, partsAgree}

@@ -15,7 +15,7 @@ use Rattle.octets.proofs.Numbers.{bytes-at}
 use Rattle.message.proofs.Answers.{true-false, and-left, and-right}
 use Rattle.message.specs.declared.Header.{Header}
 use Rattle.message.specs.Header.{isKnown, headerIn, isHeader}
-use Rattle.message.specs.Forms.{isTopic}
+use Rattle.form.specs.Forms.{isTopic}
 use Rattle.message.specs.Reading.{isTopicPart, startsRight}
 use Rattle.reader.specs.declared.header.Head.the-variants.{Wrong, Fields}
 use Rattle.reader.specs.Places.{headAs}

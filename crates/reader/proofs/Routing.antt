@@ -10,10 +10,10 @@ use native.Mathlib.Omega.{arith}
 use lib.ListN.{length, getD, take, drop, length-append, length-drop}
 use lib.Seq.{getD-drop, drop-cons, drop-drop, drop-at, take-at}
 use Rattle.message.specs.Frame.{partBytes, joined}
-use Rattle.message.specs.Forms.{isRoute}
+use Rattle.form.specs.Forms.{isRoute}
 use Rattle.message.specs.Writing.{allRoutes}
 use Rattle.message.proofs.Parts.{part-short}
-use Rattle.message.proofs.Routes.{route-length}
+use Rattle.form.proofs.Routes.{route-length}
 use Rattle.reader.proofs.Stretches.{first-byte, has-size}
 
 -- i of the first so many parts ps are routes, and the next begins at a place of the body

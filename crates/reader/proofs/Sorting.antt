@@ -14,7 +14,7 @@ use Rattle.message.specs.Answer.{refused, answered}
 use Rattle.message.specs.Header.{hasTopic, hasPayload, hasRoute, partsFit, fieldsGood}
 use Rattle.message.specs.Frame.{partBytes, joined, partIf}
 use Rattle.message.specs.Writing.{routesGood}
-use Rattle.message.specs.Count.{one}
+use Rattle.form.specs.Count.{one}
 use Rattle.message.specs.Reading.{front, final, routesIn, topicPlace, payloadPlace, partsAgree, isTopicPart, messageIn, judgedAs}
 use Rattle.message.proofs.Answers.{and-right}
 use Rattle.message.proofs.Lists.{Each, front-final}

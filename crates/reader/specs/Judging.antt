@@ -8,7 +8,7 @@ use lib.ListN.{length, getD, take, drop}
 use Rattle.octets.specs.Number.{number}
 use Rattle.message.specs.declared.Header.{Header}
 use Rattle.message.specs.Answer.{Answer, refused, answered}
-use Rattle.message.specs.Count.{one}
+use Rattle.form.specs.Count.{one}
 use Rattle.message.specs.Header.{hasTopic, hasPayload, hasRoute, headerIn, isHeader}
 use Rattle.message.specs.Frame.{sizeBytes, partBytes}
 use Rattle.message.specs.Writing.{routesGood}

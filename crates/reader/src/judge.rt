@@ -81,7 +81,7 @@ fn is_topic_part(p: &[u8]) -> bool
     if p[end] != 0 {
         return false;
     }
-    message::form::is_topic(&p[..end])
+    form::is_topic(&p[..end])
 }
 
 // Whether the first so many parts are routes. Those in front of a part that is looked at have 38 bytes each.
@@ -96,7 +96,7 @@ fn are_routes(body: &[u8], routes: usize) -> bool
         if body[at] != 37 {
             return false;
         }
-        if !message::form::is_route(&body[at + 1..at + 38]) {
+        if !form::is_route(&body[at + 1..at + 38]) {
             return false;
         }
         at += 38;

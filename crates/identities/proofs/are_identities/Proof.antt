@@ -5,7 +5,7 @@ use mathlib.Core.Path.{_≡_, sym, ap, _∙_}
 use mathlib.Core.Bool.{true}
 use native.Mathlib.Omega.{arith}
 use borrow.Author.Tests.{not-true, not-false}
-use Rattle.message.specs.Forms.{isRoute}
+use Rattle.form.specs.Forms.{isRoute}
 use Rattle.records.specs.Below.{allBelow}
 use Rattle.records.specs.Records.{distinct}
 use Rattle.records.proofs.Truth.{both}

@@ -5,8 +5,8 @@ use native.Mathlib.Omega.{arith}
 use mathlib.Core.Path.{_≡_, ap, _∙_}
 use Prim.Native.Nat.{ℕ, _+_, _≤_}
 use Rattle.message.specs.Header.{hasTopic, hasPayload, hasRoute}
-use Rattle.message.specs.Count.{one}
-use Rattle.message.proofs.Counts.{one-le}
+use Rattle.form.specs.Count.{one}
+use Rattle.form.proofs.Counts.{one-le}
 use Rattle.reader.proofs.agree.parts_wanted.Statement.{statement}
 use Rattle.reader.proofs.agree.parts_wanted.Tie as tie
 

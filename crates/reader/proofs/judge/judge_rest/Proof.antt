@@ -15,7 +15,7 @@ use Rattle.reader.specs.declared.Reading.the-variants.{Accepted}
 use Rattle.message.specs.declared.Header.{Header}
 use Rattle.message.specs.Reading.{isTopicPart}
 use Rattle.message.specs.Header.{hasTopic, hasPayload, hasRoute, fieldsGood}
-use Rattle.message.specs.Count.{one}
+use Rattle.form.specs.Count.{one}
 use Rattle.octets.specs.Number.{Bytes}
 use Rattle.octets.proofs.Numbers.{bytes-of}
 use Rattle.reader.proofs.judge.judge_rest.Statement.{statement}

@@ -7,7 +7,7 @@ use mathlib.Core.Bool.{Bool, cond}
 use Prim.Native.Nat.{_+_, _-_}
 use mathlib.Core.Path.{_≡_}
 use Rattle.message.specs.Header.{hasTopic, hasPayload}
-use Rattle.message.specs.Count.{one}
+use Rattle.form.specs.Count.{one}
 use Rattle.reader.proofs.judge.placed.Statement.{statement}
 use Rattle.reader.proofs.judge.placed.Tie as tie
 

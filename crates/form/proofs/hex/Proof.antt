@@ -1,9 +1,9 @@
--- `message::form::hex` meets its contract.
+-- `form::hex` meets its contract.
 -- Assumes nothing.
 use native.Mathlib.Omega.{arith}
 use borrow.Author.Tests.{le-leb, lt-leb}
-use Rattle.message.proofs.form.hex.Statement.{statement}
-use Rattle.message.proofs.form.hex.Tie as tie
+use Rattle.form.proofs.hex.Statement.{statement}
+use Rattle.form.proofs.hex.Tie as tie
 
 returns : tie.Need-returns
 returns c = let x = c .before .before .args .x in simp (le-leb 48 x (omega arith), le-leb x 57 (omega arith))

@@ -1,8 +1,8 @@
--- `message::form::nul` meets its contract.
+-- `form::nul` meets its contract.
 -- Assumes nothing.
 use borrow.Author.Tests.{eq-eqb, ne-eqb}
-use Rattle.message.proofs.form.nul.Statement.{statement}
-use Rattle.message.proofs.form.nul.Tie as tie
+use Rattle.form.proofs.nul.Statement.{statement}
+use Rattle.form.proofs.nul.Tie as tie
 
 returns : tie.Need-returns
 returns c = simp (eq-eqb _ _ (c .if1 .taken))

@@ -3,8 +3,8 @@
 ghost use mathlib.Core.Path.{_≡_};
 ghost use Prim.Native.Nat.{_≤_};
 ghost use lib.ListN.{length};
-ghost use Rattle.message.specs.Count.{one, count, isZero};
-ghost use Rattle.message.specs.Forms.{isHex, isRoute, isTopic};
+ghost use Rattle.form.specs.Count.{one, count, isZero};
+ghost use Rattle.form.specs.Forms.{isHex, isRoute, isTopic};
 
 // 1 for a lower-case hex digit.
 fn hex(x: u8) -> u8

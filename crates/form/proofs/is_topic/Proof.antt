@@ -1,13 +1,13 @@
--- `message::form::is_topic` meets its contract.
+-- `form::is_topic` meets its contract.
 -- Assumes nothing.
 use borrow.Author.Needs.{needs}
 use mathlib.Core.Path.{sym, ap, _∙_}
 use Prim.Native.Nat.{ℕ}
 use native.Mathlib.Omega.{arith}
 use lib.Dec.{eqb}
-use Rattle.message.proofs.Topics.{topic-empty, topic-long, topic-counted}
-use Rattle.message.proofs.form.is_topic.Statement.{statement}
-use Rattle.message.proofs.form.is_topic.Tie as tie
+use Rattle.form.proofs.Topics.{topic-empty, topic-long, topic-counted}
+use Rattle.form.proofs.is_topic.Statement.{statement}
+use Rattle.form.proofs.is_topic.Tie as tie
 
 returns : tie.Need-returns
 returns c = sym (topic-empty (c .before .before .args .s .now) (omega arith))

@@ -1,18 +1,18 @@
--- `message::form::hex_digits` meets its contract.
+-- `form::zeros` meets its contract.
 -- Assumes nothing.
 use native.Mathlib.Omega.{arith}
 use mathlib.Core.Path.{_≡_, refl, ap, _∙_}
 use Prim.Native.Nat.{ℕ, _≤_, _-_}
 use lib.ListN.{length, take, getD}
 use lib.Seq.{take-length}
-use Rattle.message.proofs.Counts.{one-le, count-more, count-take-le}
-use Rattle.message.specs.Forms.{isHex}
-use Rattle.message.specs.Count.{count}
-use Rattle.message.proofs.form.hex_digits.Statement.{statement}
-use Rattle.message.proofs.form.hex_digits.Tie as tie
+use Rattle.form.proofs.Counts.{one-le, count-more, count-take-le}
+use Rattle.form.specs.Count.{isZero}
+use Rattle.form.specs.Count.{count}
+use Rattle.form.proofs.zeros.Statement.{statement}
+use Rattle.form.proofs.zeros.Tie as tie
 
 abbrev Inv-loop : tie.InvT-loop
-Inv-loop s n₀ i₀ n i = (i ≤ length s) × (n ≡ count isHex (take i s))
+Inv-loop s n₀ i₀ n i = (i ≤ length s) × (n ≡ count isZero (take i s))
 
 abbrev μ-loop : tie.MeasureT-loop
 μ-loop s n₀ i₀ n i = length s - i
@@ -20,16 +20,16 @@ abbrev μ-loop : tie.MeasureT-loop
 loop-holds : tie.Need-loop-holds Inv-loop μ-loop
 loop-holds c = (omega arith, refl)
 
-shared-slice-read-hex : tie.Need-shared-slice-read-hex Inv-loop μ-loop
-shared-slice-read-hex c = omega arith
+shared-slice-read-nul : tie.Need-shared-slice-read-nul Inv-loop μ-loop
+shared-slice-read-nul c = omega arith
 
-hex-requires : tie.Need-hex-requires Inv-loop μ-loop
-hex-requires c κs = tt
+nul-requires : tie.Need-nul-requires Inv-loop μ-loop
+nul-requires c κs = tt
 
 add-n : tie.Need-add-n Inv-loop μ-loop
 add-n c = let at-loop = c .before .before .before in
     let s = at-loop .before .before .args .s .now in
-    omega (arith, count-take-le isHex s (at-loop .loop .i), one-le (isHex (getD s (at-loop .loop .i) 0)))
+    omega (arith, count-take-le isZero s (at-loop .loop .i), one-le (isZero (getD s (at-loop .loop .i) 0)))
 
 add-i : tie.Need-add-i Inv-loop μ-loop
 add-i c = omega arith
@@ -40,22 +40,22 @@ loop-less c = omega arith
 loop-again : tie.Need-loop-again Inv-loop μ-loop
 loop-again c = let at-loop = c .before .before .before in
     let s = at-loop .before .before .args .s .now in
-    (omega arith, omega (arith, count-more isHex s (at-loop .loop .i) (omega arith)))
+    (omega arith, omega (arith, count-more isZero s (at-loop .loop .i) (omega arith)))
 
 returns : tie.Need-returns Inv-loop μ-loop
 returns c = let s = c .before .before .before .args .s .now in
     let all : c .before .loop .i ≡ length s = omega arith in
-    c .before .loop .inv .1 ∙ ap (λ (k : ℕ). count isHex (take k s)) all ∙ ap (count isHex) (take-length s)
+    c .before .loop .inv .1 ∙ ap (λ (k : ℕ). count isZero (take k s)) all ∙ ap (count isZero) (take-length s)
 
-pub hex-digits-spec : {M : Type 1} → statement M
-hex-digits-spec =
+pub zeros-spec : {M : Type 1} → statement M
+zeros-spec =
     tie.close
     (tie.spec
     Inv-loop
     μ-loop
     loop-holds
-    shared-slice-read-hex
-    hex-requires
+    shared-slice-read-nul
+    nul-requires
     add-n
     add-i
     loop-less

@@ -11,8 +11,8 @@ use lib.Dec.{eqb}
 use lib.ListN.{length, getD, take, length-take}
 use lib.Seq.{take-suc}
 use borrow.Author.Tests.{ne-eqb}
-use Rattle.message.specs.Count.{one, isZero, count}
-use Rattle.message.specs.Forms.{noZero}
+use Rattle.form.specs.Count.{one, isZero, count}
+use Rattle.form.specs.Forms.{noZero}
 
 pub one-le : (t : Bool) → one t ≤ 1
 one-le true = omega arith

@@ -1,13 +1,13 @@
--- `message::form::is_route` meets its contract.
+-- `form::is_route` meets its contract.
 -- Assumes nothing.
 use borrow.Author.Needs.{needs}
 use mathlib.Core.Path.{sym, ap, _∙_}
 use Prim.Native.Nat.{ℕ}
 use lib.Dec.{eqb, lit<}
 use borrow.Author.Tests.{ne-eqb}
-use Rattle.message.proofs.Routes.{route-length, route-missed, route-counted}
-use Rattle.message.proofs.form.is_route.Statement.{statement}
-use Rattle.message.proofs.form.is_route.Tie as tie
+use Rattle.form.proofs.Routes.{route-length, route-missed, route-counted}
+use Rattle.form.proofs.is_route.Statement.{statement}
+use Rattle.form.proofs.is_route.Tie as tie
 
 returns : tie.Need-returns
 returns c = sym (route-length (c .before .before .args .s .now) (c .if1 .taken))

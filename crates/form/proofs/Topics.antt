@@ -7,9 +7,9 @@ use mathlib.Core.List.{List}
 use lib.Dec.{eqb}
 use lib.ListN.{length}
 use borrow.Author.Tests.{le-leb, lt-leb}
-use Rattle.message.specs.Count.{count, isZero}
-use Rattle.message.specs.Forms.{isTopic}
-use Rattle.message.proofs.Counts.{none-zero}
+use Rattle.form.specs.Count.{count, isZero}
+use Rattle.form.specs.Forms.{isTopic}
+use Rattle.form.proofs.Counts.{none-zero}
 
 module _ (xs : List ℕ) where
   pub topic-empty : length xs < 1 → isTopic xs ≡ false

@@ -1,0 +1,4 @@
+-- Laws on counted bytes, and on routes and topics by counting.
+pub mod Counts
+pub mod Routes
+pub mod Topics
