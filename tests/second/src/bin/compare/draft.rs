@@ -184,3 +184,10 @@ pub fn fits_route(place: usize, byte: u8) -> bool {
         _ => b"0123456789abcdef".contains(&byte),
     }
 }
+
+/// Values of a header's field: each single bit, all but each, and the ends of the range.
+pub fn field_values() -> impl Iterator<Item = u32> {
+    (0..32)
+        .flat_map(|bit| [1 << bit, !(1 << bit)])
+        .chain([0, u32::MAX, u32::MAX - 1, u32::MAX - 2])
+}

@@ -8,6 +8,7 @@
 
 mod arena;
 mod draft;
+mod faults;
 mod long_lengths;
 mod messages;
 mod paper;

@@ -1,6 +1,6 @@
 //! Every boundary of the reader, each with the answer that the paper gives.
 
-use crate::draft::{fits_route, frame_with, header, push_part, route, Draft};
+use crate::draft::{field_values, fits_route, frame_with, header, push_part, route, Draft};
 use crate::tester::{Expect, ReadCase, Tester};
 
 pub fn run(tester: &mut Tester) {
@@ -469,13 +469,7 @@ fn topics(tester: &mut Tester) {
 
 /// Only a request's nodeid and an event's second field are looked at.
 fn last_fields(tester: &mut Tester) {
-    let values = (0..32).flat_map(|bit| [1 << bit, !(1 << bit)]).chain([
-        0,
-        u32::MAX,
-        u32::MAX - 1,
-        u32::MAX - 2,
-    ]);
-    for value in values {
+    for value in field_values() {
         for mut draft in samples() {
             for extra in [0x00, 0x04, 0x10, 0x20, 0x40, 0x74] {
                 draft.header[3] = draft.header[3] & 0x0B | extra;

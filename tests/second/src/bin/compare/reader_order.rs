@@ -1,6 +1,7 @@
 //! The reader's order of refusals: every fault alone, and every two together.
 
 use crate::draft::{route, Draft};
+use crate::faults::{self, covered, fault, in_order};
 use crate::tester::{Expect, ReadCase, Tester};
 
 /// A frame with faults and the record that it is read into.
@@ -29,13 +30,7 @@ enum Stage {
     Field,
 }
 
-struct Fault {
-    stage: Stage,
-    number: u32,
-    /// Whether it can be put into this frame.
-    fits: fn(&Draft) -> bool,
-    apply: fn(&mut Attempt),
-}
+type Fault = faults::Fault<Stage, Draft, Attempt>;
 
 pub fn run(tester: &mut Tester) {
     tester.begin_group("reader-order");
@@ -61,24 +56,6 @@ pub fn run(tester: &mut Tester) {
     let numbers: Vec<usize> = (1..=11).collect();
     let remark = covered(tester, &pairs, &numbers);
     tester.end_group(&remark);
-}
-
-/// Every two of the numbers must have met in some frame.
-pub fn covered(tester: &mut Tester, pairs: &[[bool; 12]; 12], numbers: &[usize]) -> String {
-    let mut met = 0;
-    for &low in numbers {
-        for &high in numbers.iter().filter(|&&high| high > low) {
-            tester.case("two numbers met", low as u64, high as u64, |tester| {
-                tester.require(pairs[low][high], || "no case has both".to_string());
-            });
-            met += pairs[low][high] as u32;
-        }
-    }
-    format!("{met} pairs of numbers met")
-}
-
-pub fn in_order(a: u32, b: u32) -> [usize; 2] {
-    [a.min(b) as usize, a.max(b) as usize]
 }
 
 fn bases() -> Vec<Draft> {
@@ -158,15 +135,6 @@ fn has_routes(draft: &Draft) -> bool {
 
 fn has_topic(draft: &Draft) -> bool {
     draft.topic.is_some()
-}
-
-fn fault(stage: Stage, number: u32, fits: fn(&Draft) -> bool, apply: fn(&mut Attempt)) -> Fault {
-    Fault {
-        stage,
-        number,
-        fits,
-        apply,
-    }
 }
 
 fn faults() -> Vec<Fault> {

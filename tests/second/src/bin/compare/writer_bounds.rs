@@ -3,7 +3,7 @@
 use second::frame::Header;
 use second::write::Message;
 
-use crate::draft::{fits_route, frame_of, route, routes};
+use crate::draft::{field_values, fits_route, frame_of, route, routes};
 use crate::tester::{hex, Expect, Tester, WriteCase};
 
 pub fn run(tester: &mut Tester) {
@@ -245,13 +245,7 @@ fn topics(tester: &mut Tester) {
 }
 
 fn last_fields(tester: &mut Tester) {
-    let values = (0..32).flat_map(|bit| [1 << bit, !(1 << bit)]).chain([
-        0,
-        u32::MAX,
-        u32::MAX - 1,
-        u32::MAX - 2,
-    ]);
-    for value in values {
+    for value in field_values() {
         for (kind, parts) in [(1, 0x09), (2, 0x09), (4, 0x01), (8, 0x00)] {
             for extra in [0x00, 0x04, 0x10, 0x20, 0x40, 0x74] {
                 for field in 0..4 {

@@ -4,7 +4,7 @@ use second::frame::Header;
 use second::write::Message;
 
 use crate::draft::routes;
-use crate::reader_order::{covered, in_order};
+use crate::faults::{self, covered, fault, in_order};
 use crate::tester::{Expect, Tester, WriteCase};
 use crate::writer_bounds::head;
 
@@ -32,13 +32,7 @@ enum Stage {
     Output,
 }
 
-struct Fault {
-    stage: Stage,
-    number: u32,
-    /// Whether it can be put into this message.
-    fits: fn(&Attempt) -> bool,
-    apply: fn(&mut Attempt),
-}
+type Fault = faults::Fault<Stage, Attempt, Attempt>;
 
 pub fn run(tester: &mut Tester) {
     tester.begin_group("writer-order");
@@ -117,15 +111,6 @@ fn routed(attempt: &Attempt) -> bool {
 
 fn has_topic(attempt: &Attempt) -> bool {
     attempt.header.kind <= 4
-}
-
-fn fault(stage: Stage, number: u32, fits: fn(&Attempt) -> bool, apply: fn(&mut Attempt)) -> Fault {
-    Fault {
-        stage,
-        number,
-        fits,
-        apply,
-    }
 }
 
 fn faults() -> Vec<Fault> {
