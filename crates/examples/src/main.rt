@@ -39,14 +39,11 @@ fn show_message(header: Header, topic: &[u8]) {
 
 // Writes the request for "log" with so many bytes of payload, and says how long the frame is.
 fn show_limit(payload: &[u8], out: &mut [u8]) {
-    print::text(b"  ");
-    print::number(payload.len());
-    print::text(b" bytes of payload: ");
+    print::count(payload.len(), b" bytes of payload: ");
     match writer::write(log_request(11), b"", b"log", payload, out) {
         Written::Refused(r) => print::refused(r),
         Written::Frame(n) => {
-            print::text(b"a frame of ");
-            print::number(n);
+            print::field(b"a frame of ", n);
             print::text(b" bytes\n");
         }
     }
@@ -71,9 +68,7 @@ fn print_size(frame: &[u8], f: Frame) -> usize {
 
 // Writes the request with some payload and prints the payload's size. Says where the payload starts.
 fn show_size(payload: &[u8], out: &mut [u8]) -> usize {
-    print::text(b"  ");
-    print::number(payload.len());
-    print::text(b" bytes of data have the size ");
+    print::count(payload.len(), b" bytes of data have the size ");
     let mut start = 0;
     if let Written::Frame(_) = writer::write(log_request(11), b"", b"log", payload, out) {
         if let Reading::Accepted(f) = reader::read(out) {
@@ -103,7 +98,7 @@ fn show_sizes() {
     print::reading(reader::read(&out));
 }
 
-fn main() {
+fn show_messages() {
     print::text(b"A control message, type 2, status 3, user unknown\n");
     let control = Header {
         kind: 8,
@@ -116,11 +111,19 @@ fn main() {
     show_message(control, b"");
     print::text(b"A request for \"log\", any rank, matchtag 1, no routes\n");
     show_message(log_request(9), b"log");
+}
+
+fn show_limits() {
     print::text(b"That request with a payload\n");
     let payload = [0u8; 32737];
     let mut out = [0u8; 32776];
     show_limit(&payload[..32736], &mut out);
     show_limit(&payload, &mut out);
+}
+
+fn main() {
+    show_messages();
+    show_limits();
     print::text(b"A part's size\n");
     show_sizes();
 }

@@ -1,8 +1,10 @@
 // Printing: bytes in hexadecimal, numbers, and what the reader answered.
 use libc::STDOUT_FILENO;
+use message::Header;
 use message::Refusal;
 use reader::Frame;
 use reader::Reading;
+use reader::Stretch;
 
 pub(crate) fn text(s: &[u8]) {
     io::write_all(STDOUT_FILENO, s);
@@ -39,25 +41,37 @@ pub(crate) fn refused(r: Refusal) {
 }
 
 // A name and a number.
-fn field(name: &[u8], n: usize) {
+pub(crate) fn field(name: &[u8], n: usize) {
     text(name);
     number(n);
 }
 
-fn frame(f: Frame) {
-    let h = f.header;
-    let topic = f.topic;
-    let payload = f.payload;
+// A number, and what there are so many of.
+pub(crate) fn count(n: usize, what: &[u8]) {
+    text(b"  ");
+    number(n);
+    text(what);
+}
+
+fn header(h: Header) {
     field(b"type ", h.kind as usize);
     field(b", flags ", h.flags as usize);
     field(b", userid ", h.userid as usize);
     field(b", rolemask ", h.rolemask as usize);
     field(b", fields ", h.first as usize);
     field(b" and ", h.second as usize);
-    field(b"\n             routes ", f.routes);
+}
+
+fn stretches(topic: Stretch, payload: Stretch) {
     field(b", topic of ", topic.len);
     field(b" bytes at ", topic.start);
     field(b", payload of ", payload.len);
+}
+
+fn frame(f: Frame) {
+    header(f.header);
+    field(b"\n             routes ", f.routes);
+    stretches(f.topic, f.payload);
     field(b", ", f.taken);
     text(b" bytes in all\n");
 }
