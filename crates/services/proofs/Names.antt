@@ -1,16 +1,15 @@
--- Laws on names, padding and topics: a turn of each loop over their bytes. Assumes nothing.
-use mathlib.Core.Path.{_≡_, refl, ap}
+-- Laws on names and padding: a turn of each loop over their bytes. Assumes nothing.
+use mathlib.Core.Path.{_≡_, refl}
 use mathlib.Core.Bool.{true, false}
-use mathlib.Core.List.{List, [], _∷_, _++_}
+use mathlib.Core.List.{List, [], _∷_}
 use Prim.Native.Nat.{ℕ, _+_, _<_}
 use native.Mathlib.Numerals.{add-one}
 use borrow.Author.Tests.{eq-eqb, ne-eqb, eqb-true}
 use lib.Dec.{eqb}
-use lib.ListN.{length, getD, take, drop, replicate}
-use lib.Seq.{drop-cons, drop-length, take-suc, append-snoc, take-length}
+use lib.ListN.{length, getD, drop, replicate}
+use lib.Seq.{drop-cons, drop-length}
 use Rattle.records.proofs.Truth.{left, right}
 use Rattle.services.specs.Services.{isName, isPadding}
-use Rattle.services.specs.Lookup.{serviceOf}
 
 module _ (s : List ℕ) (i : ℕ) (h : i < length s) where
   -- ---- a name
@@ -37,20 +36,6 @@ module _ (s : List ℕ) (i : ℕ) (h : i < length s) where
   unfolding isPadding
   padding-more e = rw (add-one, drop-cons s i 0 h, eq-eqb _ _ e) refl
 
-  -- ---- a topic
-
-  pub service-stop : getD s i 0 ≡ 46 → take i s ++ serviceOf (drop i s) ≡ take i s
-  unfolding serviceOf
-  service-stop e = rw (drop-cons s i 0 h, eq-eqb _ _ e) (append-none (take i s))
-    where
-      append-none : (xs : List ℕ) → xs ++ [] ≡ xs
-      append-none [] = refl
-      append-none (x ∷ xs) = ap (λ (l : List ℕ). x ∷ l) (append-none xs)
-
-  pub service-more : (getD s i 0 ≡ 46 → ⊥) → take i s ++ serviceOf (drop i s) ≡ take (i + 1) s ++ serviceOf (drop (i + 1) s)
-  unfolding serviceOf
-  service-more n = rw (add-one, drop-cons s i 0 h, ne-eqb _ _ n, take-suc s i 0 h, append-snoc) refl
-
 -- ---- where all bytes are passed
 
 pub name-end : (s : List ℕ) (i : ℕ) → i ≡ length s → isName (drop i s) ≡ true
@@ -60,14 +45,6 @@ name-end s i e = rw (e, drop-length s) refl
 pub padding-end : (s : List ℕ) (i : ℕ) → i ≡ length s → isPadding (drop i s) ≡ true
 unfolding isPadding
 padding-end s i e = rw (e, drop-length s) refl
-
-pub service-end : (s : List ℕ) (i : ℕ) → i ≡ length s → take i s ++ serviceOf (drop i s) ≡ s
-unfolding serviceOf
-service-end s i e = rw (e, drop-length s, take-length s) (append-none s)
-  where
-    append-none : (xs : List ℕ) → xs ++ [] ≡ xs
-    append-none [] = refl
-    append-none (x ∷ xs) = ap (λ (l : List ℕ). x ∷ l) (append-none xs)
 
 -- padding is known by its length
 pub padding-is : (s : List ℕ) → isPadding s ≡ true → s ≡ replicate (length s) 0

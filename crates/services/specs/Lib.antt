@@ -1,3 +1,2 @@
--- The services that brokers register, as paper 01 has them under "The floor's tables". To be read in this order: Services, Lookup.
+-- The services that brokers register, as paper 01 has them under "The floor's tables".
 pub mod Services
-pub mod Lookup

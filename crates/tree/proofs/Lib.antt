@@ -2,5 +2,3 @@
 pub mod Tree
 pub mod Depths
 pub mod Checking
-pub mod Towards
-pub mod Paths

@@ -1,5 +1,4 @@
--- The tree of brokers, as paper 01 has it under "The floor's tables". To be read in this order: Tree, Depths, Checking, Towards.
+-- The tree of brokers, as paper 01 has it under "The floor's tables". To be read in this order: Tree, Depths, Checking.
 pub mod Tree
 pub mod Depths
 pub mod Checking
-pub mod Towards

@@ -1,4 +1,4 @@
-// The tree of brokers: the parent and the depth of a rank, the check of a tree, and the next broker on the way to a rank.
+// The tree of brokers: the parent and the depth of a rank, and the check of a tree.
 use message::Refusal;
 ghost use mathlib.Core.Path.{_≡_};
 ghost use mathlib.Core.Bool.{true};
@@ -8,7 +8,6 @@ ghost use Rattle.tree.specs.Tree.{ranksIn, wholeTree, parentOf};
 ghost use Rattle.tree.specs.Depths.{depthOf, treeGood, depthsOf, Shallow};
 ghost use Rattle.message.specs.Answer.{writtenOver};
 ghost use Rattle.tree.specs.Checking.{told, depthsInto, howMany};
-ghost use Rattle.tree.specs.Towards.{isNeighbour, hop, towards};
 ghost use Rattle.octets.specs.Laid.{laid};
 
 // Bytes a rank.
@@ -136,42 +135,4 @@ pub fn check_tree(tree: &[u8], depths: &mut [u8]) -> Checked
     }
     put_depths(tree, depths);
     Checked::Passed(n)
-}
-
-// Whether both are ranks of the tree and one is the other's parent.
-pub fn is_neighbour(tree: &[u8], a: u32, b: u32) -> bool
-    ensures { λ r. ⌜ r ≡ isNeighbour (now (tree .entry)) a b ⌝ }
-{
-    let n = ranks_in(tree);
-    if a as usize >= n {
-        return false;
-    }
-    if b as usize >= n {
-        return false;
-    }
-    if parent_of(tree, a) == b {
-        return true;
-    }
-    parent_of(tree, b) == a
-}
-
-// From one rank to another: the child of `from` on the way, if `from` is among the target's first `depth` parents, else the parent of `from`.
-fn hop_within(tree: &[u8], depth: u8, from: u32, target: u32) -> u32
-    ensures { λ r. ⌜ r ≡ hop (now (tree .entry)) depth from target ⌝ }
-{
-    if depth == 0 {
-        return parent_of(tree, from);
-    }
-    let parent = parent_of(tree, target);
-    if parent == from {
-        return target;
-    }
-    hop_within(tree, depth - 1, from, parent)
-}
-
-// The next broker on the way from one rank to another.
-pub fn next_hop(tree: &[u8], from: u32, target: u32) -> u32
-    ensures { λ r. ⌜ r ≡ towards (now (tree .entry)) from target ⌝ }
-{
-    hop_within(tree, depth_of(tree, target), from, target)
 }

@@ -3,8 +3,6 @@
 use lib.ListN.{take, length-drop}
 use lib.Seq.{take-all}
 use Rattle.services.specs.Services.{nameLength, paddingIn}
--- `services::is_service` meets its contract.
--- Assumes nothing.
 use Prim.Native.Nat.{_+_, _-_}
 use mathlib.Core.Path.{_≡_, sym, _∙_}
 use native.Mathlib.Omega.{arith}

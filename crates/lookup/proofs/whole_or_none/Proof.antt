@@ -1,10 +1,10 @@
--- `services::whole_or_none` meets its contract.
+-- `lookup::whole_or_none` meets its contract.
 -- Assumes nothing.
 use native.Mathlib.Omega.{arith}
 use lib.ListN.{length-take}
-use Rattle.services.proofs.Lookup.{none-of-long, whole-of-short}
-use Rattle.services.proofs.whole_or_none.Statement.{statement}
-use Rattle.services.proofs.whole_or_none.Tie as tie
+use Rattle.lookup.proofs.Lookup.{none-of-long, whole-of-short}
+use Rattle.lookup.proofs.whole_or_none.Statement.{statement}
+use Rattle.lookup.proofs.whole_or_none.Tie as tie
 
 slice-aggregate-result : tie.Need-slice-aggregate-result
 slice-aggregate-result c = simp length-take (omega arith)

@@ -1,10 +1,10 @@
--- `tree::next_hop` meets its contract.
+-- `hops::next_hop` meets its contract.
 -- Assumes nothing.
 use mathlib.Core.Path.{sym, _∙_}
-use Rattle.tree.proofs.Towards.{towards-is}
+use Rattle.hops.proofs.Towards.{towards-is}
 use borrow.Author.Needs.{needs}
-use Rattle.tree.proofs.next_hop.Statement.{statement}
-use Rattle.tree.proofs.next_hop.Tie as tie
+use Rattle.hops.proofs.next_hop.Statement.{statement}
+use Rattle.hops.proofs.next_hop.Tie as tie
 
 depth-of-requires : tie.Need-depth-of-requires
 depth-of-requires c κs = search needs

@@ -1,14 +1,14 @@
--- `services::is_registered` meets its contract.
+-- `lookup::is_registered` meets its contract.
 -- Assumes nothing.
 use Prim.Native.Nat.{_+_, _-_}
 use mathlib.Core.Path.{_≡_, sym, _∙_}
 use native.Mathlib.Omega.{arith}
 use lib.ListN.{length}
 use Rattle.services.specs.Services.{nameLength}
-use Rattle.services.proofs.Lookup.{empty-never, other-rank, other-length, rest-same}
+use Rattle.lookup.proofs.Lookup.{empty-never, other-rank, other-length, rest-same}
 use borrow.Author.Needs.{needs}
-use Rattle.services.proofs.is_registered.Statement.{statement}
-use Rattle.services.proofs.is_registered.Tie as tie
+use Rattle.lookup.proofs.is_registered.Statement.{statement}
+use Rattle.lookup.proofs.is_registered.Tie as tie
 
 returns : tie.Need-returns
 returns c =

@@ -6,9 +6,9 @@ use Prim.Native.Nat.{ℕ, zero, suc, _-_, _<_, _≤_}
 use native.Mathlib.Omega.{arith}
 use lib.Dec.{eqb}
 use borrow.Author.Tests.{eq-eqb, ne-eqb, lt-ltb, le-ltb}
 use Rattle.tree.specs.Tree.{ranksIn, parentOf}
 use Rattle.tree.specs.Depths.{depthOf}
-use Rattle.tree.specs.Towards.{isNeighbour, hop, towards}
+use Rattle.hops.specs.Towards.{isNeighbour, hop, towards}
 
 -- ---- neighbours by the cases of the code
 

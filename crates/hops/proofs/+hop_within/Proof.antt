@@ -1,17 +1,17 @@
--- `tree::hop_within` meets its contract: the depth falls at each call.
+-- `hops::hop_within` meets its contract: the depth falls at each call.
 -- Assumes nothing.
 use mathlib.Core.Path.{sym, _∙_}
 use native.Mathlib.Omega.{arith}
-use Rattle.tree.proofs.Towards.{hop-up, hop-child, hop-on}
+use Rattle.hops.proofs.Towards.{hop-up, hop-child, hop-on}
 use Prim.Native.Nat.{ℕ, _<_}
 use borrow.Fn.Kinds.{In}
 use borrow.Fn.PlainCycle.{Measures, is, falls, and}
-use Rattle.tree.proofs.hop_within.Reads as hop-within
-use Rattle.tree.proofs.hop_within.Kinds as hop-within-kinds
-use Rattle.tree.proofs.+hop_within.Lts-hop_within as hop-within-lts
+use Rattle.hops.proofs.hop_within.Reads as hop-within
+use Rattle.hops.proofs.hop_within.Kinds as hop-within-kinds
+use Rattle.hops.proofs.+hop_within.Lts-hop_within as hop-within-lts
 use Rattle.tree.proofs.parent_of.Reads as parent-of-reads
-use Rattle.tree.proofs.+hop_within.{statement}
-use Rattle.tree.proofs.+hop_within.Tie.{close}
+use Rattle.hops.proofs.+hop_within.{statement}
+use Rattle.hops.proofs.+hop_within.Tie.{close}
 
 abbrev μ-hop-within : Measures 1 hop-within-kinds.ps ℕ
 μ-hop-within κs a = a .1 .0

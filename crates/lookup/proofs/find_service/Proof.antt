@@ -1,4 +1,4 @@
--- `services::find_service` meets its contract: no record in front of i registers the service.
+-- `lookup::find_service` meets its contract: no record in front of i registers the service.
 -- Assumes nothing.
 use Prim.Native.Nat.{ℕ, _≤_, _-_, _/_}
 use mathlib.Core.Path.{_≡_, refl, sym, _∙_}
@@ -8,11 +8,11 @@ use lib.ListN.{length}
 use Rattle.records.specs.Search.{firstFrom}
 use Rattle.records.proofs.Records.{length-record}
 use Rattle.records.proofs.Search.{first-hit, first-miss, first-end}
 use Rattle.services.specs.Services.{serviceAt}
-use Rattle.services.specs.Lookup.{registers, registeredAs}
-use Rattle.services.proofs.Lookup.{length-whole, search-start}
-use Rattle.services.proofs.find_service.Statement.{statement}
-use Rattle.services.proofs.find_service.Tie as tie
+use Rattle.lookup.specs.Lookup.{registers, registeredAs}
+use Rattle.lookup.proofs.Lookup.{row-is, length-whole, search-start}
+use Rattle.lookup.proofs.find_service.Statement.{statement}
+use Rattle.lookup.proofs.find_service.Tie as tie
 
 abbrev Inv-loop : tie.InvT-loop
 Inv-loop services rank service name n i₀ i = (i ≤ n) × (n ≡ length services / 32) × (length name ≤ 27) × (firstFrom (λ i. registers (serviceAt services i) rank name) (n - i) i ≡ registeredAs services rank service)
@@ -32,12 +32,26 @@ loop-holds c =
       search-start (args .services .now) (args .rank) (args .service .now) (c .whole-or-none .result .now) (c .whole-or-none .ensures),
     )
 
-service-at-requires : tie.Need-service-at-requires Inv-loop μ-loop
-service-at-requires c κs = omega arith
+mul-at : tie.Need-mul-at Inv-loop μ-loop
+mul-at c = omega arith
+
+add-is-registered : tie.Need-add-is-registered Inv-loop μ-loop
+add-is-registered c = omega arith
+
+sub-is-registered : tie.Need-sub-is-registered Inv-loop μ-loop
+sub-is-registered c = omega arith
+
+part-is-registered-start : tie.Need-part-is-registered-start Inv-loop μ-loop
+part-is-registered-start c = omega arith
+
+part-is-registered-end : tie.Need-part-is-registered-end Inv-loop μ-loop
+part-is-registered-end c = omega arith
 
 is-registered-requires : tie.Need-is-registered-requires Inv-loop μ-loop
 is-registered-requires c κs =
-    (rw (c .service-at .ensures) (length-record 32 (c .before .before .loop .i) (c .before .before .before .before .before .before .args .services .now) (omega arith)), c .before .before .loop .inv .2)
+    let at-loop = c .before .before in
+    let services = at-loop .before .before .before .before .args .services .now in
+    (rw (row-is services (at-loop .loop .i)) (length-record 32 (at-loop .loop .i) services (omega arith)), at-loop .loop .inv .2)
 
 returns : tie.Need-returns Inv-loop μ-loop
 returns c =
@@ -45,7 +59,7 @@ returns c =
     let args = at-loop .before .before .before .before .args in
     let p : ℕ → Bool = λ i. registers (serviceAt (args .services .now) i) (args .rank) (at-loop .before .whole-or-none .result .now) in
     sym (first-hit p (length (args .services .now) / 32) (at-loop .loop .i) (c .before .before .before .loop-test .taken)
-    (rw (← c .before .before .service-at .ensures) (sym (c .before .is-registered .ensures) ∙ c .if1 .taken))) ∙ at-loop .loop .inv .3
+    (rw (← row-is (args .services .now) (at-loop .loop .i)) (sym (c .before .is-registered .ensures) ∙ c .if1 .taken))) ∙ at-loop .loop .inv .3
 
 add-i : tie.Need-add-i Inv-loop μ-loop
 add-i c = omega arith
@@ -62,7 +76,7 @@ loop-again c =
       refl,
       at-loop .loop .inv .2,
       sym (first-miss p (length (args .services .now) / 32) (at-loop .loop .i) (c .before .before .before .loop-test .taken)
-          (rw (← c .before .before .service-at .ensures) (sym (c .before .is-registered .ensures) ∙ c .if1 .left))) ∙ at-loop .loop .inv .3,
+          (rw (← row-is (args .services .now) (at-loop .loop .i)) (sym (c .before .is-registered .ensures) ∙ c .if1 .left))) ∙ at-loop .loop .inv .3,
     )
 
 returns-2 : tie.Need-returns-2 Inv-loop μ-loop
@@ -79,7 +93,11 @@ find-service-spec =
     μ-loop
     whole-or-none-requires
     loop-holds
-    service-at-requires
+    mul-at
+    add-is-registered
+    sub-is-registered
+    part-is-registered-start
+    part-is-registered-end
     is-registered-requires
     returns
     add-i

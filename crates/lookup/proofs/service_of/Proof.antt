@@ -1,17 +1,14 @@
--- `services::service_of` meets its contract.
--- Assumes nothing.
-use lib.ListN.{length-take}
--- `services::service_of` meets its contract: no period stands in front of i.
+-- `lookup::service_of` meets its contract: no period stands in front of i.
 -- Assumes nothing.
 use Prim.Native.Nat.{_≤_, _-_}
 use mathlib.Core.Path.{_≡_, refl, sym, _∙_}
 use mathlib.Core.List.{_++_}
 use native.Mathlib.Omega.{arith}
-use lib.ListN.{length, take, drop}
-use Rattle.services.specs.Lookup.{serviceOf}
-use Rattle.services.proofs.Names.{service-stop, service-more, service-end}
-use Rattle.services.proofs.service_of.Statement.{statement}
-use Rattle.services.proofs.service_of.Tie as tie
+use lib.ListN.{length, take, drop, length-take}
+use Rattle.lookup.specs.Lookup.{serviceOf}
+use Rattle.lookup.proofs.Topics.{service-stop, service-more, service-end}
+use Rattle.lookup.proofs.service_of.Statement.{statement}
+use Rattle.lookup.proofs.service_of.Tie as tie
 
 abbrev Inv-loop : tie.InvT-loop
 Inv-loop topic i₀ i = (i ≤ length topic) × (take i topic ++ serviceOf (drop i topic) ≡ serviceOf topic)

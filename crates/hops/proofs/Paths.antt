@@ -10,11 +10,11 @@ use native.Mathlib.Omega.{arith}
 use borrow.Author.Tests.{eqb-true, eqb-false}
 use lib.Dec.{eqb}
 use Rattle.records.proofs.Truth.{outcome}
 use Rattle.tree.specs.Tree.{ranksIn, parentOf}
 use Rattle.tree.specs.Depths.{depthOf, treeGood}
-use Rattle.tree.specs.Towards.{isNeighbour, hop, towards, above, afterHops}
+use Rattle.hops.specs.Towards.{isNeighbour, hop, towards, above, afterHops}
 use Rattle.tree.proofs.Depths.{depth-top, parent-in, depth-below}
-use Rattle.tree.proofs.Towards.{hop-up, hop-child, hop-suc, towards-is, parent-neighbour, child-neighbour}
+use Rattle.hops.proofs.Towards.{hop-up, hop-child, hop-suc, towards-is, parent-neighbour, child-neighbour}
 
 module _ (tree : List ℕ) where
   pub above-none : (r : ℕ) → above tree 0 r ≡ r

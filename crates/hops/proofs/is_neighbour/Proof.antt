@@ -1,11 +1,11 @@
--- `tree::is_neighbour` meets its contract.
+-- `hops::is_neighbour` meets its contract.
 -- Assumes nothing.
 use mathlib.Core.Path.{sym, _∙_}
 use native.Mathlib.Omega.{arith}
-use Rattle.tree.proofs.Towards.{outside-neighbour, neighbour-outside, parent-neighbour, other-neighbour}
+use Rattle.hops.proofs.Towards.{outside-neighbour, neighbour-outside, parent-neighbour, other-neighbour}
 use borrow.Author.Needs.{needs}
-use Rattle.tree.proofs.is_neighbour.Statement.{statement}
-use Rattle.tree.proofs.is_neighbour.Tie as tie
+use Rattle.hops.proofs.is_neighbour.Statement.{statement}
+use Rattle.hops.proofs.is_neighbour.Tie as tie
 
 ranks-in-requires : tie.Need-ranks-in-requires
 ranks-in-requires c κs = search needs
