@@ -1,6 +1,6 @@
 -- Laws on the parts of a frame: a size, parts one after another, and how many bytes a part takes that is there only where its flag is set.
 -- Assumes nothing.
-use mathlib.Core.Path.{_≡_, refl, sym, _∙_}
+use mathlib.Core.Path.{_≡_, refl, sym}
 use mathlib.Core.Bool.{Bool, true, false}
 use Prim.Native.Nat.{ℕ, _+_, _%_, _<_, _≤_}
 use mathlib.Core.List.{List, [], _∷_, _++_, append-nil, append-assoc}
@@ -12,7 +12,7 @@ use borrow.Author.Tests.{lt-ltb, le-ltb}
 use Rattle.octets.specs.Number.{four}
 use Rattle.message.specs.Frame.{sizeBytes, partBytes, joined, partIf}
 use Rattle.draft.specs.Parts.{groupOf, groupLength, partLength}
-use Rattle.draft.proofs.Cuts.{cut, cut-length}
+use Rattle.draft.proofs.Cuts.{cut-length}
 
 pub size-one : (n : ℕ) → n < 255 → sizeBytes n ≡ n ∷ []
 size-one n h = rw (lt-ltb n 255 h)

@@ -13,7 +13,8 @@ use Rattle.message.specs.Reading.{readingOf}
 use Rattle.reader.specs.declared.Frame.{Frame}
 use Rattle.reader.specs.declared.Reading.the-variants.{Refused, Accepted}
 use Rattle.reader.specs.Places.{readAs, placesOf}
-use Rattle.lampreycoil.specs.Calls.{readRow, readCall}
+use Rattle.rows.specs.Rows.{readRow}
+use Rattle.lampreycoil.specs.Calls.{readCall}
 
 never : {r : Refusal} {f : Frame} → Refused r ≡ Accepted f → ⊥
 never e = let z : _≡_ {A = ℕ} 0 1 = cc in omega arith

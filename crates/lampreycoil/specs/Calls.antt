@@ -14,7 +14,7 @@ use Rattle.message.specs.Message.{Message}
 use Rattle.message.specs.Reading.{readingOf}
 use Rattle.message.specs.Writing.{writingInto}
 use Rattle.tree.specs.Checking.{depthsInto}
-use Rattle.reader.specs.declared.Frame.{Frame}
+use Rattle.rows.specs.Rows.{readRow}
 use Rattle.reader.specs.Places.{placesOf}
 
 -- a call returns 0, or the number of its refusal
@@ -26,13 +26,6 @@ returned (answered a) = 0
 abbrev pub recorded : Answer (List ℕ) → List ℕ → List ℕ
 recorded (refused r) row = row
 recorded (answered numbers) row = laid (rowBytes numbers) row
-
--- bytes the frame took, type, flags, userid, rolemask, first field, second field, number of routes, start of the first route's data,
--- topic start, topic length, payload start, payload length
-abbrev pub readRow : Frame → List ℕ
-readRow f =
-    f .taken ∷ f .header .kind ∷ f .header .flags ∷ f .header .userid ∷ f .header .rolemask ∷ f .header .first ∷ f .header .second
-    ∷ f .routes ∷ f .route ∷ f .topic .start ∷ f .topic .len ∷ f .payload .start ∷ f .payload .len ∷ []
 
 -- a record slice that is too short is refused with 11 before anything else: room is its length
 unfoldable pub readCall : List ℕ → ℕ → Answer (List ℕ)

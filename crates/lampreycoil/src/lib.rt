@@ -2,45 +2,15 @@
 // answer as a row of four-byte numbers in a lent slice. include/lampreycoil.h declares them for C.
 use message::Header;
 use message::Refusal;
-use reader::Frame;
 use reader::Reading;
 use writer::Written;
 ghost use mathlib.Core.Path.{_≡_};
-ghost use Prim.Native.Nat.{_≤_};
 ghost use lib.ListN.{length};
-ghost use Rattle.octets.specs.Number.{rowBytes};
-ghost use Rattle.octets.specs.Laid.{laid};
-ghost use Rattle.lampreycoil.specs.Calls.{returned, recorded, readRow, readCall, headerOf, writeCall, wrote};
+ghost use Rattle.lampreycoil.specs.Calls.{returned, recorded, readCall, headerOf, writeCall, wrote};
 ghost use Rattle.message.specs.Answer.{writtenOver};
 ghost use Rattle.message.specs.Writing.{givenMessage};
 
 pub mod tables;
-
-// Lists where a message lies.
-fn put_frame(row: &mut [u8], f: Frame)
-    requires { ⌜ 52 ≤ length (now row) ⌝ }
-    ensures { λ _. ⌜ now (row .exit) ≡ laid (rowBytes (readRow f)) (now (row .entry)) ⌝ }
-{
-    let h = f.header;
-    let topic = f.topic;
-    let payload = f.payload;
-    let numbers = [
-        f.taken,
-        h.kind as usize,
-        h.flags as usize,
-        h.userid as usize,
-        h.rolemask as usize,
-        h.first as usize,
-        h.second as usize,
-        f.routes,
-        f.route,
-        topic.start,
-        topic.len,
-        payload.start,
-        payload.len,
-    ];
-    octets::put_row(row, &numbers);
-}
 
 // Reads the frame at the front of bytes, and lists where its parts lie.
 #[no_mangle]
@@ -54,7 +24,7 @@ pub extern "C" fn lampreycoil_read(bytes: &[u8], row: &mut [u8]) -> u32
     match reader::read(bytes) {
         Reading::Refused(r) => message::number(r),
         Reading::Accepted(f) => {
-            put_frame(row, f);
+            rows::put_frame(row, f);
             0
         }
     }

@@ -24,7 +24,7 @@ use Rattle.parts.specs.declared.walk.Walk.the-variants.{Refused, Counted}
 use Rattle.reader.specs.declared.header.Head.the-variants.{Wrong, Fields}
 use Rattle.reader.specs.Places.{headAs}
 use Rattle.parts.specs.Walk.{walkedAs}
-use Rattle.reader.specs.Judging.{partsFound, Found, Headed}
+use Rattle.reader.specs.Judging.{partsFound, WalkedOver, Headed}
 use Rattle.reader.proofs.Cursors.{joined-append}
 
 -- ---- what the walk found
@@ -35,12 +35,6 @@ not-both e = let z : _≡_ {A = ℕ} 0 1 = cc in omega arith
 pub walk-refused : (a : Answer (List (List ℕ))) (r : Refusal) → Refused r ≡ walkedAs a → a ≡ refused r
 walk-refused (refused q) r e = cc
 walk-refused (answered ps) r e = absurd (not-both e)
-
-pub record WalkedOver (body : List ℕ) (w : Walked) : Type 0 where
-  pub found : Found body
-  pub count : w .count ≡ length (partsFound body)
-  pub empty : w .empty ≡ length (beforeEmpty (partsFound body))
-  pub last : w .last ≡ length (joined (front (partsFound body)))
 
 pub walk-counted : (body : List ℕ) (w : Walked) → Counted w ≡ walkedAs (partsIn 68 body) → WalkedOver body w
 unfolding partsFound

@@ -10,7 +10,7 @@ use Rattle.message.specs.declared.Header.{Header}
 use Rattle.message.specs.Answer.{Answer, refused, answered}
 use Rattle.form.specs.Count.{one}
 use Rattle.message.specs.Header.{hasTopic, hasPayload, hasRoute, headerIn, isHeader}
-use Rattle.message.specs.Frame.{sizeBytes, partBytes}
+use Rattle.message.specs.Frame.{sizeBytes, partBytes, joined}
 use Rattle.message.specs.Writing.{routesGood}
 use Rattle.message.specs.Reading.{partsIn, front, final, beforeEmpty, routesIn, partsAgree, isTopicPart}
 use Rattle.reader.specs.declared.Stretch.{Stretch}
@@ -84,6 +84,13 @@ abbrev pub partsWanted : ℕ → ℕ → ℕ
 partsWanted flags routes = routes + one (hasRoute flags) + one (hasTopic flags) + one (hasPayload flags) + 1
 
 -- ---- the state of the judging
+
+-- the parts are counted, and it is known where the last begins
+pub record WalkedOver (body : List ℕ) (w : Walked) : Type 0 where
+  pub found : Found body
+  pub count : w .count ≡ length (partsFound body)
+  pub empty : w .empty ≡ length (beforeEmpty (partsFound body))
+  pub last : w .last ≡ length (joined (front (partsFound body)))
 
 -- the parts are counted, and the last is a header with the fields h
 pub record Headed (body : List ℕ) (w : Walked) (h : Header) : Type 0 where

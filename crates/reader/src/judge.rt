@@ -19,7 +19,7 @@ ghost use Rattle.message.specs.Answer.{andThen};
 ghost use Rattle.message.specs.Writing.{allRoutes};
 ghost use Rattle.message.specs.Reading.{partsIn, front, judged, judgedAs, isTopicPart};
 ghost use Rattle.reader.specs.Places.{readAs};
-ghost use Rattle.reader.specs.Judging.{partsFound, Found, HasSize, stretchAt, firstRoute, pieceIf, Within, topicWrong, Placeable, placedAs, Headed, Sorted};
+ghost use Rattle.reader.specs.Judging.{partsFound, Found, HasSize, stretchAt, firstRoute, pieceIf, Within, topicWrong, Placeable, placedAs, WalkedOver, Headed, Sorted};
 
 // Where a part's data lies in the body, and where the next part begins.
 struct Piece {
@@ -186,6 +186,22 @@ fn judge_parts(body: &[u8], w: Walked, h: Header) -> Reading
     }
 }
 
+// 6, and then the rest: the header is the last of the parts that the walk counted.
+fn judge_counted(body: &[u8], w: Walked) -> Reading
+    requires { ⌜ (length (now body) ≤ 32768) × WalkedOver (now body) w ⌝ }
+    ensures { λ r. ⌜ r ≡ readAs (andThen (partsIn 68 (now (body .entry))) judged) ⌝ }
+{
+    let last = w.last;
+    if body.len() - last != 21 {
+        return Reading::Refused(Refusal::WrongHeader);
+    }
+    let start = last + 1;
+    match read_header(&body[start..]) {
+        Head::Wrong => Reading::Refused(Refusal::WrongHeader),
+        Head::Fields(h) => judge_parts(body, w, h),
+    }
+}
+
 // Reads a body: its parts, the header, which is the last of them, and the rest.
 pub(crate) fn judge(body: &[u8]) -> Reading
     requires { ⌜ length (now body) ≤ 32768 ⌝ }
@@ -193,16 +209,6 @@ pub(crate) fn judge(body: &[u8]) -> Reading
 {
     match count_parts(body) {
         Walk::Refused(r) => Reading::Refused(r),
-        Walk::Counted(w) => {
-            let last = w.last;
-            if body.len() - last != 21 {
-                return Reading::Refused(Refusal::WrongHeader);
-            }
-            let start = last + 1;
-            match read_header(&body[start..]) {
-                Head::Wrong => Reading::Refused(Refusal::WrongHeader),
-                Head::Fields(h) => judge_parts(body, w, h),
-            }
-        }
+        Walk::Counted(w) => judge_counted(body, w),
     }
 }

@@ -8,6 +8,9 @@ use lib.ListN.{length}
 use Rattle.lampreycoil.proofs.ReadCalls.{read-short, read-refused, read-accepted}
 use Rattle.lampreycoil.specs.Calls.{returned, recorded}
 use Rattle.message.specs.Answer.{Answer}
+use Rattle.octets.specs.Number.{rowBytes}
+use Rattle.octets.proofs.Buffers.{laid-room}
+use Rattle.rows.specs.Rows.{readRow}
 use Rattle.lampreycoil.proofs.lampreycoil_read.Statement.{statement}
 use Rattle.lampreycoil.proofs.lampreycoil_read.Tie as tie
 
@@ -45,7 +48,7 @@ same-length c = search needs
 returns-3 : tie.Need-returns-3
 returns-3 c = let row = c .before .before .before .before .before .before .before .before .before .before .before .args .row .now in
     let call = read-accepted (c .before .before .before .before .before .before .before .before .before .before .before .args .bytes .now) (length row) (c .before .before .before .before .before .before .before .before .if1 .left) (c .before .before .before .before .before .f .given .0 .0) (sym (c .before .before .before .before .before .f .given .1) ∙ c .before .before .before .before .before .before .before .read .ensures) in
-    (sym (ap returned call), c .before .before .put-frame .ensures ∙ sym (ap (λ (a : Answer (List ℕ)). recorded a row) call))
+    (sym (ap returned call), c .before .before .put-frame .ensures ∙ laid-room (rowBytes (readRow (c .before .before .before .before .before .f .given .0 .0))) row (c .before .before .before .before .before .before .before .before .if1 .left) ∙ sym (ap (λ (a : Answer (List ℕ)). recorded a row) call))
 
 pub lampreycoil-read-spec : {M : Type 1} → statement M
 lampreycoil-read-spec =

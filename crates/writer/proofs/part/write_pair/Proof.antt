@@ -2,7 +2,6 @@
 -- Assumes nothing.
 use native.Mathlib.Omega.{arith}
 use native.Mathlib.Nat.{le-refl}
-use lib.ListN.{length}
 use Rattle.octets.specs.Number.{four}
 use Rattle.octets.specs.Lays.{Lays}
 use Rattle.octets.proofs.Laying.{lays-room, lays-leaf, lays-length, lays-within}

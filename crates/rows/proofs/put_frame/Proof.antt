@@ -1,12 +1,8 @@
--- `lampreycoil::put_frame` meets its contract.
+-- `rows::put_frame` meets its contract.
 -- Assumes nothing.
 use borrow.Author.Needs.{needs}
-use mathlib.Core.Path.{_∙_}
-use Rattle.lampreycoil.specs.Calls.{readRow}
-use Rattle.octets.proofs.Buffers.{laid-room}
-use Rattle.octets.specs.Number.{rowBytes}
-use Rattle.lampreycoil.proofs.put_frame.Statement.{statement}
-use Rattle.lampreycoil.proofs.put_frame.Tie as tie
+use Rattle.rows.proofs.put_frame.Statement.{statement}
+use Rattle.rows.proofs.put_frame.Tie as tie
 
 cast-t7 : tie.Need-cast-t7
 cast-t7 c = search needs
@@ -36,7 +32,7 @@ same-length : tie.Need-same-length
 same-length c = search needs
 
 returns : tie.Need-returns
-returns c = let start = c .before .before .before .before .before .before .before .before .before .before .before .before .before .before .before in c .before .before .put-row .ensures ∙ laid-room (rowBytes (readRow (start .args .f))) (start .args .row .now) (start .pre)
+returns c = c .before .before .put-row .ensures
 
 pub put-frame-spec : {M : Type 1} → statement M
 put-frame-spec =
