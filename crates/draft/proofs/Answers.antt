@@ -16,16 +16,16 @@ use Rattle.message.specs.Header.{hasTopic, isKnown, partsFit, fieldsGood}
 use Rattle.form.specs.Forms.{isTopic}
 use Rattle.message.specs.Frame.{bodyOf, frameOf}
 use Rattle.message.specs.Writing.{partsGivenFit, routesGood, writingInto, givenMessage}
-use Rattle.draft.specs.declared.Drafted.the-variants.{Refused, Frame}
-use Rattle.draft.specs.Drafted.{draftedAs, measured}
+use Rattle.draft.specs.declared.Written.the-variants.{Refused, Frame}
+use Rattle.draft.specs.Written.{writtenAs, measured}
 use Rattle.draft.proofs.Cuts.{cut, good-whole}
 use Rattle.draft.proofs.Judging.{order-is}
 
-pub told-refused : (a : Answer (List ℕ)) {r : Refusal} → draftedAs a ≡ Refused r → a ≡ refused r
+pub told-refused : (a : Answer (List ℕ)) {r : Refusal} → writtenAs a ≡ Refused r → a ≡ refused r
 told-refused (refused s) e = cc
 told-refused (answered frame) e = absurd (let z : _≡_ {A = ℕ} 0 1 = cc in omega arith)
 
-told-frame : (a : Answer (List ℕ)) {n : ℕ} → draftedAs a ≡ Frame n → (frame : List ℕ) × (a ≡ answered frame) × (n ≡ length frame)
+told-frame : (a : Answer (List ℕ)) {n : ℕ} → writtenAs a ≡ Frame n → (frame : List ℕ) × (a ≡ answered frame) × (n ≡ length frame)
 told-frame (refused s) e = absurd (let z : _≡_ {A = ℕ} 0 1 = cc in omega arith)
 told-frame (answered frame) e = (frame, refl, cc)
 
@@ -50,7 +50,7 @@ pub record Told (room : ℕ) (h : Header) (routes topic payload : List ℕ) (n :
   pub fits : n ≤ room
   pub whole : length routes % 37 ≡ 0
 
-pub told-given : (room : ℕ) (h : Header) (routes topic payload : List ℕ) {n : ℕ} → draftedAs (writingInto room (givenMessage h routes topic payload)) ≡ Frame n → Told room h routes topic payload n
+pub told-given : (room : ℕ) (h : Header) (routes topic payload : List ℕ) {n : ℕ} → writtenAs (writingInto room (givenMessage h routes topic payload)) ≡ Frame n → Told room h routes topic payload n
 unfolding measured
 told-given room h routes topic payload e =
     let m = givenMessage h routes topic payload in

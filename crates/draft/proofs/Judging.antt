@@ -19,7 +19,7 @@ use Rattle.message.specs.Message.{Message}
 use Rattle.form.specs.Forms.{isTopic}
 use Rattle.message.specs.Frame.{bodyOf, frameOf}
 use Rattle.message.specs.Writing.{isEmpty, partsGivenFit, routesGood, writing, writingInto, givenMessage}
-use Rattle.draft.specs.Drafted.{measured}
+use Rattle.draft.specs.Written.{measured}
 use Rattle.form.proofs.Topics.{topic-long}
 use Rattle.draft.proofs.Cuts.{cut, cut-empty}
 use Rattle.draft.proofs.Bodies.{payload-shorter}

@@ -1,3 +1,3 @@
 -- What the clauses of this crate's functions cite.
-pub mod Drafted
+pub mod Written
 pub mod Parts

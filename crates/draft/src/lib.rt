@@ -5,44 +5,44 @@ ghost use lib.ListN.{length};
 ghost use Rattle.message.specs.Header.{hasTopic, partsFit};
 ghost use Rattle.form.specs.Forms.{isTopic};
 ghost use Rattle.message.specs.Writing.{partsGivenFit, routesGood, cutRoutes, writingInto, givenMessage};
-ghost use Rattle.draft.specs.Drafted.{draftedAs, measured};
+ghost use Rattle.draft.specs.Written.{writtenAs, measured};
 use message::Header;
 use message::Refusal;
 
 mod agree;
 mod length;
 
-// Why nothing is to be written, or how long the frame will be.
-pub enum Drafted {
+// What is told of a message that is to be written: why nothing is, or how long the frame is.
+pub enum Written {
     Refused(Refusal),
     Frame(usize),
 }
 
 // 3 and 11, of a message that 6 to 10 let through. A payload above 32,768 bytes makes a body above that, and is not added up.
-fn measure(header: Header, routes: &[u8], topic: &[u8], payload: &[u8], room: usize) -> Drafted
+fn measure(header: Header, routes: &[u8], topic: &[u8], payload: &[u8], room: usize) -> Written
     requires { ⌜ (partsFit header && partsGivenFit (givenMessage header (now routes) (now topic) (now payload))) ≡ true ⌝ }
     requires { ⌜ routesGood (cutRoutes (length (now routes)) (now routes)) ≡ true ⌝ }
     requires { ⌜ (hasTopic (header .flags) && not (isTopic (now topic))) ≡ false ⌝ }
-    ensures { λ r. ⌜ r ≡ draftedAs (measured room (givenMessage header (now (routes .entry)) (now (topic .entry)) (now (payload .entry)))) ⌝ }
+    ensures { λ r. ⌜ r ≡ writtenAs (measured room (givenMessage header (now (routes .entry)) (now (topic .entry)) (now (payload .entry)))) ⌝ }
 {
     if 32768 < payload.len() {
-        return Drafted::Refused(Refusal::LongBody);
+        return Written::Refused(Refusal::LongBody);
     }
     let body = length::body_length(header, routes, topic, payload);
     let whole = body + 8;
     if 32768 < body {
-        Drafted::Refused(Refusal::LongBody)
+        Written::Refused(Refusal::LongBody)
     } else if room < whole {
-        Drafted::Refused(Refusal::ShortOutput)
+        Written::Refused(Refusal::ShortOutput)
     } else {
-        Drafted::Frame(whole)
+        Written::Frame(whole)
     }
 }
 
 // The refusal, or the length of the frame to be written into so much room: 6, 7, 8, 9, 10, then 3 and 11. All of the first five are looked
 // at before any is told, so that their order stands in one list; a message that is written needs them all anyway.
-pub fn judge(header: Header, routes: &[u8], topic: &[u8], payload: &[u8], room: usize) -> Drafted
-    ensures { λ r. ⌜ r ≡ draftedAs (writingInto room (givenMessage header (now (routes .entry)) (now (topic .entry)) (now (payload .entry)))) ⌝ }
+pub fn judge(header: Header, routes: &[u8], topic: &[u8], payload: &[u8], room: usize) -> Written
+    ensures { λ r. ⌜ r ≡ writtenAs (writingInto room (givenMessage header (now (routes .entry)) (now (topic .entry)) (now (payload .entry)))) ⌝ }
 {
     let known = message::is_known(header);
     let agree = agree::parts_agree(header, routes, topic, payload);
@@ -50,19 +50,19 @@ pub fn judge(header: Header, routes: &[u8], topic: &[u8], payload: &[u8], room: 
     let wrong = agree::topic_wrong(header.flags, topic);
     let fields = message::fields_good(header);
     if !known {
-        return Drafted::Refused(Refusal::WrongHeader);
+        return Written::Refused(Refusal::WrongHeader);
     }
     if !agree {
-        return Drafted::Refused(Refusal::WrongParts);
+        return Written::Refused(Refusal::WrongParts);
     }
     if !good {
-        return Drafted::Refused(Refusal::WrongRoute);
+        return Written::Refused(Refusal::WrongRoute);
     }
     if wrong {
-        return Drafted::Refused(Refusal::WrongTopic);
+        return Written::Refused(Refusal::WrongTopic);
     }
     if !fields {
-        return Drafted::Refused(Refusal::WrongField);
+        return Written::Refused(Refusal::WrongField);
     }
     measure(header, routes, topic, payload, room)
 }

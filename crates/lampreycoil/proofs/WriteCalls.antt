@@ -13,8 +13,8 @@ use Rattle.message.specs.declared.Refusal.the-variants.{ShortOutput}
 use Rattle.message.specs.Answer.{Answer, refused, answered}
 use Rattle.message.specs.Message.{Message}
 use Rattle.message.specs.Writing.{writingInto}
-use Rattle.writer.specs.declared.Written.the-variants.{Refused, Frame}
-use Rattle.writer.specs.Written.{writtenAs}
+use Rattle.draft.specs.declared.Written.the-variants.{Refused, Frame}
+use Rattle.draft.specs.Written.{writtenAs}
 use Rattle.lampreycoil.specs.Calls.{returned, recorded, writeCall, wrote}
 
 never : {r : Refusal} {n : ℕ} → Refused r ≡ Frame n → ⊥

@@ -3,19 +3,12 @@ ghost use mathlib.Core.Path.{_≡_};
 ghost use lib.ListN.{length};
 ghost use Rattle.message.specs.Writing.{writingInto, givenMessage};
 ghost use Rattle.message.specs.Answer.{writtenOver};
-ghost use Rattle.writer.specs.Written.{writtenAs};
-use draft::Drafted;
+ghost use Rattle.draft.specs.Written.{writtenAs};
+use draft::Written;
 use message::Header;
-use message::Refusal;
 
 mod frame;
 mod part;
-
-// What the writer tells: why it wrote nothing, or how long the frame is that it wrote.
-pub enum Written {
-    Refused(Refusal),
-    Frame(usize),
-}
 
 // Writes the message's frame to the front of out. What stands behind the frame stays as it was, and a refusal writes nothing.
 pub fn write(header: Header, routes: &[u8], topic: &[u8], payload: &[u8], out: &mut [u8]) -> Written
@@ -24,8 +17,8 @@ pub fn write(header: Header, routes: &[u8], topic: &[u8], payload: &[u8], out: &
 {
     let drafted = draft::judge(header, routes, topic, payload, out.len());
     match drafted {
-        Drafted::Refused(r) => Written::Refused(r),
-        Drafted::Frame(n) => {
+        Written::Refused(r) => Written::Refused(r),
+        Written::Frame(n) => {
             frame::write_frame(out, n, header, routes, topic, payload);
             Written::Frame(n)
         }

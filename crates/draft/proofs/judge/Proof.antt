@@ -8,7 +8,7 @@ use borrow.Author.Tests.{not-false}
 use Rattle.message.specs.declared.Refusal.the-variants.{WrongHeader, WrongParts, WrongRoute, WrongTopic, WrongField}
 use Rattle.message.specs.Answer.{Answer, refuseIf}
 use Rattle.message.specs.Writing.{writingInto, givenMessage}
-use Rattle.draft.specs.Drafted.{draftedAs, measured}
+use Rattle.draft.specs.Written.{writtenAs, measured}
 use Rattle.draft.proofs.Judging.{order-is}
 use Rattle.draft.proofs.judge.Statement.{statement}
 use Rattle.draft.proofs.judge.Tie as tie
@@ -47,20 +47,20 @@ order d =
     (d .before .topic-wrong .ensures) (d .fields-good .ensures)
 
 returns : tie.Need-returns
-returns c = ap draftedAs (rw (c .if1 .taken) at (order (c .before)))
+returns c = ap writtenAs (rw (c .if1 .taken) at (order (c .before)))
 
 returns-2 : tie.Need-returns-2
-returns-2 c = ap draftedAs (rw (c .before .if1 .left, c .if2 .taken) at (order (c .before .before)))
+returns-2 c = ap writtenAs (rw (c .before .if1 .left, c .if2 .taken) at (order (c .before .before)))
 
 returns-3 : tie.Need-returns-3
-returns-3 c = ap draftedAs (rw (c .before .before .if1 .left, c .before .if2 .left, c .if3 .taken) at (order (c .before .before .before)))
+returns-3 c = ap writtenAs (rw (c .before .before .if1 .left, c .before .if2 .left, c .if3 .taken) at (order (c .before .before .before)))
 
 returns-4 : tie.Need-returns-4
-returns-4 c = ap draftedAs (rw (c .before .before .before .if1 .left, c .before .before .if2 .left, c .before .if3 .left, c .if4 .taken) at (order (c .before .before .before .before)))
+returns-4 c = ap writtenAs (rw (c .before .before .before .if1 .left, c .before .before .if2 .left, c .before .if3 .left, c .if4 .taken) at (order (c .before .before .before .before)))
 
 returns-5 : tie.Need-returns-5
 returns-5 c = let o = order (c .before .before .before .before .before) in
-    ap draftedAs (rw (c .before .before .before .before .if1 .left, c .before .before .before .if2 .left, c .before .before .if3 .left, c .before .if4 .left, c .if5 .taken) at o)
+    ap writtenAs (rw (c .before .before .before .before .if1 .left, c .before .before .before .if2 .left, c .before .before .if3 .left, c .before .if4 .left, c .if5 .taken) at o)
 
 measure-requires : tie.Need-measure-requires
 measure-requires c κs = let d = c .before .before .before .before .before in
@@ -70,7 +70,7 @@ measure-requires c κs = let d = c .before .before .before .before .before in
 
 returns-6 : tie.Need-returns-6
 returns-6 c = let o = order (c .before .before .before .before .before .before) in
-    c .measure .ensures ∙ ap draftedAs (rw (c .before .before .before .before .before .if1 .left, c .before .before .before .before .if2 .left, c .before .before .before .if3 .left, c .before .before .if4 .left, c .before .if5 .left) at o)
+    c .measure .ensures ∙ ap writtenAs (rw (c .before .before .before .before .before .if1 .left, c .before .before .before .before .if2 .left, c .before .before .before .if3 .left, c .before .before .if4 .left, c .before .if5 .left) at o)
 
 pub judge-spec : {M : Type 1} → statement M
 judge-spec =

@@ -7,8 +7,8 @@ use lib.ListN.{length}
 use Rattle.message.specs.Message.{Message}
 use Rattle.message.specs.Frame.{bodyOf}
 use Rattle.message.specs.Writing.{givenMessage}
-use Rattle.draft.specs.declared.Drafted.the-variants.{Frame}
-use Rattle.draft.specs.Drafted.{draftedAs}
+use Rattle.draft.specs.declared.Written.the-variants.{Frame}
+use Rattle.draft.specs.Written.{writtenAs}
 use Rattle.draft.proofs.Cuts.{good-few, good-whole}
 use Rattle.draft.proofs.Bodies.{body-most, frame-length}
 use Rattle.draft.proofs.Judging.{topic-short, payload-long, measured-long, measured-short, measured-fits}
@@ -37,7 +37,7 @@ module _ (s : tie.Start) where
 
 returns : tie.Need-returns
 returns c = let s = c .before .before .before .before in
-    ap draftedAs (sym (measured-long (s .args .room) (given s) (long s (c .if1 .taken))))
+    ap writtenAs (sym (measured-long (s .args .room) (given s) (long s (c .if1 .taken))))
 
 body-length-requires : tie.Need-body-length-requires
 body-length-requires c κs = let s = c .before .before .before .before in
@@ -48,18 +48,18 @@ add-whole c = omega (arith, c .body-length .ensures, most (c .before .before .be
 
 returns-2 : tie.Need-returns-2
 returns-2 c = let s = c .before .before .before .before .before .before in
-    ap draftedAs (sym (measured-long (s .args .room) (given s) (omega (arith, c .before .body-length .ensures))))
+    ap writtenAs (sym (measured-long (s .args .room) (given s) (omega (arith, c .before .body-length .ensures))))
 
 returns-3 : tie.Need-returns-3
 returns-3 c = let s = c .before .before .before .before .before .before .before in
     let body = c .before .before .body-length .ensures in
-    ap draftedAs (sym (measured-short (s .args .room) (given s) (omega (arith, body)) (omega (arith, body, frame-length (given s)))))
+    ap writtenAs (sym (measured-short (s .args .room) (given s) (omega (arith, body)) (omega (arith, body, frame-length (given s)))))
 
 returns-4 : tie.Need-returns-4
 returns-4 c = let s = c .before .before .before .before .before .before .before in
     let body = c .before .before .body-length .ensures in
     let long = ap (λ (n : ℕ). n + 8) body ∙ sym (frame-length (given s)) in
-    ap Frame long ∙ ap draftedAs (sym (measured-fits (s .args .room) (given s) (omega (arith, body)) (omega (arith, long))))
+    ap Frame long ∙ ap writtenAs (sym (measured-fits (s .args .room) (given s) (omega (arith, body)) (omega (arith, long))))
 
 pub measure-spec : {M : Type 1} → statement M
 measure-spec =

@@ -6,8 +6,8 @@ use Prim.Native.Nat.{ℕ}
 use lib.ListN.{length}
 use Rattle.message.specs.Answer.{Answer, writtenOver}
 use Rattle.message.specs.Writing.{writingInto, givenMessage}
-use Rattle.writer.specs.declared.Written.the-variants.{Frame}
-use Rattle.writer.specs.Written.{writtenAs}
+use Rattle.draft.specs.declared.Written.the-variants.{Frame}
+use Rattle.draft.specs.Written.{writtenAs}
 use Rattle.draft.proofs.Answers.{Told, told-refused, told-given}
 use borrow.Author.Needs.{needs}
 use Rattle.writer.proofs.write.Statement.{statement}
