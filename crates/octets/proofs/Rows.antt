@@ -33,15 +33,15 @@ pub record Rowed (row lent out : List ℕ) (at i : ℕ) : Type 0 where
 pub rowed-none : (row lent : List ℕ) → Rowed row lent lent 0 0
 rowed-none row lent = record { most = omega arith; lays = lays-none lent }
 
-module _ (row lent out : List ℕ) (at i : ℕ) (r : Rowed row lent out at i) (room : 4 * length row ≤ length lent) where
+module _ {row lent out : List ℕ} {at i : ℕ} (r : Rowed row lent out at i) (room : 4 * length row ≤ length lent) where
   pub rowed-at : at ≡ 4 * i
   rowed-at = omega (arith, r .lays .told, row-length (take i row), length-take-le i row (r .most))
 
   pub rowed-length : length out ≡ length lent
   rowed-length = lays-length (r .lays) (omega (arith, r .most, row-length (take i row), length-take-le i row (r .most)))
 
-  pub rowed-more : i < length row → (last : List ℕ) → last ≡ laidIfRoom (four (getD row i 0)) (midOf at (length out - at) out) → Rowed row lent (putMid at (length out - at) out last) (at + 4) (i + 1)
-  rowed-more h last e =
+  pub rowed-more : i < length row → {last : List ℕ} → last ≡ laidIfRoom (four (getD row i 0)) (midOf at (length out - at) out) → Rowed row lent (putMid at (length out - at) out last) (at + 4) (i + 1)
+  rowed-more h e =
       let n = getD row i 0 in
       let fits : length (rowBytes (take i row) ++ four n) ≤ length lent = simp length-append (omega (arith, row-length (take i row), length-take-le i row (r .most))) in
       record {

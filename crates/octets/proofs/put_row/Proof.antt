@@ -2,7 +2,7 @@
 -- Assumes nothing.
 use native.Mathlib.Omega.{arith}
 use mathlib.Core.Path.{sym}
-use Prim.Native.Nat.{_-_}
+use Prim.Native.Nat.{_+_, _-_, _≤_}
 use lib.ListN.{length}
 use borrow.Author.Needs.{needs}
 use Rattle.octets.proofs.Rows.{Rowed, row-length, rowed-none, rowed-at, rowed-length, rowed-more, rowed-all}
@@ -17,17 +17,23 @@ Inv-loop out₀ row at₀ i₀ out at i = Rowed row out₀ out at i
 abbrev μ-loop : tie.MeasureT-loop
 μ-loop out₀ row at₀ i₀ out at i = length row - i
 
+-- there is room for a turn's number behind those that are laid
+fits : (h : tie.In-loop Inv-loop μ-loop) → h .before .loop .at + 4 ≤ length (h .before .loop .out)
+fits h =
+    let room = h .before .before .if1 .taken in
+    omega (arith, rowed-at (h .before .loop .inv) room, rowed-length (h .before .loop .inv) room)
+
 mul-if1 : tie.Need-mul-if1 Inv-loop μ-loop
 mul-if1 c = omega (arith, c .before .before .good)
 
 loop-holds : tie.Need-loop-holds Inv-loop μ-loop
-loop-holds c = rowed-none (c .before .before .before .args .row .now) (c .before .before .before .args .out .now)
+loop-holds c = rowed-none _ _
 
 sub-put-number : tie.Need-sub-put-number Inv-loop μ-loop
-sub-put-number c = omega (arith, rowed-at (c .before .before .before .before .before .args .row .now) (c .before .before .before .before .before .args .out .now) (c .before .loop .out) (c .before .loop .at) (c .before .loop .i) (c .before .loop .inv) (c .before .before .if1 .taken), rowed-length (c .before .before .before .before .before .args .row .now) (c .before .before .before .before .before .args .out .now) (c .before .loop .out) (c .before .loop .at) (c .before .loop .i) (c .before .loop .inv) (c .before .before .if1 .taken), c .before .loop .inv .most, c .before .before .if1 .taken, c .loop-test .taken)
+sub-put-number c = omega (arith, fits c)
 
 part-put-number-start : tie.Need-part-put-number-start Inv-loop μ-loop
-part-put-number-start c = omega (arith, rowed-at (c .before .before .before .before .before .args .row .now) (c .before .before .before .before .before .args .out .now) (c .before .loop .out) (c .before .loop .at) (c .before .loop .i) (c .before .loop .inv) (c .before .before .if1 .taken), rowed-length (c .before .before .before .before .before .args .row .now) (c .before .before .before .before .before .args .out .now) (c .before .loop .out) (c .before .loop .at) (c .before .loop .i) (c .before .loop .inv) (c .before .before .if1 .taken), c .before .loop .inv .most, c .before .before .if1 .taken, c .loop-test .taken)
+part-put-number-start c = omega (arith, fits c)
 
 part-put-number-end : tie.Need-part-put-number-end Inv-loop μ-loop
 part-put-number-end c = search needs
@@ -42,25 +48,29 @@ put-number-requires : tie.Need-put-number-requires Inv-loop μ-loop
 put-number-requires c κs = tt
 
 add-at : tie.Need-add-at Inv-loop μ-loop
-add-at c = omega (arith, rowed-at (c .before .before .before .before .before .before .before .before .before .before .args .row .now) (c .before .before .before .before .before .before .before .before .before .before .args .out .now) (c .before .before .before .before .before .before .loop .out) (c .before .before .before .before .before .before .loop .at) (c .before .before .before .before .before .before .loop .i) (c .before .before .before .before .before .before .loop .inv) (c .before .before .before .before .before .before .before .if1 .taken), rowed-length (c .before .before .before .before .before .before .before .before .before .before .args .row .now) (c .before .before .before .before .before .before .before .before .before .before .args .out .now) (c .before .before .before .before .before .before .loop .out) (c .before .before .before .before .before .before .loop .at) (c .before .before .before .before .before .before .loop .i) (c .before .before .before .before .before .before .loop .inv) (c .before .before .before .before .before .before .before .if1 .taken), c .before .before .before .before .before .before .loop .inv .most, c .before .before .before .before .before .before .before .if1 .taken, c .before .before .before .before .before .before .before .before .before .before .good, c .before .before .before .before .before .loop-test .taken)
+add-at c = let h = c .before .before .before .before .before in
+    omega (arith, fits h, rowed-length (h .before .loop .inv) (h .before .before .if1 .taken), h .before .before .before .before .before .good)
 
 add-i : tie.Need-add-i Inv-loop μ-loop
-add-i c = omega (arith, c .before .before .before .before .before .loop-test .taken, c .before .before .before .before .before .before .before .before .before .before .good)
+add-i c = let h = c .before .before .before .before .before in
+    omega (arith, h .loop-test .taken, h .before .before .before .before .before .good)
 
 loop-less : tie.Need-loop-less Inv-loop μ-loop
 loop-less c = omega (arith, c .before .before .before .before .before .loop-test .taken)
 
 loop-again : tie.Need-loop-again Inv-loop μ-loop
-loop-again c = rowed-more (c .before .before .before .before .before .before .before .before .before .before .args .row .now) (c .before .before .before .before .before .before .before .before .before .before .args .out .now) (c .before .before .before .before .before .before .loop .out) (c .before .before .before .before .before .before .loop .at) (c .before .before .before .before .before .before .loop .i) (c .before .before .before .before .before .before .loop .inv) (c .before .before .before .before .before .before .before .if1 .taken) (c .before .before .before .before .before .loop-test .taken) (c .before .before .put-number .last .0) (c .before .before .put-number .ensures)
+loop-again c = let h = c .before .before .before .before .before in
+    rowed-more (h .before .loop .inv) (h .before .before .if1 .taken) (h .loop-test .taken) (c .before .before .put-number .ensures)
 
 same-length : tie.Need-same-length Inv-loop μ-loop
-same-length c = rowed-length (c .before .before .before .before .before .args .row .now) (c .before .before .before .before .before .args .out .now) (c .before .loop .out) (c .before .loop .at) (c .before .loop .i) (c .before .loop .inv) (c .before .before .if1 .taken)
+same-length c = rowed-length (c .before .loop .inv) (c .before .before .if1 .taken)
 
 returns : tie.Need-returns Inv-loop μ-loop
-returns c = rowed-all (c .before .before .before .before .before .args .row .now) (c .before .before .before .before .before .args .out .now) (c .before .loop .out) (c .before .loop .at) (c .before .loop .i) (c .before .loop .inv) (c .before .before .if1 .taken) (c .loop-test .left)
+returns c = rowed-all (c .before .loop .inv) (c .before .before .if1 .taken) (c .loop-test .left)
 
 returns-2 : tie.Need-returns-2 Inv-loop μ-loop
-returns-2 c = sym (laid-none (rowBytes (c .before .before .before .args .row .now)) (c .before .before .before .args .out .now) (omega (arith, row-length (c .before .before .before .args .row .now))))
+returns-2 c = let args = c .before .before .before .args in
+    sym (laid-none (rowBytes (args .row .now)) (args .out .now) (omega (arith, row-length (args .row .now))))
 
 pub put-row-spec : {M : Type 1} → statement M
 put-row-spec =

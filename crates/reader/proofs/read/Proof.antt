@@ -4,14 +4,30 @@ use borrow.Author.Needs.{needs}
 use native.Mathlib.Omega.{arith}
 use mathlib.Core.Path.{_≡_, sym, ap, _∙_}
 use borrow.Author.Tests.{not-true, not-false}
-use Prim.Native.Nat.{ℕ, _+_, _-_}
-use lib.ListN.{take, drop}
-use Rattle.message.specs.Reading.{partsIn, judged}
+use Prim.Native.Nat.{ℕ, _+_, _-_, _≤_}
+use mathlib.Core.Bool.{true}
+use mathlib.Core.List.{List}
+use lib.ListN.{length, take, drop}
+use Rattle.message.specs.Reading.{startsRight, partsIn, judged}
 use Rattle.message.specs.Answer.{andThen}
 use Rattle.reader.proofs.Opening.{open-short, open-start, open-long, open-cut, open-body}
 use Rattle.reader.specs.Places.{readAs}
 use Rattle.reader.proofs.read.Statement.{statement}
 use Rattle.reader.proofs.read.Tie as tie
+
+-- what is known of the bytes in front once the body's length is read
+module _ (c : tie.After-number-of) where
+  abbrev right : tie.Else2
+  right = c .before .before .before .before .before
+
+  abbrev bytes : List ℕ
+  bytes = right .before .before .before .before .args .bytes .now
+
+  long : 8 ≤ length bytes
+  long = right .before .before .if1 .left
+
+  start : startsRight bytes ≡ true
+  start = sym (right .before .starts-right .ensures) ∙ not-false _ (right .if2 .left)
 
 returns : tie.Need-returns
 returns c = sym (ap readAs (open-short (c .before .before .args .bytes .now) (c .if1 .taken)))
@@ -41,13 +57,15 @@ cast-size : tie.Need-cast-size
 cast-size c = search needs
 
 returns-3 : tie.Need-returns-3
-returns-3 c = sym (ap readAs (open-long (c .before .before .before .before .before .before .before .before .before .before .args .bytes .now) (c .before .before .before .before .before .before .before .before .if1 .left) (sym (c .before .before .before .before .before .before .before .starts-right .ensures) ∙ not-false _ (c .before .before .before .before .before .before .if2 .left)) (c .before .number-of .result) (c .before .number-of .ensures) (c .if3 .taken)))
+returns-3 c = let p = c .before in
+    sym (ap readAs (open-long _ (long p) (start p) _ (p .number-of .ensures) (c .if3 .taken)))
 
 add-end : tie.Need-add-end
 add-end c = search needs
 
 returns-4 : tie.Need-returns-4
-returns-4 c = sym (ap readAs (open-cut (c .before .before .before .before .before .before .before .before .before .before .before .args .bytes .now) (c .before .before .before .before .before .before .before .before .before .if1 .left) (sym (c .before .before .before .before .before .before .before .before .starts-right .ensures) ∙ not-false _ (c .before .before .before .before .before .before .before .if2 .left)) (c .before .before .number-of .result) (c .before .before .number-of .ensures) (c .before .if3 .left) (c .if4 .taken)))
+returns-4 c = let p = c .before .before in
+    sym (ap readAs (open-cut _ (long p) (start p) _ (p .number-of .ensures) (c .before .if3 .left) (c .if4 .taken)))
 
 sub-judge : tie.Need-sub-judge
 sub-judge c = search needs
@@ -62,11 +80,11 @@ judge-requires : tie.Need-judge-requires
 judge-requires c κs = search needs
 
 returns-5 : tie.Need-returns-5
-returns-5 c = let bytes = c .before .before .before .before .before .before .before .before .before .before .before .before .before .args .bytes .now in
-    let n = c .before .before .before .before .number-of .result in
+returns-5 c = let p = c .before .before .before .before in
+    let n = p .number-of .result in
     let size : 8 + n - 8 ≡ n = omega arith in
-    c .judge .ensures ∙ ap (λ (k : ℕ). readAs (andThen (partsIn 68 (take k (drop 8 bytes))) judged)) size
-    ∙ sym (ap readAs (open-body bytes (c .before .before .before .before .before .before .before .before .before .before .before .if1 .left) (sym (c .before .before .before .before .before .before .before .before .before .before .starts-right .ensures) ∙ not-false _ (c .before .before .before .before .before .before .before .before .before .if2 .left)) n (c .before .before .before .before .number-of .ensures) (c .before .before .before .if3 .left) (c .before .before .if4 .left)))
+    c .judge .ensures ∙ ap (λ (k : ℕ). readAs (andThen (partsIn 68 (take k (drop 8 (bytes p)))) judged)) size
+    ∙ sym (ap readAs (open-body _ (long p) (start p) n (p .number-of .ensures) (c .before .before .before .if3 .left) (c .before .before .if4 .left)))
 
 pub read-spec : {M : Type 1} → statement M
 read-spec =

@@ -2,10 +2,36 @@
 -- Assumes nothing.
 use borrow.Author.Needs.{needs}
 use native.Mathlib.Omega.{arith}
-use Rattle.reader.proofs.Stretches.{piece-size, piece-fits, piece-there}
+use mathlib.Core.List.{List}
+use Prim.Native.Nat.{ℕ, _+_, _<_, _≤_}
+use lib.ListN.{length, drop}
+use Rattle.octets.specs.Number.{Bytes}
 use Rattle.octets.proofs.Numbers.{bytes-of}
+use Rattle.reader.proofs.Stretches.{piece-size, piece-fits, piece-there}
+use Rattle.reader.specs.Judging.{Found}
 use Rattle.reader.proofs.judge.piece_if.Statement.{statement}
 use Rattle.reader.proofs.judge.piece_if.Tie as tie
+
+-- the flag is set, so that there is a part
+module _ (c : tie.Then1) where
+  abbrev body : List ℕ
+  body = c .before .before .args .body .now
+
+  abbrev at : ℕ
+  at = c .before .before .args .at
+
+  bytes : Bytes body
+  bytes = bytes-of body (λ i. c .before .shared-slice-known .given i .fits)
+
+  found : Found (drop at body)
+  found = c .before .before .pre .1 .0
+
+  some : 0 < length (drop at body)
+  some = c .before .before .pre .1 .1 (c .if1 .taken)
+
+-- it lies in the body
+fits : (c : tie.After-stretch-at) → at (c .before .before) + c .stretch-at .result .start + c .stretch-at .result .len ≤ length (body (c .before .before))
+fits c = let p = c .before .before in piece-fits (body p) (at p) (bytes p) (found p) (some p) (c .stretch-at .result) (c .stretch-at .ensures)
 
 sub-stretch-at : tie.Need-sub-stretch-at
 sub-stretch-at c = search needs
@@ -17,16 +43,18 @@ part-stretch-at-end : tie.Need-part-stretch-at-end
 part-stretch-at-end c = search needs
 
 stretch-at-requires : tie.Need-stretch-at-requires
-stretch-at-requires c κs = piece-size (c .before .before .before .args .body .now) (c .before .before .before .args .at) (bytes-of (c .before .before .before .args .body .now) (λ i. c .before .before .shared-slice-known .given i .fits)) (c .before .before .before .pre .1 .0) (c .before .before .before .pre .1 .1 (c .before .if1 .taken))
+stretch-at-requires c κs = let p = c .before in piece-size (body p) (at p) (bytes p) (found p) (some p)
 
 add-data : tie.Need-add-data
-add-data c = omega (arith, piece-fits (c .before .before .before .before .before .args .body .now) (c .before .before .before .before .before .args .at) (bytes-of (c .before .before .before .before .before .args .body .now) (λ i. c .before .before .before .before .shared-slice-known .given i .fits)) (c .before .before .before .before .before .pre .1 .0) (c .before .before .before .before .before .pre .1 .1 (c .before .before .before .if1 .taken)) (c .before .stretch-at .result) (c .before .stretch-at .ensures))
+add-data c = omega (arith, fits (c .before))
 
 add-t9 : tie.Need-add-t9
-add-t9 c = omega (arith, piece-fits (c .before .before .before .before .before .before .args .body .now) (c .before .before .before .before .before .before .args .at) (bytes-of (c .before .before .before .before .before .before .args .body .now) (λ i. c .before .before .before .before .before .shared-slice-known .given i .fits)) (c .before .before .before .before .before .before .pre .1 .0) (c .before .before .before .before .before .before .pre .1 .1 (c .before .before .before .before .if1 .taken)) (c .before .before .stretch-at .result) (c .before .before .stretch-at .ensures))
+add-t9 c = omega (arith, fits (c .before .before))
 
 returns : tie.Need-returns
-returns c = rw (c .before .before .before .before .if1 .taken) (piece-there (c .before .before .before .before .before .before .args .body .now) (c .before .before .before .before .before .before .args .at) (bytes-of (c .before .before .before .before .before .before .args .body .now) (λ i. c .before .before .before .before .before .shared-slice-known .given i .fits)) (c .before .before .before .before .before .before .pre .1 .0) (c .before .before .before .before .before .before .pre .1 .1 (c .before .before .before .before .if1 .taken)) (c .before .before .stretch-at .result) (c .before .before .stretch-at .ensures))
+returns c = let q = c .before .before in
+    let p = q .before .before in
+    rw (p .if1 .taken) (piece-there (body p) (at p) (bytes p) (found p) (some p) (q .stretch-at .result) (q .stretch-at .ensures))
 
 returns-2 : tie.Need-returns-2
 returns-2 c = rw (c .if1 .left)
