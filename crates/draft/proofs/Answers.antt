@@ -8,6 +8,7 @@ use native.Mathlib.Omega.{arith}
 use lib.Dec.{ltb}
 use lib.ListN.{length}
 use borrow.Author.Tests.{not-false, ltb-false}
+use Rattle.message.proofs.Answers.{not-answered}
 use Rattle.message.specs.declared.Refusal.{Refusal}
 use Rattle.message.specs.declared.Refusal.the-variants.{LongBody, WrongHeader, WrongParts, WrongRoute, WrongTopic, WrongField, ShortOutput}
 use Rattle.message.specs.Answer.{Answer, refused, answered, refuseIf}
@@ -29,18 +30,15 @@ told-frame : (a : Answer (List ℕ)) {n : ℕ} → writtenAs a ≡ Frame n → (
 told-frame (refused s) e = absurd (let z : _≡_ {A = ℕ} 0 1 = cc in omega arith)
 told-frame (answered frame) e = (frame, refl, cc)
 
-never : {A : Type 0} {r : Refusal} {a : A} → refused r ≡ answered a → ⊥
-never e = let z : _≡_ {A = ℕ} 0 1 = cc in omega arith
-
 -- an answer at the end of the writer's order has passed all its tests
 no-refusal : (k a r t f l s : Bool) {x : List ℕ} (frame : List ℕ) → refuseIf k WrongHeader (refuseIf a WrongParts (refuseIf r WrongRoute (refuseIf t WrongTopic (refuseIf f WrongField (refuseIf l LongBody (refuseIf s ShortOutput (answered x))))))) ≡ answered frame → (frame ≡ x) × (r ≡ false) × (s ≡ false)
-no-refusal true a r t f l s frame e = absurd (never e)
-no-refusal false true r t f l s frame e = absurd (never e)
-no-refusal false false true t f l s frame e = absurd (never e)
-no-refusal false false false true f l s frame e = absurd (never e)
-no-refusal false false false false true l s frame e = absurd (never e)
-no-refusal false false false false false true s frame e = absurd (never e)
-no-refusal false false false false false false true frame e = absurd (never e)
+no-refusal true a r t f l s frame e = absurd (not-answered e)
+no-refusal false true r t f l s frame e = absurd (not-answered e)
+no-refusal false false true t f l s frame e = absurd (not-answered e)
+no-refusal false false false true f l s frame e = absurd (not-answered e)
+no-refusal false false false false true l s frame e = absurd (not-answered e)
+no-refusal false false false false false true s frame e = absurd (not-answered e)
+no-refusal false false false false false false true frame e = absurd (not-answered e)
 no-refusal false false false false false false false frame e = (cc, refl, refl)
 
 -- what a frame's length that is told says of the message that is given: its frame is written, which fits, and its routes are whole

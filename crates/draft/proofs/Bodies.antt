@@ -7,13 +7,14 @@ use Prim.Native.Nat.{ℕ, _+_, _%_, _≤_}
 use mathlib.Core.List.{List, [], _∷_, _++_, append-nil, append-assoc}
 use native.Mathlib.Omega.{arith}
 use lib.ListN.{length, length-append}
+use Rattle.message.proofs.Parts.{joined-append}
 use Rattle.message.specs.declared.Header.{Header}
 use Rattle.message.specs.Header.{hasTopic, hasPayload, hasRoute, headerBytes}
 use Rattle.message.specs.Message.{Message}
 use Rattle.message.specs.Frame.{partBytes, joined, partIf, partsOf, bodyOf, frameOf}
 use Rattle.message.specs.Writing.{givenMessage}
 use Rattle.draft.specs.Parts.{groupOf, groupLength, partLength}
-use Rattle.draft.proofs.Parts.{joined-append, part-takes, group-takes, part-most, group-most}
+use Rattle.draft.proofs.Parts.{part-takes, group-takes, part-most, group-most}
 
 -- r, t and p say which flags are set
 module _ (h : Header) (routes topic payload : List ℕ) {r t p : Bool} (er : r ≡ hasRoute (h .flags)) (et : t ≡ hasTopic (h .flags)) (ep : p ≡ hasPayload (h .flags)) where

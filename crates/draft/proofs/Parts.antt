@@ -1,14 +1,15 @@
 -- Laws on the parts of a frame: a size, parts one after another, and how many bytes a part takes that is there only where its flag is set.
 -- Assumes nothing.
-use mathlib.Core.Path.{_≡_, refl, sym}
+use mathlib.Core.Path.{_≡_, refl}
 use mathlib.Core.Bool.{Bool, true, false}
 use Prim.Native.Nat.{ℕ, _+_, _%_, _<_, _≤_}
-use mathlib.Core.List.{List, [], _∷_, _++_, append-nil, append-assoc}
+use mathlib.Core.List.{List, [], _∷_, append-nil}
 use native.Mathlib.Omega.{arith}
 use native.Mathlib.Decide.{decLe}
 use native.Mathlib.Nat.{lt-of-not-le}
 use lib.ListN.{length, length-append}
 use borrow.Author.Tests.{lt-ltb, le-ltb}
+use Rattle.message.proofs.Parts.{joined-append}
 use Rattle.octets.specs.Number.{four}
 use Rattle.message.specs.Frame.{sizeBytes, partBytes, joined, partIf}
 use Rattle.draft.specs.Parts.{groupOf, groupLength, partLength}
@@ -19,10 +20,6 @@ size-one n h = rw (lt-ltb n 255 h)
 
 pub size-five : (n : ℕ) → 255 ≤ n → sizeBytes n ≡ 255 ∷ four n
 size-five n h = rw (le-ltb n 255 h)
-
-pub joined-append : (ps qs : List (List ℕ)) → joined (ps ++ qs) ≡ joined ps ++ joined qs
-joined-append [] qs = refl
-joined-append (p ∷ ps) qs = rw (joined-append ps qs) (sym (append-assoc (partBytes p) (joined ps) (joined qs)))
 
 -- how many bytes they take
 pub part-takes : (given : Bool) (p : List ℕ) → length (joined (partIf given p)) ≡ partLength given (length p)

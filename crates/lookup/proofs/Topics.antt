@@ -1,6 +1,6 @@
 -- Laws on topics: a turn of the loop over their bytes. Assumes nothing.
-use mathlib.Core.Path.{_≡_, refl, ap}
-use mathlib.Core.List.{List, [], _∷_, _++_}
+use mathlib.Core.Path.{_≡_, refl}
+use mathlib.Core.List.{List, _++_, append-nil}
 use Prim.Native.Nat.{ℕ, _+_, _<_}
 use native.Mathlib.Numerals.{add-one}
 use borrow.Author.Tests.{eq-eqb, ne-eqb}
@@ -11,11 +11,7 @@ use Rattle.lookup.specs.Lookup.{serviceOf}
 module _ (s : List ℕ) (i : ℕ) (h : i < length s) where
   pub service-stop : getD s i 0 ≡ 46 → take i s ++ serviceOf (drop i s) ≡ take i s
   unfolding serviceOf
-  service-stop e = rw (drop-cons s i 0 h, eq-eqb _ _ e) (append-none (take i s))
-    where
-      append-none : (xs : List ℕ) → xs ++ [] ≡ xs
-      append-none [] = refl
-      append-none (x ∷ xs) = ap (λ (l : List ℕ). x ∷ l) (append-none xs)
+  service-stop e = rw (drop-cons s i 0 h, eq-eqb _ _ e) (append-nil (take i s))
 
   pub service-more : (getD s i 0 ≡ 46 → ⊥) → take i s ++ serviceOf (drop i s) ≡ take (i + 1) s ++ serviceOf (drop (i + 1) s)
   unfolding serviceOf
@@ -24,8 +20,4 @@ module _ (s : List ℕ) (i : ℕ) (h : i < length s) where
 -- where all bytes are passed
 pub service-end : (s : List ℕ) (i : ℕ) → i ≡ length s → take i s ++ serviceOf (drop i s) ≡ s
 unfolding serviceOf
-service-end s i e = rw (e, drop-length s, take-length s) (append-none s)
-  where
-    append-none : (xs : List ℕ) → xs ++ [] ≡ xs
-    append-none [] = refl
-    append-none (x ∷ xs) = ap (λ (l : List ℕ). x ∷ l) (append-none xs)
+service-end s i e = rw (e, drop-length s, take-length s) (append-nil s)

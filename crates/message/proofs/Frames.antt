@@ -65,7 +65,7 @@ reading b m e =
       parts = p₄ .rest;
     }
 
-start-four : (p q r s : ℕ) → (eqb p 0xFF && (eqb q 0xEE && (eqb r 0x00 && eqb s 0x12))) ≡ true → p ∷ q ∷ r ∷ s ∷ [] ≡ frameStart
+pub start-four : (p q r s : ℕ) → (eqb p 0xFF && (eqb q 0xEE && (eqb r 0x00 && eqb s 0x12))) ≡ true → p ∷ q ∷ r ∷ s ∷ [] ≡ frameStart
 start-four p q r s e =
     let e₁ = and-right (eqb p 0xFF) (eqb q 0xEE && (eqb r 0x00 && eqb s 0x12)) e in
     let e₂ = and-right (eqb q 0xEE) (eqb r 0x00 && eqb s 0x12) e₁ in

@@ -22,6 +22,10 @@ use Rattle.message.proofs.Lists.{Each, bytes-front, bytes-back}
 abbrev pub Sized : List ℕ → Type 0
 Sized p = length p < 4294967296
 
+pub joined-append : (ps qs : List (List ℕ)) → joined (ps ++ qs) ≡ joined ps ++ joined qs
+joined-append [] qs = refl
+joined-append (p ∷ ps) qs = rw (joined-append ps qs) (sym (append-assoc (partBytes p) (joined ps) (joined qs)))
+
 -- ---- a part and what is left behind it
 
 -- n bytes were there, and were cut off

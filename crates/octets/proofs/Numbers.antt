@@ -1,11 +1,12 @@
 -- Laws on bytes and on numbers of four bytes.
 -- Assumes nothing.
-use mathlib.Core.Path.{_≡_}
+use mathlib.Core.Path.{_≡_, refl}
 use Prim.Native.Nat.{ℕ, zero, suc, _+_, _*_, _/_, _%_, _<_, _≤_}
 use mathlib.Core.List.{List, [], _∷_, _++_}
 use native.Mathlib.Omega.{arith}
-use native.Mathlib.Nat.{not-suc-le-zero, div-div-eq-div-mul, div-add-mod'}
+use native.Mathlib.Nat.{add-zero, not-suc-le-zero, div-div-eq-div-mul, div-add-mod'}
 use lib.ListN.{length, getD, take, drop}
+use lib.Seq.{getD-drop}
 use Rattle.octets.specs.Number.{number, four, Bytes}
 
 -- a list whose every place holds a byte, as the rule for a slice of bytes has it
@@ -59,3 +60,7 @@ four-number (p ∷ q ∷ r ∷ s ∷ rest) h (bp, (bq, (br, (bs, _)))) =
     let e₃ : n / 256 % 256 ≡ r = omega arith in
     let e₄ : n % 256 ≡ s = omega arith in
     cc
+
+-- the number that four bytes at a place are
+pub number-at : (xs : List ℕ) (at : ℕ) → number (getD xs at 0 ∷ getD xs (at + 1) 0 ∷ getD xs (at + 2) 0 ∷ getD xs (at + 3) 0 ∷ []) ≡ number (drop at xs)
+number-at xs at = rw (getD-drop at xs 0 0, getD-drop at xs 1 0, getD-drop at xs 2 0, getD-drop at xs 3 0, add-zero) refl

@@ -20,12 +20,12 @@ use Rattle.message.specs.Reading.{front, final, routesIn, isTopicPart, messageI
 use Rattle.message.proofs.Answers.{and-not}
 use Rattle.message.proofs.Lists.{bytes-part}
 use Rattle.message.proofs.Forms.{topic-parted}
-use Rattle.message.proofs.Parts.{split}
+use Rattle.message.proofs.Parts.{split, joined-append}
 use Rattle.message.proofs.Messages.{held}
 use Rattle.reader.specs.declared.judge.Piece.{Piece}
 use Rattle.reader.specs.Places.{dataAt, routing, topicPart, placesOf}
 use Rattle.reader.specs.Judging.{partsFound, Found, pieceAt, pieceIf, firstRoute, Within, topicWrong, Placeable, placedAs, Sorted}
-use Rattle.reader.proofs.Cursors.{At, joined-append, at-found, at-parts, at-some, at-next, at-data, at-if}
+use Rattle.reader.proofs.Cursors.{At, at-found, at-parts, at-some, at-next, at-data, at-if}
 use Rattle.reader.proofs.Sorting.{judged-message, stack-joined, found, topicData, payloadData, behindTopic, topic-at}
 
 -- ---- a part that is there if its flag is set

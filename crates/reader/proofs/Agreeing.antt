@@ -94,7 +94,7 @@ module _ (body : List ℕ) (w : Walked) (h : Header) (d : Headed body w h) where
   empty-low b = go r
     where
       go : (t : Bool) → cond t (w .empty) 0 ≤ 68
-      go true = omega (arith, d .empty, before-few ps, split 68 body ps b (d .found) .few)
+      go true = omega (arith, d .over .empty, before-few ps, split 68 body ps b (d .over .found) .few)
       go false = omega arith
 
   head-long : length (final [] ps) ≡ 20
@@ -111,11 +111,11 @@ module _ (body : List ℕ) (w : Walked) (h : Header) (d : Headed body w h) where
   two = front-final [] ps some
 
   count-is : w .count ≡ suc (length fr)
-  count-is = omega (arith, d .count, ap length two, length-append fr (final [] ps ∷ []))
+  count-is = omega (arith, d .over .count, ap length two, length-append fr (final [] ps ∷ []))
 
   empty-is : w .empty ≡ nextEmpty (length fr) (length (beforeEmpty fr)) 20
   empty-is =
-      d .empty ∙ ap (λ (qs : List (List ℕ)). length (beforeEmpty qs)) (sym two) ∙ empty-snoc fr (final [] ps)
+      d .over .empty ∙ ap (λ (qs : List (List ℕ)). length (beforeEmpty qs)) (sym two) ∙ empty-snoc fr (final [] ps)
       ∙ ap (nextEmpty (length fr) (length (beforeEmpty fr))) head-long
 
   abbrev others : ℕ
@@ -170,7 +170,7 @@ module _ (body : List ℕ) (w : Walked) (h : Header) (d : Headed body w h) where
       pub sorted : routes ≤ 64 → allRoutes (take routes ps) ≡ true → Sorted body h routes
       sorted m a =
           record {
-            found = d .found;
+            found = d .over .found;
             short = d .short;
             headed = d .headed;
             same = d .same;

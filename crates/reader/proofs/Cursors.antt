@@ -10,13 +10,9 @@ use lib.Seq.{drop-drop, drop-at, take-at}
 use Rattle.message.specs.Answer.{answered}
 use Rattle.message.specs.Frame.{sizeBytes, partBytes, joined, partIf}
 use Rattle.message.specs.Reading.{partsIn}
-use Rattle.message.proofs.Parts.{join, joined-sized}
+use Rattle.message.proofs.Parts.{join, joined-append, joined-sized}
 use Rattle.reader.specs.Judging.{orNone, partsFound, Found}
 use Rattle.reader.proofs.Stretches.{has-size}
-
-pub joined-append : (ps qs : List (List ℕ)) → joined (ps ++ qs) ≡ joined ps ++ joined qs
-joined-append [] qs = refl
-joined-append (p ∷ ps) qs = rw (joined-append ps qs) (sym (append-assoc (partBytes p) (joined ps) (joined qs)))
 
 -- the parts ps begin at a place of the body, and go to its end
 pub record At (body : List ℕ) (at : ℕ) (ps : List (List ℕ)) : Type 0 where

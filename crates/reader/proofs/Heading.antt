@@ -18,14 +18,13 @@ use Rattle.message.specs.Header.{headerIn, isHeader}
 use Rattle.message.specs.Frame.{partBytes, joined}
 use Rattle.message.specs.Reading.{partsIn, front, final, beforeEmpty, judgedAs, judged}
 use Rattle.message.proofs.Lists.{front-final}
-use Rattle.message.proofs.Parts.{split, part-short, part-long}
+use Rattle.message.proofs.Parts.{joined-append, split, part-short, part-long}
 use Rattle.parts.specs.declared.walk.Walked.{Walked}
 use Rattle.parts.specs.declared.walk.Walk.the-variants.{Refused, Counted}
 use Rattle.reader.specs.declared.header.Head.the-variants.{Wrong, Fields}
 use Rattle.reader.specs.Places.{headAs}
 use Rattle.parts.specs.Walk.{walkedAs}
 use Rattle.reader.specs.Judging.{partsFound, WalkedOver, Headed}
-use Rattle.reader.proofs.Cursors.{joined-append}
 
 -- ---- what the walk found
 
@@ -135,7 +134,7 @@ module _ (body : List ℕ) (b : Bytes body) (w : Walked) (o : WalkedOver body w)
       headed = go (isHeader (final [] ps)) refl (e ∙ ap headAs head-bytes)
         where
           go : (t : Bool) → isHeader (final [] ps) ≡ t → Fields h ≡ cond t (Fields (headerIn (final [] ps))) Wrong → Headed body w h
-          go true k e = record { found = o .found; short = short; count = o .count; empty = o .empty; headed = k; same = cc }
+          go true k e = record { over = o; short = short; headed = k; same = cc }
           go false k e = let z : _≡_ {A = ℕ} 0 1 = cc in absurd (omega arith)
 
       pub judged-rest : andThen (partsIn 68 body) judged ≡ judgedAs h (front ps)

@@ -1,18 +1,18 @@
 -- The header, the four bytes in front and the topic's part: a law for each case of their tests.
 -- Assumes nothing.
-use mathlib.Core.Path.{_≡_, refl, sym, _∙_}
+use mathlib.Core.Path.{_≡_, refl, sym, ap, _∙_}
 use mathlib.Core.Bool.{Bool, true, false, _&&_}
 use Prim.Native.Nat.{ℕ, zero, suc, _+_, _-_, _*_, _<_}
 use mathlib.Core.List.{List, [], _∷_}
 use native.Mathlib.Omega.{arith}
 use native.Mathlib.Nat.{le-of-suc-le-suc}
-use borrow.Author.Tests.{eq-eqb, ne-eqb, eqb-true}
+use borrow.Author.Tests.{eq-eqb, ne-eqb}
 use lib.Dec.{eqb}
-use lib.ListN.{length, getD, take, drop}
-use lib.Seq.{getD-drop}
+use lib.ListN.{length, getD, take}
 use Rattle.octets.specs.Number.{number, Bytes}
-use Rattle.octets.proofs.Numbers.{bytes-at}
-use Rattle.message.proofs.Answers.{true-false, and-left, and-right}
+use Rattle.octets.proofs.Numbers.{bytes-at, number-at}
+use Rattle.message.proofs.Answers.{true-false}
+use Rattle.message.proofs.Frames.{start-four}
 use Rattle.message.specs.declared.Header.{Header}
 use Rattle.message.specs.Header.{isKnown, headerIn, isHeader}
 use Rattle.form.specs.Forms.{isTopic}
@@ -22,10 +22,7 @@ use Rattle.reader.specs.Places.{headAs}
 
 -- ---- the fields
 
--- the number at a place, from the four bytes there
-pub number-at : (p : List ℕ) (n : ℕ) → number (getD p (n + 0) 0 ∷ getD p (n + 1) 0 ∷ getD p (n + 2) 0 ∷ getD p (n + 3) 0 ∷ []) ≡ number (drop n p)
-number-at p n = rw (getD-drop n p 0 0, getD-drop n p 1 0, getD-drop n p 2 0, getD-drop n p 3 0)
-
+-- x is the number at a place, put together from the four bytes there
 abbrev pub NumberAt : List ℕ → ℕ → ℕ → Type 0
 NumberAt p n x = x ≡ number (getD p (n + 0) 0 ∷ getD p (n + 1) 0 ∷ getD p (n + 2) 0 ∷ getD p (n + 3) 0 ∷ [])
 
@@ -70,14 +67,7 @@ module _ (n p q r t : ℕ) (bq : q < 256) (br : r < 256) (bt : t < 256) (is : n 
   start-is = go each refl
     where
       go : (all : Bool) → each ≡ all → eqb n 4293787666 ≡ all
-      go true e =
-          let e₁ = and-right (eqb p 255) (eqb q 238 && (eqb r 0 && eqb t 18)) e in
-          let e₂ = and-right (eqb q 238) (eqb r 0 && eqb t 18) e₁ in
-          let first = eqb-true p 255 (and-left (eqb p 255) (eqb q 238 && (eqb r 0 && eqb t 18)) e) in
-          let second = eqb-true q 238 (and-left (eqb q 238) (eqb r 0 && eqb t 18) e₁) in
-          let third = eqb-true r 0 (and-left (eqb r 0) (eqb t 18) e₂) in
-          let last = eqb-true t 18 (and-right (eqb r 0) (eqb t 18) e₂) in
-          eq-eqb n 4293787666 (omega (arith, first, second, third, last))
+      go true e = eq-eqb n 4293787666 (is ∙ ap number (start-four p q r t e))
       go false e =
           ne-eqb n 4293787666 (λ (k : n ≡ 4293787666).
           let same : each ≡ true = rw (eq-eqb p 255 (omega arith), eq-eqb q 238 (omega arith), eq-eqb r 0 (omega arith), eq-eqb t 18 (omega arith)) in

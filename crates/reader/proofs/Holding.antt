@@ -8,6 +8,7 @@ use native.Mathlib.Omega.{arith}
 use native.Mathlib.Nat.{le-of-suc-le-suc}
 use lib.ListN.{length, getD, take, drop, length-append, length-drop, take-append-drop}
 use lib.Seq.{split-at, length-take-le, drop-drop, take-take, take-at, take-append-le, drop-append-le}
+use Rattle.message.proofs.Parts.{joined-append}
 use Rattle.octets.specs.Number.{Bytes}
 use Rattle.message.specs.Answer.{answered}
 use Rattle.message.specs.Header.{hasTopic, hasPayload, hasRoute, headerBytes}
@@ -21,7 +22,7 @@ use Rattle.message.proofs.Messages.{written, given-fit}
 use Rattle.reader.proofs.Sorting.{routes-joined}
 use Rattle.message.proofs.RoundTrip.{WrittenBack, write-back}
 use Rattle.reader.specs.Places.{dataAt, routing, topicPart, placesOf}
-use Rattle.reader.proofs.Cursors.{joined-append, at-behind, at-data}
+use Rattle.reader.proofs.Cursors.{at-behind, at-data}
 
 -- a stretch of the bytes
 abbrev pub stretch : List ℕ → ℕ → ℕ → List ℕ

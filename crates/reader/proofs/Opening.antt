@@ -9,7 +9,8 @@ use lib.ListN.{length, take, drop}
 use Rattle.message.specs.declared.Refusal.the-variants.{ShortInput, WrongStart, LongBody}
 use Rattle.message.specs.Answer.{refused, andThen}
 use Rattle.message.specs.Reading.{startsRight, bodyLength, partsIn, judged, readingOf}
-use Rattle.reader.proofs.Heads.{number-at, NumberAt}
+use Rattle.octets.proofs.Numbers.{number-at}
+use Rattle.reader.proofs.Heads.{NumberAt}
 
 module _ (b : List ℕ) where
   pub open-short : length b < 8 → readingOf b ≡ refused ShortInput

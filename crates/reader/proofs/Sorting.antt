@@ -20,10 +20,10 @@ use Rattle.message.proofs.Answers.{and-right}
 use Rattle.message.proofs.Lists.{Each, front-final}
 use Rattle.message.proofs.Headers.{header-tested}
 use Rattle.message.proofs.Forms.{routes-each, routes-few}
-use Rattle.message.proofs.Parts.{split, part-short}
+use Rattle.message.proofs.Parts.{split, part-short, joined-append}
 use Rattle.message.proofs.Places.{before-all}
 use Rattle.reader.specs.Judging.{partsFound, Sorted}
-use Rattle.reader.proofs.Cursors.{At, at-behind, joined-append}
+use Rattle.reader.proofs.Cursors.{At, at-behind}
 
 -- ---- 7 to 10, one test after the other
 

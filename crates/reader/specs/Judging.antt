@@ -94,10 +94,8 @@ pub record WalkedOver (body : List ℕ) (w : Walked) : Type 0 where
 
 -- the parts are counted, and the last is a header with the fields h
 pub record Headed (body : List ℕ) (w : Walked) (h : Header) : Type 0 where
-  pub found : Found body
+  pub over : WalkedOver body w
   pub short : length body ≤ 32768
-  pub count : w .count ≡ length (partsFound body)
-  pub empty : w .empty ≡ length (beforeEmpty (partsFound body))
   pub headed : isHeader (final [] (partsFound body)) ≡ true
   pub same : h ≡ headerIn (final [] (partsFound body))
 

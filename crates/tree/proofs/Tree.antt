@@ -3,22 +3,17 @@ use mathlib.Core.Path.{_≡_, refl, _∙_}
 use mathlib.Core.Bool.{true, false, _&&_, and-true}
 use mathlib.Core.List.{List, [], _∷_}
 use Prim.Native.Nat.{ℕ, _+_, _*_, _/_, _<_, _≤_}
-use native.Mathlib.Nat.{add-zero}
 use borrow.Author.Tests.{lt-ltb, le-ltb, leb-true, le-leb, lt-leb}
 use lib.Dec.{eqb, leb}
-use lib.ListN.{length, getD, drop}
-use lib.Seq.{getD-drop}
+use lib.ListN.{length, getD}
 use Rattle.octets.specs.Number.{number}
+use Rattle.octets.proofs.Numbers.{number-at}
 use Rattle.records.proofs.Truth.{left, right, right-fails}
 use Rattle.tree.specs.Tree.{noRank, ranksIn, wholeTree, parentOf}
 
 pub ranks-are : (tree : List ℕ) → ranksIn tree ≡ length tree / 4
 unfolding ranksIn
 ranks-are tree = refl
-
--- the number that the code puts together from the four bytes at `at`
-number-at : (tree : List ℕ) (at : ℕ) → number (getD tree at 0 ∷ getD tree (at + 1) 0 ∷ getD tree (at + 2) 0 ∷ getD tree (at + 3) 0 ∷ []) ≡ number (drop at tree)
-number-at tree at = rw (getD-drop at tree 0 0, getD-drop at tree 1 0, getD-drop at tree 2 0, getD-drop at tree 3 0, add-zero) refl
 
 pub parent-inside : (tree : List ℕ) (r : ℕ) → r < length tree / 4 → number (getD tree (r * 4) 0 ∷ getD tree (r * 4 + 1) 0 ∷ getD tree (r * 4 + 2) 0 ∷ getD tree (r * 4 + 3) 0 ∷ []) ≡ parentOf tree r
 unfolding parentOf ranksIn

@@ -10,7 +10,7 @@ use lib.Seq.{drop-drop}
 use Rattle.message.specs.Frame.{sizeBytes, partBytes, joined, partIf}
 use Rattle.draft.specs.Parts.{groupOf}
 use Rattle.draft.proofs.Cuts.{cut, cut-more}
-use Rattle.draft.proofs.Parts.{joined-append}
+use Rattle.message.proofs.Parts.{joined-append}
 
 -- the parts from the route at i on
 pub cut-next : (xs : List ℕ) (i : ℕ) → i < length xs → joined (cut (drop i xs)) ≡ partBytes (take 37 (drop i xs)) ++ joined (cut (drop (i + 37) xs))

@@ -55,7 +55,7 @@ are-routes-requires : tie.Need-are-routes-requires
 are-routes-requires c κs = let e = c .before in
     let p = e .before .before in
     let s = p .before .before .before .pre in
-    (s .found, (s .short, routes-in _ _ _ s _ (routes p) (agree e)))
+    (s .over .found, (s .short, routes-in _ _ _ s _ (routes p) (agree e)))
 
 judge-rest-requires : tie.Need-judge-rest-requires
 judge-rest-requires c κs = let e = c .before .before .before in
