@@ -16,10 +16,10 @@ use Rattle.message.specs.declared.Header.{Header}
 use Rattle.message.specs.Header.{hasTopic, isKnown, partsFit, fieldsGood}
 use Rattle.form.specs.Forms.{isTopic}
 use Rattle.message.specs.Frame.{bodyOf, frameOf}
-use Rattle.message.specs.Writing.{partsGivenFit, routesGood, writingInto, givenMessage}
+use Rattle.message.specs.Writing.{partsGivenFit, routesGood, cut, writingInto, givenMessage}
 use Rattle.draft.specs.declared.Written.the-variants.{Refused, Frame}
 use Rattle.draft.specs.Written.{writtenAs, measured}
-use Rattle.draft.proofs.Cuts.{cut, good-whole}
+use Rattle.draft.proofs.Cuts.{good-whole}
 use Rattle.draft.proofs.Judging.{order-is}
 
 pub told-refused : (a : Answer (List ℕ)) {r : Refusal} → writtenAs a ≡ Refused r → a ≡ refused r

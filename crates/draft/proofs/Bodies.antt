@@ -11,14 +11,14 @@ use Rattle.message.proofs.Parts.{joined-append}
 use Rattle.message.specs.declared.Header.{Header}
 use Rattle.message.specs.Header.{hasTopic, hasPayload, hasRoute, headerBytes}
 use Rattle.message.specs.Message.{Message}
-use Rattle.message.specs.Frame.{partBytes, joined, partIf, partsOf, bodyOf, frameOf}
-use Rattle.message.specs.Writing.{givenMessage}
-use Rattle.draft.specs.Parts.{groupOf, groupLength, partLength}
+use Rattle.message.specs.Frame.{partBytes, joined, partIf, groupIf, partsOf, bodyOf, frameOf}
+use Rattle.message.specs.Writing.{cut, givenMessage}
+use Rattle.draft.specs.Parts.{groupLength, partLength}
 use Rattle.draft.proofs.Parts.{part-takes, group-takes, part-most, group-most}
 
 -- r, t and p say which flags are set
 module _ (h : Header) (routes topic payload : List ℕ) {r t p : Bool} (er : r ≡ hasRoute (h .flags)) (et : t ≡ hasTopic (h .flags)) (ep : p ≡ hasPayload (h .flags)) where
-  pub body-parts : bodyOf (givenMessage h routes topic payload) ≡ joined (groupOf r routes) ++ joined (partIf t (topic ++ (0 ∷ []))) ++ joined (partIf p payload) ++ partBytes (headerBytes h)
+  pub body-parts : bodyOf (givenMessage h routes topic payload) ≡ joined (groupIf r (cut routes)) ++ joined (partIf t (topic ++ (0 ∷ []))) ++ joined (partIf p payload) ++ partBytes (headerBytes h)
   unfolding bodyOf partsOf givenMessage
   body-parts = rw (er, et, ep) (simp (joined-append, append-assoc, append-nil))
 

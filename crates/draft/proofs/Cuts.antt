@@ -13,12 +13,8 @@ use lib.Seq.{length-take-le, drop-drop}
 use borrow.Author.Tests.{le-leb, lt-leb}
 use Rattle.form.specs.Forms.{isRoute}
 use Rattle.message.specs.Frame.{partBytes, joined}
-use Rattle.message.specs.Writing.{cutRoutes, allRoutes, routesGood, isEmpty}
+use Rattle.message.specs.Writing.{cutRoutes, cut, allRoutes, routesGood, isEmpty}
 use Rattle.form.proofs.Routes.{route-length}
-
--- all the bytes, cut
-abbrev pub cut : List ℕ → List (List ℕ)
-cut xs = cutRoutes (length xs) xs
 
 -- how often cutting may go on does not matter, if it is often enough
 cut-enough : (k j : ℕ) (xs : List ℕ) → length xs ≤ k → length xs ≤ j → cutRoutes k xs ≡ cutRoutes j xs

@@ -18,10 +18,10 @@ use Rattle.message.specs.Header.{hasTopic, hasPayload, hasRoute, isKnown, parts
 use Rattle.message.specs.Message.{Message}
 use Rattle.form.specs.Forms.{isTopic}
 use Rattle.message.specs.Frame.{bodyOf, frameOf}
-use Rattle.message.specs.Writing.{isEmpty, partsGivenFit, routesGood, writing, writingInto, givenMessage}
+use Rattle.message.specs.Writing.{isEmpty, partsGivenFit, routesGood, cut, writing, writingInto, givenMessage}
 use Rattle.draft.specs.Written.{measured}
 use Rattle.form.proofs.Topics.{topic-long}
-use Rattle.draft.proofs.Cuts.{cut, cut-empty}
+use Rattle.draft.proofs.Cuts.{cut-empty}
 use Rattle.draft.proofs.Bodies.{payload-shorter}
 
 pub empty-length : (xs : List ℕ) → eqb (length xs) 0 ≡ isEmpty xs

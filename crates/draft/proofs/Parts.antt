@@ -11,8 +11,9 @@ use lib.ListN.{length, length-append}
 use borrow.Author.Tests.{lt-ltb, le-ltb}
 use Rattle.message.proofs.Parts.{joined-append}
 use Rattle.octets.specs.Number.{four}
-use Rattle.message.specs.Frame.{sizeBytes, partBytes, joined, partIf}
-use Rattle.draft.specs.Parts.{groupOf, groupLength, partLength}
+use Rattle.message.specs.Frame.{sizeBytes, partBytes, joined, partIf, groupIf}
+use Rattle.message.specs.Writing.{cut}
+use Rattle.draft.specs.Parts.{groupLength, partLength}
 use Rattle.draft.proofs.Cuts.{cut-length}
 
 pub size-one : (n : ℕ) → n < 255 → sizeBytes n ≡ n ∷ []
@@ -26,7 +27,7 @@ pub part-takes : (given : Bool) (p : List ℕ) → length (joined (partIf given 
 part-takes true p = rw (append-nil (partBytes p), length-append)
 part-takes false p = refl
 
-pub group-takes : (given : Bool) (routes : List ℕ) → length routes % 37 ≡ 0 → length (joined (groupOf given routes)) ≡ groupLength given (length routes)
+pub group-takes : (given : Bool) (routes : List ℕ) → length routes % 37 ≡ 0 → length (joined (groupIf given (cut routes))) ≡ groupLength given (length routes)
 group-takes true routes e = rw (joined-append, length-append, cut-length routes e)
 group-takes false routes e = refl
 

@@ -4,7 +4,7 @@ ghost use mathlib.Core.Bool.{_&&_, _||_, not};
 ghost use lib.ListN.{length};
 ghost use Rattle.message.specs.Header.{hasTopic, partsFit};
 ghost use Rattle.form.specs.Forms.{isTopic};
-ghost use Rattle.message.specs.Writing.{isEmpty, partsGivenFit, routesGood, cutRoutes, givenMessage};
+ghost use Rattle.message.specs.Writing.{isEmpty, partsGivenFit, routesGood, cut, givenMessage};
 use message::Header;
 
 // Whether a part may be given: its flag is set, or it is empty.
@@ -33,7 +33,7 @@ pub(crate) fn parts_agree(header: Header, routes: &[u8], topic: &[u8], payload: 
 
 // Whether there are at most 64 routes of 37 bytes, and each is of the form.
 pub(crate) fn routes_good(routes: &[u8]) -> bool
-    ensures { λ r. ⌜ r ≡ routesGood (cutRoutes (length (now (routes .entry))) (now (routes .entry))) ⌝ }
+    ensures { λ r. ⌜ r ≡ routesGood (cut (now (routes .entry))) ⌝ }
 {
     if 2368 < routes.len() {
         return false;

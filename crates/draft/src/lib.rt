@@ -4,7 +4,7 @@ ghost use mathlib.Core.Bool.{true, false, _&&_, not};
 ghost use lib.ListN.{length};
 ghost use Rattle.message.specs.Header.{hasTopic, partsFit};
 ghost use Rattle.form.specs.Forms.{isTopic};
-ghost use Rattle.message.specs.Writing.{partsGivenFit, routesGood, cutRoutes, writingInto, givenMessage};
+ghost use Rattle.message.specs.Writing.{partsGivenFit, routesGood, cut, writingInto, givenMessage};
 ghost use Rattle.draft.specs.Written.{writtenAs, measured};
 use message::Header;
 use message::Refusal;
@@ -21,7 +21,7 @@ pub enum Written {
 // 3 and 11, of a message that 6 to 10 let through. A payload above 32,768 bytes makes a body above that, and is not added up.
 fn measure(header: Header, routes: &[u8], topic: &[u8], payload: &[u8], room: usize) -> Written
     requires { ⌜ (partsFit header && partsGivenFit (givenMessage header (now routes) (now topic) (now payload))) ≡ true ⌝ }
-    requires { ⌜ routesGood (cutRoutes (length (now routes)) (now routes)) ≡ true ⌝ }
+    requires { ⌜ routesGood (cut (now routes)) ≡ true ⌝ }
     requires { ⌜ (hasTopic (header .flags) && not (isTopic (now topic))) ≡ false ⌝ }
     ensures { λ r. ⌜ r ≡ writtenAs (measured room (givenMessage header (now (routes .entry)) (now (topic .entry)) (now (payload .entry)))) ⌝ }
 {

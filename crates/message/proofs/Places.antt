@@ -9,31 +9,28 @@ use native.Mathlib.Numerals.{add-one}
 use native.Mathlib.Omega.{arith}
 use lib.ListN.{length, getD, drop, length-append, length-drop}
 use lib.Seq.{getD-drop, getD-append-add}
-use Rattle.message.specs.Frame.{partIf}
+use Rattle.message.specs.Frame.{partIf, groupIf}
 use Rattle.message.specs.Writing.{isEmpty}
 use Rattle.form.specs.Count.{one}
 use Rattle.message.specs.Reading.{beforeEmpty}
 use Rattle.message.proofs.Answers.{true-false}
 use Rattle.message.proofs.Lists.{Each, before-empty, before-split}
 
--- the routes with the delimiter, and the parts behind them
-abbrev pub stack : Bool → List (List ℕ) → List (List ℕ)
-stack r rs = cond r rs [] ++ partIf r []
-
+-- the parts behind the routing group
 abbrev pub behind : Bool → Bool → List ℕ → List ℕ → List (List ℕ)
 behind t p topic payload = partIf t topic ++ partIf p payload
 
 -- all the parts in front of the header
 abbrev pub before : Bool → Bool → Bool → List (List ℕ) → List ℕ → List ℕ → List (List ℕ)
-before r t p rs topic payload = stack r rs ++ behind t p topic payload
+before r t p rs topic payload = groupIf r rs ++ behind t p topic payload
 
 -- ---- found where they were put
 
 -- routes that are given only where their flag is set
-stack-length : (r : Bool) (rs : List (List ℕ)) → (r || isEmpty rs) ≡ true → length (stack r rs) ≡ length rs + one r
-stack-length true rs e = simp length-append
-stack-length false [] e = refl
-stack-length false (q ∷ rs) e = absurd (true-false (sym e))
+group-length : (r : Bool) (rs : List (List ℕ)) → (r || isEmpty rs) ≡ true → length (groupIf r rs) ≡ length rs + one r
+group-length true rs e = simp length-append
+group-length false [] e = refl
+group-length false (q ∷ rs) e = absurd (true-false (sym e))
 
 behind-length : (t p : Bool) (topic payload : List ℕ) → length (behind t p topic payload) ≡ one t + one p
 behind-length true true topic payload = refl
@@ -47,10 +44,10 @@ behind-payload false p topic payload e = rw e
 
 module _ (r t p : Bool) (rs : List (List ℕ)) (topic payload : List ℕ) (given : (r || isEmpty rs) ≡ true) where
   pub before-length : length (before r t p rs topic payload) ≡ length rs + one r + one t + one p
-  before-length = omega (arith, length-append (stack r rs) (behind t p topic payload), stack-length r rs given, behind-length t p topic payload)
+  before-length = omega (arith, length-append (groupIf r rs) (behind t p topic payload), group-length r rs given, behind-length t p topic payload)
 
   before-at : (n : ℕ) → getD (before r t p rs topic payload) (length rs + one r + n) [] ≡ getD (behind t p topic payload) n []
-  before-at n = rw (← stack-length r rs given) (getD-append-add (stack r rs) (behind t p topic payload) n [])
+  before-at n = rw (← group-length r rs given) (getD-append-add (groupIf r rs) (behind t p topic payload) n [])
 
   pub before-topic : t ≡ true → getD (before r t p rs topic payload) (length rs + one r) [] ≡ topic
   before-topic e = ap (λ (n : ℕ). getD (before r t p rs topic payload) n []) (sym (add-zero _)) ∙ before-at 0 ∙ rw e
@@ -58,7 +55,7 @@ module _ (r t p : Bool) (rs : List (List ℕ)) (topic payload : List ℕ) (given
   pub before-payload : p ≡ true → getD (before r t p rs topic payload) (length rs + one r + one t) [] ≡ payload
   before-payload e = before-at (one t) ∙ behind-payload t p topic payload e
 
-pub before-routes : (r : Bool) (rs behind : List (List ℕ)) → Each (λ q. 0 < length q) rs → (r || isEmpty rs) ≡ true → cond r (beforeEmpty (stack r rs ++ behind)) [] ≡ rs
+pub before-routes : (r : Bool) (rs behind : List (List ℕ)) → Each (λ q. 0 < length q) rs → (r || isEmpty rs) ≡ true → cond r (beforeEmpty (groupIf r rs ++ behind)) [] ≡ rs
 before-routes true rs behind h e = rw append-assoc (before-empty rs behind h)
 before-routes false [] behind h e = refl
 before-routes false (q ∷ rs) behind h e = absurd (true-false (sym e))
@@ -79,10 +76,10 @@ behind-all false true (x ∷ y ∷ qs) e = absurd (omega arith)
 behind-all false false [] e = refl
 behind-all false false (x ∷ qs) e = absurd (omega arith)
 
-stack-all : (r : Bool) (ps : List (List ℕ)) → length (cond r (beforeEmpty ps) []) + one r ≤ length ps →
-    stack r (beforeEmpty ps) ++ drop (length (cond r (beforeEmpty ps) []) + one r) ps ≡ ps
-stack-all true ps h = rw (append-assoc, add-one) (before-split ps (omega arith))
-stack-all false ps h = refl
+group-all : (r : Bool) (ps : List (List ℕ)) → length (cond r (beforeEmpty ps) []) + one r ≤ length ps →
+    groupIf r (beforeEmpty ps) ++ drop (length (cond r (beforeEmpty ps) []) + one r) ps ≡ ps
+group-all true ps h = rw (append-assoc, add-one) (before-split ps (omega arith))
+group-all false ps h = refl
 
 pub before-all : (r t p : Bool) (ps : List (List ℕ)) (k : ℕ) → k ≡ length (cond r (beforeEmpty ps) []) + one r → length ps ≡ k + one t + one p →
     before r t p (beforeEmpty ps) (getD ps k []) (getD ps (k + one t) []) ≡ ps
@@ -90,7 +87,7 @@ before-all r t p ps k place long =
     let topic : getD (drop k ps) 0 [] ≡ getD ps k [] = getD-drop k ps 0 [] ∙ ap (λ (n : ℕ). getD ps n []) (add-zero k) in
     let payload : getD (drop k ps) (one t) [] ≡ getD ps (k + one t) [] = getD-drop k ps (one t) [] in
     let left : length (drop k ps) ≡ one t + one p = simp length-drop (omega arith) in
-    rw (← topic, ← payload, behind-all t p (drop k ps) left, place) (stack-all r ps (omega arith))
+    rw (← topic, ← payload, behind-all t p (drop k ps) left, place) (group-all r ps (omega arith))
 
 -- ---- a part that is kept only where its flag is set
 
@@ -103,9 +100,9 @@ pub kept-given : {A : Type 0} (flag : Bool) (q : List A) → (flag || isEmpty (c
 kept-given true q = refl
 kept-given false q = refl
 
-kept-stack : (r : Bool) (rs : List (List ℕ)) → stack r (cond r rs []) ≡ stack r rs
-kept-stack true rs = refl
-kept-stack false rs = refl
+pub kept-group : (r : Bool) (rs : List (List ℕ)) → groupIf r (cond r rs []) ≡ groupIf r rs
+kept-group true rs = refl
+kept-group false rs = refl
 
 kept-part : (flag : Bool) (p q : List ℕ) → (flag ≡ true → q ≡ p) → partIf flag q ≡ partIf flag p
 kept-part true p q same = ap (λ (x : List ℕ). x ∷ []) (same refl)
@@ -116,4 +113,4 @@ pub before-kept : (r t p : Bool) (rs : List (List ℕ)) (topic shown payload : L
     before r t p (cond r rs []) shown (cond p payload []) ≡ before r t p rs topic payload
 before-kept r t p rs topic shown payload same =
     let paid : partIf p (cond p payload []) ≡ partIf p payload = kept-part p payload _ (λ e. rw e) in
-    rw (kept-stack r rs, kept-part t topic shown same, paid)
+    rw (kept-group r rs, kept-part t topic shown same, paid)

@@ -25,11 +25,23 @@ joined (p ∷ ps) = partBytes p ++ joined ps
 abbrev pub partIf : Bool → List ℕ → List (List ℕ)
 partIf flag p = cond flag (p ∷ []) []
 
+-- the routing group, which is there where its flag is set: "routes (top of the stack first), an empty delimiter"
+abbrev pub groupIf : Bool → List (List ℕ) → List (List ℕ)
+groupIf flag routes = cond flag (routes ++ ([] ∷ [])) []
+
+-- the parts in front of the topic, the topic's with its zero byte, and the payload's
+abbrev pub routing : Message → List (List ℕ)
+routing m = groupIf (hasRoute (m .header .flags)) (m .routes)
+
+abbrev pub topicPart : Message → List (List ℕ)
+topicPart m = partIf (hasTopic (m .header .flags)) (m .topic ++ (0 ∷ []))
+
+abbrev pub payloadPart : Message → List (List ℕ)
+payloadPart m = partIf (hasPayload (m .header .flags)) (m .payload)
+
 -- "Parts in order: routes (top of the stack first), an empty delimiter, topic, payload, header."
 unfoldable pub partsOf : Message → List (List ℕ)
-partsOf m =
-    let flags = m .header .flags in
-    cond (hasRoute flags) (m .routes) [] ++ (partIf (hasRoute flags) [] ++ (partIf (hasTopic flags) (m .topic ++ (0 ∷ [])) ++ (partIf (hasPayload flags) (m .payload) ++ (headerBytes (m .header) ∷ []))))
+partsOf m = routing m ++ (topicPart m ++ (payloadPart m ++ (headerBytes (m .header) ∷ [])))
 
 -- "FF EE 00 12"
 abbrev pub frameStart : List ℕ

@@ -51,6 +51,10 @@ cutRoutes zero xs = []
 cutRoutes (suc k) [] = []
 cutRoutes (suc k) (x ∷ xs) = take 37 (x ∷ xs) ∷ cutRoutes k (drop 37 (x ∷ xs))
 
+-- all of them, cut
+abbrev pub cut : List ℕ → List (List ℕ)
+cut routes = cutRoutes (length routes) routes
+
 -- the message that the writer is given
 unfoldable pub givenMessage : Header → List ℕ → List ℕ → List ℕ → Message
-givenMessage h routes topic payload = record { header = h; routes = cutRoutes (length routes) routes; topic = topic; payload = payload }
+givenMessage h routes topic payload = record { header = h; routes = cut routes; topic = topic; payload = payload }

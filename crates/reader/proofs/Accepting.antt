@@ -14,19 +14,20 @@ use Rattle.message.specs.Answer.{answered}
 use Rattle.form.specs.Count.{one}
 use Rattle.message.specs.Header.{hasTopic, hasPayload, hasRoute, fieldsGood}
 use Rattle.message.specs.Message.{Message}
-use Rattle.message.specs.Frame.{sizeBytes, partBytes, joined, partIf, bodyOf, frameOf, partsOf}
+use Rattle.message.specs.Frame.{sizeBytes, partBytes, joined, partIf, routing, topicPart, bodyOf, frameOf, partsOf}
 use Rattle.message.specs.Writing.{isEmpty}
-use Rattle.message.specs.Reading.{front, final, routesIn, isTopicPart, messageIn, judgedAs, judged}
+use Rattle.message.specs.Reading.{front, final, beforeEmpty, routesIn, isTopicPart, messageIn, judgedAs, judged}
 use Rattle.message.proofs.Answers.{and-not}
 use Rattle.message.proofs.Lists.{bytes-part}
 use Rattle.message.proofs.Forms.{topic-parted}
 use Rattle.message.proofs.Parts.{split, joined-append}
 use Rattle.message.proofs.Messages.{held}
+use Rattle.message.proofs.Places.{kept-group}
 use Rattle.reader.specs.declared.judge.Piece.{Piece}
-use Rattle.reader.specs.Places.{dataAt, routing, topicPart, placesOf}
+use Rattle.reader.specs.Places.{dataAt, placesOf}
 use Rattle.reader.specs.Judging.{partsFound, Found, pieceAt, pieceIf, firstRoute, Within, topicWrong, Placeable, placedAs, Sorted}
 use Rattle.reader.proofs.Cursors.{At, at-found, at-parts, at-some, at-next, at-data, at-if}
-use Rattle.reader.proofs.Sorting.{judged-message, stack-joined, found, topicData, payloadData, behindTopic, topic-at}
+use Rattle.reader.proofs.Sorting.{judged-message, group-joined, found, topicData, payloadData, behindTopic, topic-at}
 
 -- ---- a part that is there if its flag is set
 
@@ -96,10 +97,6 @@ module _ (body : List ℕ) (at : ℕ) (flag : Bool) (q : List ℕ) (qs : List (L
 empty-count : {A : Type 0} (xs : List A) → isEmpty xs ≡ eqb (length xs) 0
 empty-count [] = refl
 empty-count (x ∷ xs) = sym (eqb·suc-zero (length xs))
-
-kept-once : {A : Type 0} (flag : Bool) (xs : List A) → cond flag (cond flag xs []) [] ≡ cond flag xs []
-kept-once true xs = refl
-kept-once false xs = refl
 
 part-same : (flag : Bool) (p q : List ℕ) → (flag ≡ true → p ≡ q) → partIf flag p ≡ partIf flag q
 part-same true p q e = rw (e refl)
@@ -198,14 +195,14 @@ module _ (body : List ℕ) (h : Header) (routes : ℕ) (s : Sorted body h routes
       m = messageIn h (front (partsFound body))
 
       routing-long : length (joined (routing m)) ≡ at
-      unfolding routing messageIn routesIn
+      unfolding messageIn routesIn
       routing-long =
-          let rs = routesIn h (front (partsFound body)) in
-          ap (λ (qs : List (List ℕ)). length (joined (qs ++ partIf (hasRoute (h .flags)) []))) (kept-once (hasRoute (h .flags)) _)
-          ∙ omega (arith, stack-joined rs (hasRoute (h .flags)) (s .good), s .count)
+          let rs = beforeEmpty (front (partsFound body)) in
+          ap (λ (qs : List (List ℕ)). length (joined qs)) (kept-group (hasRoute (h .flags)) rs)
+          ∙ omega (arith, group-joined (hasRoute (h .flags)) rs (s .good), s .count)
 
       topic-part-is : topicPart m ≡ partIf (hasTopic (h .flags)) topicIs
-      unfolding topicPart messageIn
+      unfolding messageIn
       topic-part-is = part-same (hasTopic (h .flags)) _ topicIs (topic-again (hasTopic (h .flags)) topicIs good)
 
       topic-long-at : length (joined (routing m ++ topicPart m)) ≡ topic .next

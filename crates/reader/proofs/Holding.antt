@@ -13,7 +13,7 @@ use Rattle.octets.specs.Number.{Bytes}
 use Rattle.message.specs.Answer.{answered}
 use Rattle.message.specs.Header.{hasTopic, hasPayload, hasRoute, headerBytes}
 use Rattle.message.specs.Message.{Message}
-use Rattle.message.specs.Frame.{sizeBytes, partBytes, joined, partIf, partsOf, bodyOf, frameOf}
+use Rattle.message.specs.Frame.{sizeBytes, partBytes, joined, routing, topicPart, payloadPart, partsOf, bodyOf, frameOf}
 use Rattle.message.specs.Reading.{readingOf}
 use Rattle.message.specs.Writing.{isEmpty}
 use Rattle.message.proofs.Lists.{Each}
@@ -21,7 +21,7 @@ use Rattle.message.proofs.Forms.{routes-each}
 use Rattle.message.proofs.Messages.{written, given-fit}
 use Rattle.reader.proofs.Sorting.{routes-joined}
 use Rattle.message.proofs.RoundTrip.{WrittenBack, write-back}
-use Rattle.reader.specs.Places.{dataAt, routing, topicPart, placesOf}
+use Rattle.reader.specs.Places.{dataAt, placesOf}
 use Rattle.reader.proofs.Cursors.{at-behind, at-data}
 
 -- a stretch of the bytes
@@ -86,7 +86,7 @@ module _ (b : List ℕ) (m : Message) (bytes : Bytes b) (e : readingOf b ≡ ans
       ∙ ap (take (length p)) (behind-start at) ∙ in-body (bodyOf m) before p behind body
 
   parts-payload : hasPayload (m .header .flags) ≡ true → partsOf m ≡ (routing m ++ topicPart m) ++ m .payload ∷ headerBytes (m .header) ∷ []
-  unfolding partsOf routing topicPart
+  unfolding partsOf
   parts-payload set = rw set (simp append-assoc)
 
   pub payload-held : hasPayload (m .header .flags) ≡ true → stretch b (placesOf m .payload .start) (placesOf m .payload .len) ≡ m .payload
@@ -98,11 +98,11 @@ module _ (b : List ℕ) (m : Message) (bytes : Bytes b) (e : readingOf b ≡ ans
   ended = m .topic ++ (0 ∷ [])
 
   abbrev behindTopic : List (List ℕ)
-  behindTopic = partIf (hasPayload (m .header .flags)) (m .payload) ++ (headerBytes (m .header) ∷ [])
+  behindTopic = payloadPart m ++ (headerBytes (m .header) ∷ [])
 
   parts-topic : hasTopic (m .header .flags) ≡ true → partsOf m ≡ routing m ++ ended ∷ behindTopic
-  unfolding partsOf routing
-  parts-topic set = rw set (simp append-assoc)
+  unfolding partsOf
+  parts-topic set = rw set
 
   pub topic-held : hasTopic (m .header .flags) ≡ true → stretch b (placesOf m .topic .start) (placesOf m .topic .len) ≡ m .topic
   unfolding placesOf
@@ -113,9 +113,9 @@ module _ (b : List ℕ) (m : Message) (bytes : Bytes b) (e : readingOf b ≡ ans
       ∙ ap (take (length (m .topic))) (data-held (routing m) ended behindTopic (parts-topic set))
       ∙ take-at (m .topic) (0 ∷ []) (length (m .topic)) refl)
 
-  parts-route : hasRoute (m .header .flags) ≡ true → partsOf m ≡ m .routes ++ (partIf true [] ++ (partIf (hasTopic (m .header .flags)) ended ++ behindTopic))
+  parts-route : hasRoute (m .header .flags) ≡ true → partsOf m ≡ m .routes ++ ([] ∷ (topicPart m ++ behindTopic))
   unfolding partsOf
-  parts-route set = rw set
+  parts-route set = rw set (simp append-assoc)
 
   -- the routes lie 38 bytes apart, the first at 9
   pub route-held : (i : ℕ) → i < length (m .routes) → stretch b (9 + 38 * i) 37 ≡ getD (m .routes) i []
@@ -130,7 +130,7 @@ module _ (b : List ℕ) (m : Message) (bytes : Bytes b) (e : readingOf b ≡ ans
       let joins : length (joined front) ≡ 38 * i = routes-joined front (each-take rs i each) ∙ ap (λ (n : ℕ). 38 * n) (length-take-le i rs (omega arith)) in
       let size : length (sizeBytes (length r)) ≡ 1 = rw long in
       let start : dataAt front r ≡ 9 + 38 * i = omega (arith, joins, size) in
-      let behind = drop (suc i) rs ++ (partIf true [] ++ (partIf (hasTopic (m .header .flags)) ended ++ behindTopic)) in
+      let behind = drop (suc i) rs ++ ([] ∷ (topicPart m ++ behindTopic)) in
       let set = has-route (hasRoute (m .header .flags)) rs (given-fit m (passes .given) .routes) (omega arith) in
       ap (λ (n : ℕ). stretch b (9 + 38 * i) n) (sym long) ∙ ap (λ (n : ℕ). stretch b n (length r)) (sym start)
-      ∙ data-held front r behind (parts-route set ∙ ap (λ (l : List (List ℕ)). l ++ (partIf true [] ++ (partIf (hasTopic (m .header .flags)) ended ++ behindTopic))) cut ∙ simp append-assoc)
+      ∙ data-held front r behind (parts-route set ∙ ap (λ (l : List (List ℕ)). l ++ ([] ∷ (topicPart m ++ behindTopic))) cut ∙ simp append-assoc)

@@ -1,7 +1,7 @@
 -- A body whose parts are as many as its header asks for: which of them is what, and where it begins.
 -- Assumes nothing.
 use mathlib.Core.Path.{_≡_, refl, sym, ap, _∙_, subst}
-use mathlib.Core.Bool.{Bool, true, false, not, _&&_}
+use mathlib.Core.Bool.{Bool, true, false, cond, not, _&&_}
 use Prim.Native.Nat.{ℕ, suc, _+_, _*_, _<_, _≤_}
 use mathlib.Core.List.{List, [], _∷_, _++_, append-assoc}
 use native.Mathlib.Omega.{arith}
@@ -12,10 +12,10 @@ use Rattle.message.specs.declared.Header.{Header}
 use Rattle.message.specs.declared.Refusal.the-variants.{WrongParts, WrongRoute, WrongTopic, WrongField}
 use Rattle.message.specs.Answer.{refused, answered}
 use Rattle.message.specs.Header.{hasTopic, hasPayload, hasRoute, partsFit, fieldsGood}
-use Rattle.message.specs.Frame.{partBytes, joined, partIf}
+use Rattle.message.specs.Frame.{partBytes, joined, partIf, groupIf}
 use Rattle.message.specs.Writing.{routesGood}
 use Rattle.form.specs.Count.{one}
-use Rattle.message.specs.Reading.{front, final, routesIn, topicPlace, payloadPlace, partsAgree, isTopicPart, messageIn, judgedAs}
+use Rattle.message.specs.Reading.{front, final, beforeEmpty, routesIn, topicPlace, payloadPlace, partsAgree, isTopicPart, messageIn, judgedAs}
 use Rattle.message.proofs.Answers.{and-right}
 use Rattle.message.proofs.Lists.{Each, front-final}
 use Rattle.message.proofs.Headers.{header-tested}
@@ -59,13 +59,11 @@ routes-joined (r ∷ rs) h =
     let size : length (partBytes r) ≡ 38 = ap length (part-short r (omega (arith, h .0))) ∙ ap suc (h .0) in
     omega (arith, length-append (partBytes r) (joined rs), size, routes-joined rs (h .1))
 
-delimiter-joined : (flag : Bool) → length (joined (partIf flag [])) ≡ one flag
-delimiter-joined true = refl
-delimiter-joined false = refl
-
-pub stack-joined : (rs : List (List ℕ)) (flag : Bool) → routesGood rs ≡ true → length (joined (rs ++ partIf flag [])) ≡ 38 * length rs + one flag
-stack-joined rs flag good =
-    omega (arith, ap length (joined-append rs (partIf flag [])), length-append (joined rs) (joined (partIf flag [])), routes-joined rs (routes-each rs good), delimiter-joined flag)
+-- so does the routing group, with one byte more for its delimiter
+pub group-joined : (flag : Bool) (rs : List (List ℕ)) → routesGood (cond flag rs []) ≡ true → length (joined (groupIf flag rs)) ≡ 38 * length (cond flag rs []) + one flag
+group-joined true rs good =
+    omega (arith, ap length (joined-append rs ([] ∷ [])), length-append (joined rs) (joined ([] ∷ [])), routes-joined rs (routes-each rs good))
+group-joined false rs good = refl
 
 -- ---- the parts
 
@@ -93,13 +91,16 @@ module _ (body : List ℕ) (h : Header) (routes : ℕ) (s : Sorted body h routes
       go [] e = absurd (omega arith)
       go (p ∷ ps) e = omega arith
 
-  fore-parts : (routesIn h fore ++ partIf (hasRoute (h .flags)) []) ++ (partIf (hasTopic (h .flags)) topicData ++ partIf (hasPayload (h .flags)) payloadData) ≡ fore
+  abbrev group : List (List ℕ)
+  group = groupIf (hasRoute (h .flags)) (beforeEmpty fore)
+
+  fore-parts : group ++ (partIf (hasTopic (h .flags)) topicData ++ partIf (hasPayload (h .flags)) payloadData) ≡ fore
   unfolding partsAgree payloadPlace topicPlace routesIn
   fore-parts =
       before-all (hasRoute (h .flags)) (hasTopic (h .flags)) (hasPayload (h .flags)) fore (topicPlace h fore) refl
       (eqb-true (length fore) (payloadPlace h fore + one (hasPayload (h .flags))) (and-right (partsFit h) _ (s .agree)))
 
-  all-parts : found ≡ (routesIn h fore ++ partIf (hasRoute (h .flags)) []) ++ (partIf (hasTopic (h .flags)) topicData ++ behindTopic)
+  all-parts : found ≡ group ++ (partIf (hasTopic (h .flags)) topicData ++ behindTopic)
   all-parts =
       sym (front-final [] found some-parts) ∙ ap (λ (ps : List (List ℕ)). ps ++ (final [] found ∷ [])) (sym fore-parts)
       ∙ simp append-assoc
@@ -112,9 +113,8 @@ module _ (body : List ℕ) (h : Header) (routes : ℕ) (s : Sorted body h routes
 
   -- where the topic begins, if there is one
   pub topic-at : (at : ℕ) → at ≡ 38 * routes + one (hasRoute (h .flags)) → At body at (partIf (hasTopic (h .flags)) topicData ++ behindTopic)
+  unfolding routesIn
   topic-at at e =
-      let rs = routesIn h fore in
-      let flag = hasRoute (h .flags) in
-      let place : length (joined (rs ++ partIf flag [])) ≡ at = omega (arith, stack-joined rs flag (s .good), s .count) in
+      let place : length (joined group) ≡ at = omega (arith, group-joined (hasRoute (h .flags)) (beforeEmpty fore) (s .good), s .count) in
       subst (λ (n : ℕ). At body n (partIf (hasTopic (h .flags)) topicData ++ behindTopic)) place
-      (at-behind body (rs ++ partIf flag []) (partIf (hasTopic (h .flags)) topicData ++ behindTopic) (body-parts ∙ ap joined all-parts))
+      (at-behind body group (partIf (hasTopic (h .flags)) topicData ++ behindTopic) (body-parts ∙ ap joined all-parts))

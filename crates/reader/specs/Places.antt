@@ -4,9 +4,9 @@ use mathlib.Core.Bool.{Bool, cond}
 use mathlib.Core.List.{List, [], _∷_, _++_}
 use lib.ListN.{length}
 use Rattle.message.specs.Answer.{Answer, refused, answered}
-use Rattle.message.specs.Header.{hasTopic, hasPayload, hasRoute, headerIn, isHeader}
+use Rattle.message.specs.Header.{hasTopic, hasPayload, headerIn, isHeader}
 use Rattle.message.specs.Message.{Message}
-use Rattle.message.specs.Frame.{sizeBytes, joined, partIf, frameOf}
+use Rattle.message.specs.Frame.{sizeBytes, joined, routing, topicPart, frameOf}
 use Rattle.message.specs.Writing.{isEmpty}
 use Rattle.reader.specs.declared.Stretch.{Stretch}
 use Rattle.reader.specs.declared.Frame.{Frame}
@@ -22,13 +22,6 @@ dataAt before p = 8 + length (joined before) + length (sizeBytes (length p))
 -- a part's data where its flag is set, as many bytes as are shown of it
 abbrev pub stretchIf : Bool → ℕ → ℕ → Stretch
 stretchIf flag start len = record { start = cond flag start 0; len = len }
-
--- the parts in front of the topic, and in front of the payload
-unfoldable pub routing : Message → List (List ℕ)
-routing m = cond (hasRoute (m .header .flags)) (m .routes) [] ++ partIf (hasRoute (m .header .flags)) []
-
-unfoldable pub topicPart : Message → List (List ℕ)
-topicPart m = partIf (hasTopic (m .header .flags)) (m .topic ++ (0 ∷ []))
 
 -- "the answer says how many bytes the frame took", and where each part lies; the topic is shown without its zero byte
 unfoldable pub placesOf : Message → Frame

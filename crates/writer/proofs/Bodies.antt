@@ -10,9 +10,8 @@ use Rattle.octets.specs.Number.{four}
 use Rattle.message.specs.declared.Header.{Header}
 use Rattle.message.specs.Header.{hasTopic, hasPayload, hasRoute, headerBytes}
 use Rattle.message.specs.Message.{Message}
-use Rattle.message.specs.Frame.{partBytes, joined, partIf, bodyOf, frameOf}
-use Rattle.message.specs.Writing.{givenMessage}
-use Rattle.draft.specs.Parts.{groupOf}
+use Rattle.message.specs.Frame.{partBytes, joined, partIf, groupIf, bodyOf, frameOf}
+use Rattle.message.specs.Writing.{cut, givenMessage}
 use Rattle.draft.proofs.Bodies.{body-parts, frame-length}
 
 -- bytes that fit with others behind them fit
@@ -25,17 +24,17 @@ pub record Room (h : Header) (routes topic payload : List ℕ) (n : ℕ) : Type 
 
 -- and so for the parts up to each of them; r, t and p say which flags are set
 module _ {h : Header} {routes topic payload : List ℕ} {n : ℕ} (room : Room h routes topic payload n) {r t p : Bool} (er : r ≡ hasRoute (h .flags)) (et : t ≡ hasTopic (h .flags)) (ep : p ≡ hasPayload (h .flags)) where
-  pub header-fits : length (joined (groupOf r routes) ++ joined (partIf t (topic ++ (0 ∷ []))) ++ joined (partIf p payload) ++ partBytes (headerBytes h)) ≤ n
+  pub header-fits : length (joined (groupIf r (cut routes)) ++ joined (partIf t (topic ++ (0 ∷ []))) ++ joined (partIf p payload) ++ partBytes (headerBytes h)) ≤ n
   header-fits = rw (body-parts h routes topic payload er et ep) at (room .body)
 
-  pub payload-fits : length (joined (groupOf r routes) ++ joined (partIf t (topic ++ (0 ∷ []))) ++ joined (partIf p payload)) ≤ n
-  payload-fits = front-fits (joined (groupOf r routes) ++ joined (partIf t (topic ++ (0 ∷ []))) ++ joined (partIf p payload)) (partBytes (headerBytes h)) header-fits
+  pub payload-fits : length (joined (groupIf r (cut routes)) ++ joined (partIf t (topic ++ (0 ∷ []))) ++ joined (partIf p payload)) ≤ n
+  payload-fits = front-fits (joined (groupIf r (cut routes)) ++ joined (partIf t (topic ++ (0 ∷ []))) ++ joined (partIf p payload)) (partBytes (headerBytes h)) header-fits
 
-  pub topic-fits : length (joined (groupOf r routes) ++ joined (partIf t (topic ++ (0 ∷ [])))) ≤ n
-  topic-fits = front-fits (joined (groupOf r routes) ++ joined (partIf t (topic ++ (0 ∷ [])))) (joined (partIf p payload)) payload-fits
+  pub topic-fits : length (joined (groupIf r (cut routes)) ++ joined (partIf t (topic ++ (0 ∷ [])))) ≤ n
+  topic-fits = front-fits (joined (groupIf r (cut routes)) ++ joined (partIf t (topic ++ (0 ∷ [])))) (joined (partIf p payload)) payload-fits
 
-  pub group-fits : length (joined (groupOf r routes)) ≤ n
-  group-fits = front-fits (joined (groupOf r routes)) (joined (partIf t (topic ++ (0 ∷ [])))) topic-fits
+  pub group-fits : length (joined (groupIf r (cut routes))) ≤ n
+  group-fits = front-fits (joined (groupIf r (cut routes))) (joined (partIf t (topic ++ (0 ∷ [])))) topic-fits
 
 -- its four bytes FF EE 00 12 are those of one number
 pub frame-bytes : (m : Message) (n : ℕ) → n ≡ length (frameOf m) → four 4293787666 ++ four (n - 8) ++ bodyOf m ≡ frameOf m

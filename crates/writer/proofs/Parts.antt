@@ -7,9 +7,9 @@ use mathlib.Core.List.{List, [], _∷_, _++_, append-nil, append-assoc}
 use native.Mathlib.Omega.{arith}
 use lib.ListN.{length, take, drop, length-append, length-drop}
 use lib.Seq.{drop-drop}
-use Rattle.message.specs.Frame.{sizeBytes, partBytes, joined, partIf}
-use Rattle.draft.specs.Parts.{groupOf}
-use Rattle.draft.proofs.Cuts.{cut, cut-more}
+use Rattle.message.specs.Frame.{sizeBytes, partBytes, joined, partIf, groupIf}
+use Rattle.message.specs.Writing.{cut}
+use Rattle.draft.proofs.Cuts.{cut-more}
 use Rattle.message.proofs.Parts.{joined-append}
 
 -- the parts from the route at i on
@@ -24,5 +24,5 @@ module _ {given : Bool} where
   pub topic-part : (topic : List ℕ) → given ≡ true → joined (partIf given (topic ++ (0 ∷ []))) ≡ sizeBytes (length topic + 1) ++ topic ++ (0 ∷ [])
   topic-part topic e = one-part (topic ++ (0 ∷ [])) e ∙ rw (length-append topic (0 ∷ []), append-assoc)
 
-  pub group-parts : (routes : List ℕ) → given ≡ true → joined (groupOf given routes) ≡ joined (cut routes) ++ (0 ∷ [])
+  pub group-parts : (routes : List ℕ) → given ≡ true → joined (groupIf given (cut routes)) ≡ joined (cut routes) ++ (0 ∷ [])
   group-parts routes e = rw (e, joined-append)

@@ -6,10 +6,9 @@ ghost use Prim.Native.Nat.{_≤_, _%_};
 ghost use lib.ListN.{length};
 ghost use Rattle.octets.specs.Number.{four};
 ghost use Rattle.message.specs.Header.{headerBytes};
-ghost use Rattle.message.specs.Frame.{sizeBytes, partBytes, joined, partIf};
-ghost use Rattle.message.specs.Writing.{cutRoutes};
+ghost use Rattle.message.specs.Frame.{sizeBytes, partBytes, joined, partIf, groupIf};
+ghost use Rattle.message.specs.Writing.{cut};
 ghost use Rattle.octets.specs.Lays.{Lays};
-ghost use Rattle.draft.specs.Parts.{groupOf};
 use message::Header;
 
 // The size in front of a part: one byte up to 254, else 255 and four bytes.
@@ -40,8 +39,8 @@ fn write_part(out: &mut [u8], data: &[u8]) -> usize
 // The routes, a part for each 37 bytes.
 fn write_routes(out: &mut [u8], routes: &[u8]) -> usize
     requires { ⌜ length (now routes) % 37 ≡ 0 ⌝ }
-    requires { ⌜ length (joined (cutRoutes (length (now routes)) (now routes))) ≤ length (now out) ⌝ }
-    ensures { λ r. ⌜ Lays (joined (cutRoutes (length (now (routes .entry))) (now (routes .entry)))) (now (out .entry)) (now (out .exit)) r ⌝ }
+    requires { ⌜ length (joined (cut (now routes))) ≤ length (now out) ⌝ }
+    ensures { λ r. ⌜ Lays (joined (cut (now (routes .entry)))) (now (out .entry)) (now (out .exit)) r ⌝ }
 {
     let mut at = 0;
     let mut i = 0;
@@ -55,8 +54,8 @@ fn write_routes(out: &mut [u8], routes: &[u8]) -> usize
 // The routing group, where there is one: the routes, and the delimiter, which is a part with no data.
 pub(crate) fn write_group(out: &mut [u8], given: bool, routes: &[u8]) -> usize
     requires { ⌜ length (now routes) % 37 ≡ 0 ⌝ }
-    requires { ⌜ length (joined (groupOf given (now routes))) ≤ length (now out) ⌝ }
-    ensures { λ r. ⌜ Lays (joined (groupOf given (now (routes .entry)))) (now (out .entry)) (now (out .exit)) r ⌝ }
+    requires { ⌜ length (joined (groupIf given (cut (now routes)))) ≤ length (now out) ⌝ }
+    ensures { λ r. ⌜ Lays (joined (groupIf given (cut (now (routes .entry))))) (now (out .entry)) (now (out .exit)) r ⌝ }
 {
     if given {
         let at = write_routes(out, routes);

@@ -6,8 +6,8 @@ use mathlib.Core.List.{[]}
 use Prim.Native.Nat.{_-_, _%_, _≤_}
 use lib.ListN.{length, drop, drop-of-length-le}
 use borrow.Author.Tests.{not-true, not-false}
-use Rattle.message.specs.Writing.{allRoutes}
-use Rattle.draft.proofs.Cuts.{cut, all-next, routes-few, routes-many, routes-uneven}
+use Rattle.message.specs.Writing.{allRoutes, cut}
+use Rattle.draft.proofs.Cuts.{all-next, routes-few, routes-many, routes-uneven}
 use Rattle.draft.proofs.agree.routes_good.Statement.{statement}
 use Rattle.draft.proofs.agree.routes_good.Tie as tie
 

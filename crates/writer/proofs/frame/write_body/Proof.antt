@@ -8,10 +8,10 @@ use Prim.Native.Nat.{ℕ, _+_, _-_, _≤_}
 use lib.ListN.{length}
 use borrow.Rule.Slice.PartMut.{putMid}
 use Rattle.message.specs.Header.{headerBytes}
-use Rattle.message.specs.Frame.{partBytes, joined, partIf}
+use Rattle.message.specs.Frame.{partBytes, joined, partIf, groupIf}
+use Rattle.message.specs.Writing.{cut}
 use Rattle.octets.specs.Lays.{Lays}
 use Rattle.octets.proofs.Laying.{lays-more, lays-length, lays-rest, lays-within}
-use Rattle.draft.specs.Parts.{groupOf}
 use Rattle.draft.proofs.Bodies.{body-parts}
 use Rattle.writer.proofs.Bodies.{Room, group-fits, topic-fits, payload-fits, header-fits}
 use Rattle.writer.proofs.frame.write_body.Statement.{statement}
@@ -30,7 +30,7 @@ module _ (c : tie.After-has-route) where
   start = c .before .before .before .before .before .before
 
   abbrev group : List ℕ
-  group = joined (groupOf (c .has-route .result) (start .args .routes .now))
+  group = joined (groupIf (c .has-route .result) (cut (start .args .routes .now)))
 
   group-room : length group ≤ length (start .args .out .now)
   group-room = group-fits (room start) (c .has-route .ensures) refl refl

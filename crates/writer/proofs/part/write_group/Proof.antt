@@ -6,9 +6,8 @@ use Prim.Native.Nat.{_≤_}
 use mathlib.Core.Path.{_≡_}
 use mathlib.Core.List.{[], _∷_, _++_}
 use lib.ListN.{length}
-use Rattle.message.specs.Frame.{joined}
-use Rattle.draft.specs.Parts.{groupOf}
-use Rattle.draft.proofs.Cuts.{cut}
+use Rattle.message.specs.Frame.{joined, groupIf}
+use Rattle.message.specs.Writing.{cut}
 use Rattle.writer.proofs.Parts.{group-parts}
 use Rattle.writer.proofs.Bodies.{front-fits}
 use Rattle.octets.proofs.Laying.{lays-more, lays-length, lays-within, lays-rest}
@@ -21,7 +20,7 @@ module _ (d : tie.After-write-routes) where
   abbrev start : tie.Start
   start = d .before .before .before .before .before
 
-  parts : joined (groupOf (start .args .given) (start .args .routes .now)) ≡ joined (cut (start .args .routes .now)) ++ (0 ∷ [])
+  parts : joined (groupIf (start .args .given) (cut (start .args .routes .now))) ≡ joined (cut (start .args .routes .now)) ++ (0 ∷ [])
   parts = group-parts (start .args .routes .now) (d .before .before .if1 .taken)
 
   room : length (joined (cut (start .args .routes .now)) ++ (0 ∷ [])) ≤ length (start .args .out .now)

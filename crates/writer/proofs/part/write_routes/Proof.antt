@@ -9,8 +9,9 @@ use native.Mathlib.Nat.{le-refl}
 use lib.ListN.{length, take, drop, length-append, drop-of-length-le}
 use borrow.Rule.Slice.PartMut.{midOf, putMid}
 use Rattle.message.specs.Frame.{partBytes, joined}
+use Rattle.message.specs.Writing.{cut}
 use Rattle.octets.specs.Lays.{Lays}
-use Rattle.draft.proofs.Cuts.{cut, route-width}
+use Rattle.draft.proofs.Cuts.{route-width}
 use Rattle.writer.proofs.Parts.{cut-next}
 use Rattle.octets.proofs.Laying.{lays-none, lays-more, lays-length, lays-rest}
 use Rattle.writer.proofs.part.write_routes.Statement.{statement}
