@@ -1,4 +1,5 @@
 -- Laws about this crate's definitions.
+pub mod Telling
 pub mod ReadCalls
 pub mod WriteCalls
 pub mod TreeCalls

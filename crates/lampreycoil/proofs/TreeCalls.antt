@@ -1,17 +1,15 @@
 -- The tree call: one law for each way that it ends.
 -- Assumes nothing.
-use mathlib.Core.Path.{_≡_, refl, sym, ap}
+use mathlib.Core.Path.{_≡_, sym, ap}
 use Prim.Native.Nat.{ℕ, _<_, _≤_}
 use mathlib.Core.List.{List, [], _∷_}
 use borrow.Author.Tests.{lt-ltb, le-ltb}
-use Rattle.octets.specs.Number.{rowBytes}
-use Rattle.octets.specs.Laid.{laid}
 use Rattle.message.specs.declared.Refusal.{Refusal}
 use Rattle.message.specs.declared.Refusal.the-variants.{ShortOutput}
 use Rattle.message.specs.Answer.{Answer, refused, answered}
 use Rattle.message.proofs.Answers.{not-answered, answered-same}
 use Rattle.tree.specs.Checking.{depthsInto, howMany}
-use Rattle.lampreycoil.specs.Calls.{returned, recorded, treeCall, wrote}
+use Rattle.lampreycoil.specs.Calls.{treeCall, wrote}
 
 module _ (tree : List ℕ) (room rowRoom : ℕ) where
   pub tree-short : rowRoom < 4 → treeCall tree room rowRoom ≡ refused ShortOutput
@@ -26,10 +24,6 @@ pub tree-refused : (a : Answer (List ℕ)) (r : Refusal) → refused r ≡ howMa
 tree-refused (refused q) r e = cc
 tree-refused (answered ds) r e = absurd (not-answered e)
 
-pub tree-returned : (a : Answer (List ℕ)) (n : ℕ) → answered n ≡ howMany a → 0 ≡ returned a
-tree-returned (refused q) n e = absurd (not-answered (sym e))
-tree-returned (answered ds) n e = refl
-
-pub tree-wrote : (a : Answer (List ℕ)) (n : ℕ) (row : List ℕ) → answered n ≡ howMany a → laid (rowBytes (n ∷ [])) row ≡ recorded (wrote a) row
-tree-wrote (refused q) n row e = absurd (not-answered (sym e))
-tree-wrote (answered ds) n row e = ap (λ (k : ℕ). laid (rowBytes (k ∷ [])) row) (answered-same e)
+pub tree-counted : (a : Answer (List ℕ)) (n : ℕ) → answered n ≡ howMany a → wrote a ≡ answered (n ∷ [])
+tree-counted (refused q) n e = absurd (not-answered (sym e))
+tree-counted (answered ds) n e = ap (λ (k : ℕ). answered (k ∷ [])) (sym (answered-same e))

@@ -1,5 +1,6 @@
 -- The C calls, as include/lampreycoil.h describes them: what each returns, and what it leaves in the slices that it was lent.
 -- Assumes nothing.
+use mathlib.Core.Path.{_≡_}
 use Prim.Native.Nat.{ℕ}
 use mathlib.Core.List.{List, [], _∷_}
 use lib.Dec.{ltb}
@@ -9,13 +10,15 @@ use Rattle.octets.specs.Laid.{laid}
 use Rattle.message.specs.declared.Header.{Header}
 use Rattle.message.specs.declared.Refusal.the-variants.{ShortOutput}
 use Rattle.message.specs.Refusals.{numberOf}
-use Rattle.message.specs.Answer.{Answer, refused, answered, refuseIf, andThen}
+use Rattle.message.specs.Answer.{Answer, refused, answered, refuseIf, andThen, writtenOver}
 use Rattle.message.specs.Message.{Message}
 use Rattle.message.specs.Reading.{readingOf}
 use Rattle.message.specs.Writing.{writingInto}
 use Rattle.tree.specs.Checking.{depthsInto}
 use Rattle.rows.specs.Rows.{readRow}
 use Rattle.reader.specs.Places.{placesOf}
+
+-- ---- what a call tells of its answer
 
 -- a call returns 0, or the number of its refusal
 abbrev pub returned : {A : Type 0} → Answer A → ℕ
@@ -27,22 +30,55 @@ abbrev pub recorded : Answer (List ℕ) → List ℕ → List ℕ
 recorded (refused r) row = row
 recorded (answered numbers) row = laid (rowBytes numbers) row
 
--- a record slice that is too short is refused with 11 before anything else: room is its length
+-- how many bytes were written: the frame's length, or how many depths
+abbrev pub wrote : Answer (List ℕ) → Answer (List ℕ)
+wrote bytes = andThen bytes (λ written. answered (length written ∷ []))
+
+-- a call that lists the numbers of its answer in `row`: it returns r, and leaves `row` as `listed`
+pub record Lists (answer : Answer (List ℕ)) (row : List ℕ) (r : ℕ) (listed : List ℕ) : Type 0 where
+  pub returns : r ≡ returned answer
+  pub lists : listed ≡ recorded answer row
+
+-- a call that lays the bytes of its answer over the front of `lent`, and lists in `row` how many they are
+pub record Fills (answer : Answer (List ℕ)) (lent row : List ℕ) (r : ℕ) (filled listed : List ℕ) : Type 0 where
+  pub returns : r ≡ returned answer
+  pub fills : filled ≡ writtenOver answer lent
+  pub lists : listed ≡ recorded (wrote answer) row
+
+-- ---- how long a record is: thirteen numbers of a read, and one that counts bytes
+
+abbrev pub readRecord : ℕ
+readRecord = 52
+
+abbrev pub countRecord : ℕ
+countRecord = 4
+
+-- ---- the calls; in each, "a record buffer" that is too short "gives 11 before anything else"
+
+-- where the message lies, or why there is none; rowRoom is the record slice's length
 unfoldable pub readCall : List ℕ → ℕ → Answer (List ℕ)
-readCall bytes room = refuseIf (ltb room 52) ShortOutput (andThen (readingOf bytes) (λ m. answered (readRow (placesOf m))))
+readCall bytes rowRoom = refuseIf (ltb rowRoom readRecord) ShortOutput (andThen (readingOf bytes) (λ m. answered (readRow (placesOf m))))
+
+-- lampreycoil_read
+abbrev pub Reads : List ℕ → List ℕ → ℕ → List ℕ → Type 0
+Reads bytes row r listed = Lists (readCall bytes (length row)) row r listed
 
 -- the header's fields, one by one
 abbrev pub headerOf : ℕ → ℕ → ℕ → ℕ → ℕ → ℕ → Header
 headerOf kind flags userid rolemask first second = record { kind = kind; flags = flags; userid = userid; rolemask = rolemask; first = first; second = second }
 
--- the frame, or why it is not written; the record has one number. room is the output's length
+-- the frame, or why it is not written; room is the output's length
 unfoldable pub writeCall : Message → ℕ → ℕ → Answer (List ℕ)
-writeCall m room rowRoom = refuseIf (ltb rowRoom 4) ShortOutput (writingInto room m)
+writeCall m room rowRoom = refuseIf (ltb rowRoom countRecord) ShortOutput (writingInto room m)
+
+-- lampreycoil_write, given the message m
+abbrev pub Writes : Message → List ℕ → List ℕ → ℕ → List ℕ → List ℕ → Type 0
+Writes m out row r filled listed = Fills (writeCall m (length out) (length row)) out row r filled listed
 
 -- the depths, or why they are not written; room is the lent buffer's length
 unfoldable pub treeCall : List ℕ → ℕ → ℕ → Answer (List ℕ)
-treeCall tree room rowRoom = refuseIf (ltb rowRoom 4) ShortOutput (depthsInto room tree)
+treeCall tree room rowRoom = refuseIf (ltb rowRoom countRecord) ShortOutput (depthsInto room tree)
 
--- how many bytes were written: the frame's length, or how many depths
-abbrev pub wrote : Answer (List ℕ) → Answer (List ℕ)
-wrote bytes = andThen bytes (λ written. answered (length written ∷ []))
+-- lampreycoil_check_tree
+abbrev pub ChecksTree : List ℕ → List ℕ → List ℕ → ℕ → List ℕ → List ℕ → Type 0
+ChecksTree tree depths row r filled listed = Fills (treeCall tree (length depths) (length row)) depths row r filled listed

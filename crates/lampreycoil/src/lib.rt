@@ -4,21 +4,22 @@ use draft::Written;
 use message::Header;
 use message::Refusal;
 use reader::Reading;
-ghost use mathlib.Core.Path.{_≡_};
-ghost use lib.ListN.{length};
-ghost use Rattle.lampreycoil.specs.Calls.{returned, recorded, readCall, headerOf, writeCall, wrote};
-ghost use Rattle.message.specs.Answer.{writtenOver};
+ghost use Rattle.lampreycoil.specs.Calls.{Reads, headerOf, Writes};
 ghost use Rattle.message.specs.Writing.{givenMessage};
 
 pub mod tables;
 
+// Bytes of a record: thirteen numbers of a read, and one that counts bytes.
+const READ_RECORD: usize = 52;
+
+const COUNT_RECORD: usize = 4;
+
 // Reads the frame at the front of bytes, and lists where its parts lie.
 #[no_mangle]
 pub extern "C" fn lampreycoil_read(bytes: &[u8], row: &mut [u8]) -> u32
-    ensures { λ r. ⌜ r ≡ returned (readCall (now (bytes .entry)) (length (now (row .entry)))) ⌝ }
-    ensures { λ _. ⌜ now (row .exit) ≡ recorded (readCall (now (bytes .entry)) (length (now (row .entry)))) (now (row .entry)) ⌝ }
+    ensures { λ r. ⌜ Reads (now (bytes .entry)) (now (row .entry)) r (now (row .exit)) ⌝ }
 {
-    if row.len() < 52 {
+    if row.len() < READ_RECORD {
         return message::number(Refusal::ShortOutput);
     }
     match reader::read(bytes) {
@@ -45,11 +46,9 @@ pub extern "C" fn lampreycoil_write(
     out: &mut [u8],
     row: &mut [u8],
 ) -> u32
-    ensures { λ r. ⌜ r ≡ returned (writeCall (givenMessage (headerOf kind flags userid rolemask first second) (now (routes .entry)) (now (topic .entry)) (now (payload .entry))) (length (now (out .entry))) (length (now (row .entry)))) ⌝ }
-    ensures { λ _. ⌜ now (out .exit) ≡ writtenOver (writeCall (givenMessage (headerOf kind flags userid rolemask first second) (now (routes .entry)) (now (topic .entry)) (now (payload .entry))) (length (now (out .entry))) (length (now (row .entry)))) (now (out .entry)) ⌝ }
-    ensures { λ _. ⌜ now (row .exit) ≡ recorded (wrote (writeCall (givenMessage (headerOf kind flags userid rolemask first second) (now (routes .entry)) (now (topic .entry)) (now (payload .entry))) (length (now (out .entry))) (length (now (row .entry))))) (now (row .entry)) ⌝ }
+    ensures { λ r. ⌜ Writes (givenMessage (headerOf kind flags userid rolemask first second) (now (routes .entry)) (now (topic .entry)) (now (payload .entry))) (now (out .entry)) (now (row .entry)) r (now (out .exit)) (now (row .exit)) ⌝ }
 {
-    if row.len() < 4 {
+    if row.len() < COUNT_RECORD {
         return message::number(Refusal::ShortOutput);
     }
     let header = Header {

@@ -1,22 +1,19 @@
 // The checks of the floor's tables.
+use crate::COUNT_RECORD;
 use message::Refusal;
 use tree::Checked;
 ghost use mathlib.Core.Path.{_≡_};
-ghost use lib.ListN.{length};
-ghost use Rattle.message.specs.Answer.{writtenOver};
 ghost use Rattle.tree.specs.Checking.{told};
 ghost use Rattle.services.specs.Services;
 ghost use Rattle.identities.specs.Identities;
-ghost use Rattle.lampreycoil.specs.Calls.{returned, recorded, treeCall, wrote};
+ghost use Rattle.lampreycoil.specs.Calls.{returned, ChecksTree};
 
 // Checks a tree, writes one depth byte a rank to the front of depths, and lists how many they are.
 #[no_mangle]
 pub extern "C" fn lampreycoil_check_tree(tree: &[u8], depths: &mut [u8], row: &mut [u8]) -> u32
-    ensures { λ r. ⌜ r ≡ returned (treeCall (now (tree .entry)) (length (now (depths .entry))) (length (now (row .entry)))) ⌝ }
-    ensures { λ _. ⌜ now (depths .exit) ≡ writtenOver (treeCall (now (tree .entry)) (length (now (depths .entry))) (length (now (row .entry)))) (now (depths .entry)) ⌝ }
-    ensures { λ _. ⌜ now (row .exit) ≡ recorded (wrote (treeCall (now (tree .entry)) (length (now (depths .entry))) (length (now (row .entry))))) (now (row .entry)) ⌝ }
+    ensures { λ r. ⌜ ChecksTree (now (tree .entry)) (now (depths .entry)) (now (row .entry)) r (now (depths .exit)) (now (row .exit)) ⌝ }
 {
-    if row.len() < 4 {
+    if row.len() < COUNT_RECORD {
         return message::number(Refusal::ShortOutput);
     }
     match tree::check_tree(tree, depths) {

@@ -1,26 +1,29 @@
 -- `lampreycoil::lampreycoil_read` meets its contract.
 -- Assumes nothing.
 use borrow.Author.Needs.{needs}
-use mathlib.Core.Path.{sym, ap, _∙_}
-use mathlib.Core.List.{List}
-use Prim.Native.Nat.{ℕ}
+use native.Mathlib.Omega.{arith}
+use mathlib.Core.Path.{sym, _∙_}
+use Prim.Native.Nat.{_≤_}
 use lib.ListN.{length}
+use Rattle.lampreycoil.proofs.Telling.{lists-refused, lists-answered}
 use Rattle.lampreycoil.proofs.ReadCalls.{read-short, read-refused, read-accepted}
-use Rattle.lampreycoil.specs.Calls.{returned, recorded}
-use Rattle.message.specs.Answer.{Answer}
-use Rattle.octets.specs.Number.{rowBytes}
-use Rattle.octets.proofs.Buffers.{laid-room}
-use Rattle.rows.specs.Rows.{readRow}
 use Rattle.lampreycoil.proofs.lampreycoil_read.Statement.{statement}
 use Rattle.lampreycoil.proofs.lampreycoil_read.Tie as tie
+
+-- the record has room, and the bytes are read
+module _ (d : tie.After-read) where
+  abbrev start : tie.Start
+  start = d .before .before .before .before
+
+  room : 52 ≤ length (start .args .row .now)
+  room = omega (arith, d .before .if1 .left)
 
 number-requires : tie.Need-number-requires
 number-requires c κs = search needs
 
 returns : tie.Need-returns
-returns c = let row = c .before .before .before .before .args .row .now in
-    let call = read-short (c .before .before .before .before .args .bytes .now) (length row) (c .before .if1 .taken) in
-    (c .number .ensures ∙ sym (ap returned call), sym (ap (λ (a : Answer (List ℕ)). recorded a row) call))
+returns c = let args = c .before .before .before .before .args in
+    lists-refused (read-short (args .bytes .now) (length (args .row .now)) (omega (arith, c .before .if1 .taken))) (c .number .ensures)
 
 read-requires : tie.Need-read-requires
 read-requires c κs = search needs
@@ -38,17 +41,20 @@ put-frame-requires : tie.Need-put-frame-requires
 put-frame-requires c κs = search needs
 
 returns-2 : tie.Need-returns-2
-returns-2 c = let row = c .before .before .before .before .before .before .before .before .args .row .now in
-    let call = read-refused (c .before .before .before .before .before .before .before .before .args .bytes .now) (length row) (c .before .before .before .before .before .if1 .left) (c .before .before .r .given .0 .0) (sym (c .before .before .r .given .1) ∙ c .before .before .before .before .read .ensures) in
-    (c .number2 .ensures ∙ sym (ap returned call), sym (ap (λ (a : Answer (List ℕ)). recorded a row) call))
+returns-2 c = let d = c .before .before .before .before in
+    let r = c .before .before .r .given in
+    let args = start d .args in
+    lists-refused (read-refused (args .bytes .now) (length (args .row .now)) (room d) (r .0 .0) (sym (r .1) ∙ d .read .ensures)) (c .number2 .ensures)
 
 same-length : tie.Need-same-length
 same-length c = search needs
 
 returns-3 : tie.Need-returns-3
-returns-3 c = let row = c .before .before .before .before .before .before .before .before .before .before .before .args .row .now in
-    let call = read-accepted (c .before .before .before .before .before .before .before .before .before .before .before .args .bytes .now) (length row) (c .before .before .before .before .before .before .before .before .if1 .left) (c .before .before .before .before .before .f .given .0 .0) (sym (c .before .before .before .before .before .f .given .1) ∙ c .before .before .before .before .before .before .before .read .ensures) in
-    (sym (ap returned call), c .before .before .put-frame .ensures ∙ laid-room (rowBytes (readRow (c .before .before .before .before .before .f .given .0 .0))) row (c .before .before .before .before .before .before .before .before .if1 .left) ∙ sym (ap (λ (a : Answer (List ℕ)). recorded a row) call))
+returns-3 c = let d = c .before .before .before .before .before .before .before in
+    let f = c .before .before .before .before .before .f .given in
+    let args = start d .args in
+    let accepted = read-accepted (args .bytes .now) (length (args .row .now)) (room d) (f .0 .0) (sym (f .1) ∙ d .read .ensures) in
+    lists-answered accepted (room d) (c .before .before .put-frame .ensures)
 
 pub lampreycoil-read-spec : {M : Type 1} → statement M
 lampreycoil-read-spec =

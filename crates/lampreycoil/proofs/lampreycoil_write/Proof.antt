@@ -1,29 +1,42 @@
 -- `lampreycoil::lampreycoil_write` meets its contract.
 -- Assumes nothing.
 use borrow.Author.Needs.{needs}
+use native.Mathlib.Omega.{arith}
 use mathlib.Core.Path.{sym, ap, _∙_}
-use mathlib.Core.List.{List, [], _∷_}
-use Prim.Native.Nat.{ℕ}
+use mathlib.Core.List.{List}
+use Prim.Native.Nat.{ℕ, _≤_}
 use lib.ListN.{length}
-use Rattle.lampreycoil.proofs.WriteCalls.{write-short, write-on, write-refused, write-returned, write-told}
-use Rattle.lampreycoil.specs.Calls.{returned, recorded, headerOf, wrote}
+use Rattle.message.specs.Message.{Message}
+use Rattle.message.specs.Answer.{Answer}
 use Rattle.message.specs.Writing.{givenMessage, writingInto}
-use Rattle.message.specs.Answer.{Answer, writtenOver}
-use Rattle.octets.proofs.Buffers.{laid-room}
-use Rattle.octets.specs.Number.{rowBytes}
+use Rattle.lampreycoil.specs.Calls.{headerOf}
+use Rattle.lampreycoil.proofs.Telling.{fills-none, fills-refused, fills-counted, fills-on}
+use Rattle.lampreycoil.proofs.WriteCalls.{write-short, write-on, write-refused, write-counted}
 use Rattle.lampreycoil.proofs.lampreycoil_write.Statement.{statement}
 use Rattle.lampreycoil.proofs.lampreycoil_write.Tie as tie
+
+-- the message that is given
+module _ (s : tie.Start) where
+  abbrev given : Message
+  given = givenMessage (headerOf (s .args .kind) (s .args .flags) (s .args .userid) (s .args .rolemask) (s .args .first) (s .args .second)) (s .args .routes .now) (s .args .topic .now) (s .args .payload .now)
+
+-- the record has room, and the writer has answered
+module _ (d : tie.After-write) where
+  abbrev start : tie.Start
+  start = d .before .before .before .before .before .before .before .before
+
+  room : 4 ≤ length (start .args .row .now)
+  room = omega (arith, d .before .before .if1 .left)
+
+  abbrev answer : Answer (List ℕ)
+  answer = writingInto (length (start .args .out .now)) (given start)
 
 number-requires : tie.Need-number-requires
 number-requires c κs = search needs
 
 returns : tie.Need-returns
-returns c = let args = c .before .before .before .before .before .before .before .args in
-    let out = args .out .now in
-    let row = args .row .now in
-    let m = givenMessage (headerOf (args .kind) (args .flags) (args .userid) (args .rolemask) (args .first) (args .second)) (args .routes .now) (args .topic .now) (args .payload .now) in
-    let call = write-short m (length out) (length row) (c .before .if1 .taken) in
-    (c .number .ensures ∙ sym (ap returned call), (sym (ap (λ (a : Answer (List ℕ)). writtenOver a out) call), sym (ap (λ (a : Answer (List ℕ)). recorded (wrote a) row) call)))
+returns c = let s = c .before .before .before .before .before .before .before in
+    fills-none (write-short (given s) (length (s .args .out .now)) (length (s .args .row .now)) (omega (arith, c .before .if1 .taken))) (c .number .ensures)
 
 write-requires : tie.Need-write-requires
 write-requires c κs = search needs
@@ -47,14 +60,11 @@ same-length : tie.Need-same-length
 same-length c = search needs
 
 returns-2 : tie.Need-returns-2
-returns-2 c = let args = c .before .before .before .before .before .before .before .before .before .before .before .before .before .before .args in
-    let out = args .out .now in
-    let row = args .row .now in
-    let m = givenMessage (headerOf (args .kind) (args .flags) (args .userid) (args .rolemask) (args .first) (args .second)) (args .routes .now) (args .topic .now) (args .payload .now) in
-    let on = write-on m (length out) (length row) (c .before .before .before .before .before .before .before .before .if1 .left) in
-    let written = c .before .before .before .before .before .before .write in
-    let call = on ∙ write-refused (writingInto (length out) m) (c .before .before .r .given .0 .0) (sym (c .before .before .r .given .1) ∙ written .ensures .0) in
-    (c .number2 .ensures ∙ sym (ap returned call), (written .ensures .1 ∙ sym (ap (λ (a : Answer (List ℕ)). writtenOver a out) on), sym (ap (λ (a : Answer (List ℕ)). recorded (wrote a) row) call)))
+returns-2 c = let d = c .before .before .before .before .before .before in
+    let r = c .before .before .r .given in
+    let s = start d .args in
+    fills-on (write-on (given (start d)) (length (s .out .now)) (length (s .row .now)) (room d))
+    (fills-refused (write-refused (answer d) (r .0 .0) (sym (r .1) ∙ d .write .ensures .0)) (c .number2 .ensures) (d .write .ensures .1))
 
 same-length-2 : tie.Need-same-length-2
 same-length-2 c = search needs
@@ -63,16 +73,11 @@ same-length-3 : tie.Need-same-length-3
 same-length-3 c = search needs
 
 returns-3 : tie.Need-returns-3
-returns-3 c = let args = c .before .before .before .before .before .before .before .before .before .before .before .before .before .before .before .before .before .before .args in
-    let out = args .out .now in
-    let row = args .row .now in
-    let m = givenMessage (headerOf (args .kind) (args .flags) (args .userid) (args .rolemask) (args .first) (args .second)) (args .routes .now) (args .topic .now) (args .payload .now) in
-    let on = write-on m (length out) (length row) (c .before .before .before .before .before .before .before .before .before .before .before .before .if1 .left) in
-    let written = c .before .before .before .before .before .before .before .before .before .before .write in
-    let n = c .before .before .before .before .before .before .n .given .0 .0 in
-    let frame = sym (c .before .before .before .before .before .before .n .given .1) ∙ written .ensures .0 in
-    let a = writingInto (length out) m in
-    (write-returned a n frame ∙ sym (ap returned on), (written .ensures .1 ∙ sym (ap (λ (a : Answer (List ℕ)). writtenOver a out) on), c .before .before .put-row .ensures ∙ laid-room (rowBytes (n ∷ [])) row (c .before .before .before .before .before .before .before .before .before .before .before .before .if1 .left) ∙ write-told a n row frame ∙ sym (ap (λ (a : Answer (List ℕ)). recorded (wrote a) row) on)))
+returns-3 c = let d = c .before .before .before .before .before .before .before .before .before .before in
+    let n = c .before .before .before .before .before .before .n .given in
+    let s = start d .args in
+    fills-on (write-on (given (start d)) (length (s .out .now)) (length (s .row .now)) (room d))
+    (fills-counted (write-counted (answer d) (n .0 .0) (sym (n .1) ∙ d .write .ensures .0)) (d .write .ensures .1) (room d) (c .before .before .put-row .ensures))
 
 pub lampreycoil-write-spec : {M : Type 1} → statement M
 lampreycoil-write-spec =

@@ -1,29 +1,35 @@
 -- `lampreycoil::tables::lampreycoil_check_tree` meets its contract.
 -- Assumes nothing.
 use borrow.Author.Needs.{needs}
+use native.Mathlib.Omega.{arith}
 use mathlib.Core.Path.{sym, ap, _∙_}
-use mathlib.Core.List.{List, [], _∷_}
-use Prim.Native.Nat.{ℕ}
+use mathlib.Core.List.{List}
+use Prim.Native.Nat.{ℕ, _≤_}
 use lib.ListN.{length}
-use Rattle.lampreycoil.proofs.TreeCalls.{tree-short, tree-on, tree-refused, tree-returned, tree-wrote}
-use Rattle.lampreycoil.specs.Calls.{returned, recorded, wrote}
+use Rattle.message.specs.Answer.{Answer}
 use Rattle.tree.specs.Checking.{told, depthsInto}
-use Rattle.message.specs.Answer.{Answer, writtenOver}
-use Rattle.octets.proofs.Buffers.{laid-room}
-use Rattle.octets.specs.Number.{rowBytes}
+use Rattle.lampreycoil.proofs.Telling.{fills-none, fills-refused, fills-counted, fills-on}
+use Rattle.lampreycoil.proofs.TreeCalls.{tree-short, tree-on, tree-refused, tree-counted}
 use Rattle.lampreycoil.proofs.tables.lampreycoil_check_tree.Statement.{statement}
 use Rattle.lampreycoil.proofs.tables.lampreycoil_check_tree.Tie as tie
+
+-- the record has room, and the tree is checked
+module _ (d : tie.After-check-tree) where
+  abbrev start : tie.Start
+  start = d .before .before .before .before .before .before
+
+  room : 4 ≤ length (start .args .row .now)
+  room = omega (arith, d .before .before .if1 .left)
+
+  abbrev answer : Answer (List ℕ)
+  answer = depthsInto (length (start .args .depths .now)) (start .args .tree .now)
 
 number-requires : tie.Need-number-requires
 number-requires c κs = search needs
 
 returns : tie.Need-returns
-returns c = let args = c .before .before .before .before .before .args in
-    let tree = args .tree .now in
-    let depths = args .depths .now in
-    let row = args .row .now in
-    let call = tree-short tree (length depths) (length row) (c .before .if1 .taken) in
-    (c .number .ensures ∙ sym (ap returned call), (sym (ap (λ (a : Answer (List ℕ)). writtenOver a depths) call), sym (ap (λ (a : Answer (List ℕ)). recorded (wrote a) row) call)))
+returns c = let s = c .before .before .before .before .before .args in
+    fills-none (tree-short (s .tree .now) (length (s .depths .now)) (length (s .row .now)) (omega (arith, c .before .if1 .taken))) (c .number .ensures)
 
 check-tree-requires : tie.Need-check-tree-requires
 check-tree-requires c κs = search needs
@@ -47,14 +53,11 @@ same-length : tie.Need-same-length
 same-length c = search needs
 
 returns-2 : tie.Need-returns-2
-returns-2 c = let args = c .before .before .before .before .before .before .before .before .before .before .before .before .args in
-    let tree = args .tree .now in
-    let depths = args .depths .now in
-    let row = args .row .now in
-    let on = tree-on tree (length depths) (length row) (c .before .before .before .before .before .before .before .before .if1 .left) in
-    let checked = c .before .before .before .before .before .before .check-tree in
-    let call = on ∙ tree-refused (depthsInto (length depths) tree) (c .before .before .r .given .0 .0) (sym (ap told (c .before .before .r .given .1)) ∙ checked .ensures .0) in
-    (c .number2 .ensures ∙ sym (ap returned call), (checked .ensures .1 ∙ sym (ap (λ (a : Answer (List ℕ)). writtenOver a depths) on), sym (ap (λ (a : Answer (List ℕ)). recorded (wrote a) row) call)))
+returns-2 c = let d = c .before .before .before .before .before .before in
+    let r = c .before .before .r .given in
+    let s = start d .args in
+    fills-on (tree-on (s .tree .now) (length (s .depths .now)) (length (s .row .now)) (room d))
+    (fills-refused (tree-refused (answer d) (r .0 .0) (sym (ap told (r .1)) ∙ d .check-tree .ensures .0)) (c .number2 .ensures) (d .check-tree .ensures .1))
 
 same-length-2 : tie.Need-same-length-2
 same-length-2 c = search needs
@@ -63,16 +66,11 @@ same-length-3 : tie.Need-same-length-3
 same-length-3 c = search needs
 
 returns-3 : tie.Need-returns-3
-returns-3 c = let args = c .before .before .before .before .before .before .before .before .before .before .before .before .before .before .before .before .args in
-    let tree = args .tree .now in
-    let depths = args .depths .now in
-    let row = args .row .now in
-    let on = tree-on tree (length depths) (length row) (c .before .before .before .before .before .before .before .before .before .before .before .before .if1 .left) in
-    let checked = c .before .before .before .before .before .before .before .before .before .before .check-tree in
-    let n = c .before .before .before .before .before .before .n .given .0 .0 in
-    let many = sym (ap told (c .before .before .before .before .before .before .n .given .1)) ∙ checked .ensures .0 in
-    let a = depthsInto (length depths) tree in
-    (tree-returned a n many ∙ sym (ap returned on), (checked .ensures .1 ∙ sym (ap (λ (a : Answer (List ℕ)). writtenOver a depths) on), c .before .before .put-row .ensures ∙ laid-room (rowBytes (n ∷ [])) row (c .before .before .before .before .before .before .before .before .before .before .before .before .if1 .left) ∙ tree-wrote a n row many ∙ sym (ap (λ (a : Answer (List ℕ)). recorded (wrote a) row) on)))
+returns-3 c = let d = c .before .before .before .before .before .before .before .before .before .before in
+    let n = c .before .before .before .before .before .before .n .given in
+    let s = start d .args in
+    fills-on (tree-on (s .tree .now) (length (s .depths .now)) (length (s .row .now)) (room d))
+    (fills-counted (tree-counted (answer d) (n .0 .0) (sym (ap told (n .1)) ∙ d .check-tree .ensures .0)) (d .check-tree .ensures .1) (room d) (c .before .before .put-row .ensures))
 
 pub lampreycoil-check-tree-spec : {M : Type 1} → statement M
 lampreycoil-check-tree-spec =
