@@ -2,6 +2,7 @@
 -- Assumes nothing.
 use mathlib.Core.Path.{_≡_, refl, sym, ap}
 use mathlib.Core.Bool.{Bool, true, false, not, _&&_, _||_}
+use mathlib.Core.Logic.{_⊎_, inl, inr}
 use Prim.Native.Nat.{ℕ}
 use native.Mathlib.Omega.{arith}
 use Rattle.message.specs.declared.Refusal.{Refusal}
@@ -11,6 +12,10 @@ use Rattle.message.specs.Answer.{Answer, refused, answered, refuseIf, an
 
 pub true-false : true ≡ false → ⊥
 true-false e = let z : _≡_ {A = ℕ} 0 1 = cc in omega arith
+
+pub outcome : (t : Bool) → (t ≡ true) ⊎ (t ≡ false)
+outcome true = inl refl
+outcome false = inr refl
 
 pub and-left : (a b : Bool) → (a && b) ≡ true → a ≡ true
 and-left true b e = refl

@@ -4,6 +4,7 @@ use mathlib.Core.Path.{_≡_, refl, sym, ap, _∙_}
 use Prim.Native.Nat.{ℕ, zero, suc, _-_, _<_}
 use mathlib.Core.List.{List, [], _∷_, _++_}
 use native.Mathlib.Omega.{arith}
+use native.Mathlib.Nat.{le-of-suc-le-suc}
 use lib.ListN.{length, getD, take, drop, length-append}
 use lib.Seq.{take-at, getD-at, take-suc, take-length}
 use Rattle.octets.specs.Number.{Bytes}
@@ -14,6 +15,16 @@ use Rattle.message.specs.Reading.{front, final, beforeEmpty}
 abbrev pub Each : {A : Type 0} → (A → Type 0) → List A → Type 0
 Each P [] = Unit {0}
 Each P (x ∷ xs) = P x × Each P xs
+
+pub each-at : {A : Type 0} (P : A → Type 0) (xs : List A) (i : ℕ) (d : A) → Each P xs → i < length xs → P (getD xs i d)
+each-at P [] i d e h = absurd (omega arith)
+each-at P (x ∷ xs) zero d e h = e .0
+each-at P (x ∷ xs) (suc i) d e h = each-at P xs i d (e .1) (le-of-suc-le-suc h)
+
+pub each-take : {A : Type 0} (P : A → Type 0) (xs : List A) (n : ℕ) → Each P xs → Each P (take n xs)
+each-take P xs zero e = tt
+each-take P [] (suc n) e = tt
+each-take P (x ∷ xs) (suc n) e = (e .0, each-take P xs n (e .1))
 
 pub bytes-front : (xs ys : List ℕ) → Bytes (xs ++ ys) → Bytes xs
 bytes-front [] ys h = tt

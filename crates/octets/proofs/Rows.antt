@@ -1,16 +1,18 @@
 -- Laws on a row of numbers that is laid number by number.
 -- Assumes nothing.
 use mathlib.Core.Path.{_≡_, refl, sym, ap, _∙_}
-use Prim.Native.Nat.{ℕ, _+_, _-_, _*_, _<_, _≤_}
+use Prim.Native.Nat.{ℕ, zero, suc, _+_, _-_, _*_, _<_, _≤_}
 use mathlib.Core.List.{List, [], _∷_, _++_, append-assoc}
 use native.Mathlib.Omega.{arith}
+use native.Mathlib.Nat.{le-of-suc-le-suc}
 use native.Mathlib.Numerals.{add-one}
-use lib.ListN.{length, getD, take, length-append}
-use lib.Seq.{take-suc, take-length, length-take-le}
+use lib.ListN.{length, getD, take, drop, length-append}
+use lib.Seq.{take-suc, take-length, length-take-le, drop-drop}
 use borrow.Rule.Slice.PartMut.{midOf, putMid}
-use Rattle.octets.specs.Number.{four, rowBytes}
+use Rattle.octets.specs.Number.{number, four, rowBytes}
 use Rattle.octets.specs.Laid.{laid, laidIfRoom}
 use Rattle.octets.specs.Lays.{Lays}
+use Rattle.octets.proofs.Numbers.{number-four}
 use Rattle.octets.proofs.Buffers.{laid-room}
 use Rattle.octets.proofs.Laying.{lays-none, lays-leaf, lays-length}
 
@@ -54,3 +56,12 @@ module _ {row lent out : List ℕ} {at i : ℕ} (r : Rowed row lent out at i) (r
       let all : i ≡ length row = omega (arith, r .most) in
       r .lays .bytes ∙ ap (λ (k : ℕ). laid (rowBytes (take k row)) lent) all ∙ ap (λ (ns : List ℕ). laid (rowBytes ns) lent) (take-length row)
       ∙ sym (laid-room (rowBytes row) lent (omega (arith, row-length row)))
+
+-- a number that a row holds is read back from it, if it fits four bytes
+pub row-number : (ns rest : List ℕ) (i : ℕ) → i < length ns → getD ns i 0 < 4294967296 → number (drop (4 * i) (rowBytes ns ++ rest)) ≡ getD ns i 0
+row-number [] rest i h fits = absurd (omega arith)
+row-number (n ∷ ns) rest zero h fits = number-four n (rowBytes ns ++ rest) fits
+row-number (n ∷ ns) rest (suc i) h fits =
+    let at : 4 * suc i ≡ 4 + 4 * i = omega arith in
+    ap (λ (k : ℕ). number (drop k (rowBytes (n ∷ ns) ++ rest))) at ∙ ap number (sym (drop-drop (4 * i) 4 (rowBytes (n ∷ ns) ++ rest)))
+    ∙ row-number ns rest i (le-of-suc-le-suc h) fits

@@ -2,7 +2,7 @@
 use Prim.Native.Nat.{ℕ, _+_}
 use mathlib.Core.Bool.{Bool, cond}
 use mathlib.Core.List.{List, [], _∷_, _++_}
-use lib.ListN.{length}
+use lib.ListN.{length, take, drop}
 use Rattle.message.specs.Answer.{Answer, refused, answered}
 use Rattle.message.specs.Header.{hasTopic, hasPayload, headerIn, isHeader}
 use Rattle.message.specs.Message.{Message}
@@ -14,6 +14,10 @@ use Rattle.reader.specs.declared.Reading.{Reading}
 use Rattle.reader.specs.declared.Reading.the-variants.{Refused, Accepted}
 use Rattle.reader.specs.declared.header.Head.{Head}
 use Rattle.reader.specs.declared.header.Head.the-variants.{Wrong, Fields}
+
+-- a stretch of the caller's bytes
+abbrev pub stretch : List ℕ → ℕ → ℕ → List ℕ
+stretch b start len = take len (drop start b)
 
 -- where the data of a part starts that stands behind other parts: behind the frame's eight bytes, those parts, and its own size
 abbrev pub dataAt : List (List ℕ) → List ℕ → ℕ
