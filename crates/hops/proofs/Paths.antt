@@ -7,8 +7,8 @@ use mathlib.Core.List.{List}
 use mathlib.Core.Logic.{_⊎_, inl, inr, ⊎-elim}
 use Prim.Native.Nat.{ℕ, zero, suc, _+_, _-_, _<_, _≤_}
 use native.Mathlib.Omega.{arith}
-use borrow.Author.Tests.{eqb-true, eqb-false}
-use lib.Dec.{eqb}
+use borrow.Author.Tests.{eqb-true, eqb-false, ltb-true, ltb-false}
+use lib.Dec.{eqb, ltb}
 use Rattle.records.proofs.Truth.{outcome}
 use Rattle.tree.specs.Tree.{ranksIn, parentOf}
 use Rattle.tree.specs.Depths.{depthOf, treeGood}
@@ -225,3 +225,25 @@ module _ (tree : List ℕ) (g : treeGood tree ≡ true) where
       over a =
           let inside = parent-in tree g from hf (aside-low target from ht a) in
           rw (towards-up from target (λ k l e. a (suc k) l e)) (parent-neighbour tree from (parentOf tree from) hf inside refl, inside)
+
+  -- and no sooner: on the way up no broker is the target, and on the way down each is above it
+  pub hops-not-before : (from target : ℕ) → target < ranksIn tree → (m : Meeting tree from target) → (k : ℕ) → k < m .up + m .down → afterHops tree k from target ≡ target → ⊥
+  hops-not-before from target ht m k h e = ⊎-elim rising falling (outcome (ltb k (m .up)))
+    where
+      rising : ltb k (m .up) ≡ true → ⊥
+      rising t =
+          let l = ltb-true k (m .up) t in
+          let here = hops-up k from target (λ i j. m .first i (omega arith)) in
+          m .first k l 0 (omega arith) (above-none tree target ∙ sym e ∙ here)
+
+      falling : ltb k (m .up) ≡ false → ⊥
+      falling f =
+          let l = ltb-false k (m .up) f in
+          let j = k - m .up in
+          let sum : m .up + j ≡ k = omega arith in
+          let here : afterHops tree k from target ≡ above tree (m .down - j) target =
+          ap (λ (i : ℕ). afterHops tree i from target) (sym sum) ∙ hops-add tree (m .up) j from target
+          ∙ ap (λ (r : ℕ). afterHops tree j r target) (hops-up (m .up) from target (m .first) ∙ m .there)
+          ∙ hops-down j (m .down) target ht (omega arith) (m .down-most) in
+          let deep = above-depth (m .down - j) target ht (omega (arith, m .down-most)) in
+          omega (arith, rw (sym here ∙ e) at deep)

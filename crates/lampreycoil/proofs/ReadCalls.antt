@@ -1,10 +1,11 @@
 -- The read call: one law for each way that it ends.
 -- Assumes nothing.
-use mathlib.Core.Path.{_≡_, sym, ap}
+use mathlib.Core.Path.{_≡_, sym, ap, _∙_}
 use Prim.Native.Nat.{ℕ, _<_, _≤_}
 use mathlib.Core.List.{List}
 use native.Mathlib.Omega.{arith}
-use borrow.Author.Tests.{lt-ltb, le-ltb}
+use borrow.Author.Tests.{lt-ltb, le-ltb, ltb-false}
+use lib.Dec.{ltb}
 use Rattle.message.specs.declared.Refusal.{Refusal}
 use Rattle.message.specs.declared.Refusal.the-variants.{ShortOutput}
 use Rattle.message.specs.Answer.{Answer, refused, answered, andThen}
@@ -14,12 +15,39 @@ use Rattle.reader.specs.declared.Frame.{Frame}
 use Rattle.reader.specs.declared.Reading.the-variants.{Refused, Accepted}
 use Rattle.reader.specs.Places.{readAs, placesOf}
 use Rattle.rows.specs.Rows.{readRow}
-use Rattle.lampreycoil.specs.Calls.{readCall}
+use Rattle.message.proofs.Answers.{passed, both}
+use Rattle.lampreycoil.specs.Calls.{returned, readCall}
+use Rattle.lampreycoil.proofs.Telling.{done}
 
 never : {r : Refusal} {f : Frame} → Refused r ≡ Accepted f → ⊥
 never e = let z : _≡_ {A = ℕ} 0 1 = cc in omega arith
 
+-- a read that returns 0 has room for its record, and a message
+pub record ReadDone (b : List ℕ) (room : ℕ) : Type 0 where
+  pub message : Message
+  pub enough : 52 ≤ room
+  pub read : readingOf b ≡ answered message
+  pub lists : readCall b room ≡ answered (readRow (placesOf message))
+
+pub read-done : (b : List ℕ) (room : ℕ) → 0 ≡ returned (readCall b room) → ReadDone b room
+unfolding readCall
+read-done b room e =
+    let d = done (readCall b room) e in
+    let p = passed (ltb room 52) ShortOutput _ (d .value) (d .is) in
+    let two = both (readingOf b) _ (d .value) (p .rest) in
+    record {
+      message = two .value;
+      enough = ltb-false room 52 (p .test);
+      read = two .first;
+      lists = d .is ∙ sym (two .second);
+    }
+
 module _ (b : List ℕ) (room : ℕ) where
+  -- with room for its record, a read answers where the message lies
+  pub read-on : (m : Message) → 52 ≤ room → readingOf b ≡ answered m → readCall b room ≡ answered (readRow (placesOf m))
+  unfolding readCall
+  read-on m h e = rw (le-ltb room 52 h, e)
+
   pub read-short : room < 52 → readCall b room ≡ refused ShortOutput
   unfolding readCall
   read-short h = rw (lt-ltb room 52 h)

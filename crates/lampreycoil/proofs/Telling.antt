@@ -12,8 +12,17 @@ use Rattle.octets.proofs.Buffers.{laid-room}
 use Rattle.message.specs.declared.Refusal.{Refusal}
 use Rattle.message.specs.Refusals.{numberOf}
 use Rattle.message.specs.Answer.{Answer, refused, answered, writtenOver}
-use Rattle.message.proofs.Answers.{not-answered}
+use Rattle.message.proofs.Answers.{not-answered, some-number}
 use Rattle.lampreycoil.specs.Calls.{returned, recorded, wrote, Lists, Fills}
+
+-- no refusal has the number 0, so a call that returns it has an answer
+pub record Done {A : Type 0} (answer : Answer A) : Type 0 where
+  pub value : A
+  pub is : answer ≡ answered value
+
+pub done : {A : Type 0} (answer : Answer A) → 0 ≡ returned answer → Done answer
+done (refused q) e = absurd (some-number q (sym e))
+done (answered a) e = record { value = a; is = refl }
 
 -- a refusal writes nothing, and its number is returned
 module _ {answer : Answer (List ℕ)} {q : Refusal} (is : answer ≡ refused q) {r : ℕ} (told : r ≡ numberOf q) where

@@ -6,6 +6,8 @@ use mathlib.Core.Logic.{_⊎_, inl, inr}
 use Prim.Native.Nat.{ℕ}
 use native.Mathlib.Omega.{arith}
 use Rattle.message.specs.declared.Refusal.{Refusal}
+use Rattle.message.specs.declared.Refusal.the-variants.{ShortInput, WrongStart, LongBody, WrongSize, ManyParts, WrongHeader, WrongParts, WrongRoute, WrongTopic, WrongField, ShortOutput, NoForwarding, WrongTree, WrongServices, WrongIdentities, WrongRank, NotRouted, NoNeighbour}
+use Rattle.message.specs.Refusals.{numberOf}
 use Rattle.message.specs.Answer.{Answer, refused, answered, refuseIf, andThen}
 
 -- ---- tests
@@ -46,6 +48,29 @@ or-right false b e = e
 
 pub or-neither : (a b : Bool) → a ≡ false → b ≡ false → (a || b) ≡ false
 or-neither a b p q = cc
+
+-- ---- refusals
+
+-- 0 is no refusal's number
+pub some-number : (r : Refusal) → numberOf r ≡ 0 → ⊥
+some-number ShortInput e = omega arith
+some-number WrongStart e = omega arith
+some-number LongBody e = omega arith
+some-number WrongSize e = omega arith
+some-number ManyParts e = omega arith
+some-number WrongHeader e = omega arith
+some-number WrongParts e = omega arith
+some-number WrongRoute e = omega arith
+some-number WrongTopic e = omega arith
+some-number WrongField e = omega arith
+some-number ShortOutput e = omega arith
+some-number NoForwarding e = omega arith
+some-number WrongTree e = omega arith
+some-number WrongServices e = omega arith
+some-number WrongIdentities e = omega arith
+some-number WrongRank e = omega arith
+some-number NotRouted e = omega arith
+some-number NoNeighbour e = omega arith
 
 -- ---- answers
 

@@ -7,21 +7,18 @@ use Prim.Native.Nat.{ℕ, suc, _+_, _-_, _*_, _<_, _≤_}
 use mathlib.Core.List.{List, [], _∷_, _++_, append-assoc}
 use native.Mathlib.Omega.{arith}
 use lib.ListN.{length, getD, take, drop, length-append, length-drop, take-append-drop}
-use lib.Seq.{split-at, length-take-le, drop-drop, take-take, take-at, take-append-le, drop-append-le}
+use lib.Seq.{split-at, length-take-le, drop-drop, take-take, take-at, take-append-seam, take-append-le, drop-append-le}
 use Rattle.message.proofs.Parts.{joined-append}
-use Rattle.octets.specs.Number.{Bytes}
-use Rattle.message.specs.Answer.{answered}
 use Rattle.message.specs.Header.{hasTopic, hasPayload, hasRoute, headerBytes}
 use Rattle.message.specs.Message.{Message}
 use Rattle.message.specs.Frame.{sizeBytes, partBytes, joined, routing, topicPart, payloadPart, partsOf, bodyOf, frameOf}
-use Rattle.message.specs.Reading.{readingOf}
 use Rattle.message.specs.Writing.{isEmpty}
 use Rattle.message.proofs.Lists.{Each, each-at, each-take}
 use Rattle.message.proofs.Forms.{routes-each}
 use Rattle.message.proofs.Messages.{Written, written, Given, given-fit}
 use Rattle.message.proofs.Answers.{true-false, outcome}
 use Rattle.reader.proofs.Sorting.{routes-joined}
-use Rattle.message.proofs.RoundTrip.{WrittenBack, write-back}
+use Rattle.message.proofs.RoundTrip.{WrittenBack}
 use Rattle.reader.specs.Places.{stretch, dataAt, placesOf}
 use Rattle.reader.proofs.Cursors.{at-behind, at-data}
 
@@ -88,17 +85,24 @@ module _ (m : Message) where
   unfolding partsOf
   parts-route set = rw set (simp append-assoc)
 
--- ---- and so in the bytes that it was read from
+-- ---- and so in bytes that begin with its frame
 
-module _ (b : List ℕ) (m : Message) (bytes : Bytes b) (e : readingOf b ≡ answered m) where
-  abbrev back : WrittenBack b m
-  back = write-back b m bytes e
+-- b begins with the frame of m, which the writer writes
+pub record Begins (b : List ℕ) (m : Message) : Type 0 where
+  pub same : frameOf m ≡ take (length (frameOf m)) b
+  pub whole : Written m (frameOf m)
 
-  abbrev pub all-written : Written m (frameOf m)
-  all-written = written m (frameOf m) (back .writable)
+-- bytes from which a message is read
+pub begins-read : (b : List ℕ) (m : Message) → WrittenBack b m → Begins b m
+begins-read b m back = record { same = back .same; whole = written m (frameOf m) (back .writable) }
 
+-- bytes to which it was written
+pub begins-written : (m : Message) (rest : List ℕ) → Written m (frameOf m) → Begins (frameOf m ++ rest) m
+begins-written m rest w = record { same = sym (take-append-seam (frameOf m) rest); whole = w }
+
+module _ (b : List ℕ) (m : Message) (back : Begins b m) where
   abbrev given : Given m
-  given = given-fit m (all-written .passes .given)
+  given = given-fit m (back .whole .passes .given)
 
   -- a stretch of the frame is that stretch of the bytes
   same-stretch : (start len : ℕ) → start + len ≤ length (frameOf m) → stretch b start len ≡ stretch (frameOf m) start len
@@ -179,7 +183,7 @@ module _ (b : List ℕ) (m : Message) (bytes : Bytes b) (e : readingOf b ≡ ans
   unfolding placesOf
   route-told i h =
       let rs = m .routes in
-      let each = routes-each rs (all-written .passes .routes) in
+      let each = routes-each rs (back .whole .passes .routes) in
       let front = take i rs in
       let r = getD rs i [] in
       let cut : rs ≡ front ++ r ∷ drop (suc i) rs = split-at rs i [] h in

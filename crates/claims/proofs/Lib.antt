@@ -1,0 +1,6 @@
+-- The claims, proved by citation.
+pub mod Routes
+pub mod Records
+pub mod Frames
+pub mod Trees
+pub mod Ways

@@ -1,0 +1,58 @@
+// The claims, for every slice and number that a call can get. Each function does nothing: its parameters are those of the call that the claim is
+// about, and its promise is the claim. So the premises of a law, that bytes are below 256 and that a field has four bytes, are met here once and for
+// all, and nothing is left for a caller to check.
+ghost use Rattle.octets.specs.Number.{Bytes};
+ghost use Rattle.message.specs.Writing.{givenMessage};
+ghost use Rattle.lampreycoil.specs.Calls.{headerOf};
+ghost use Rattle.claims.specs.Frames.{RecordHoldsMessage, AcceptedIsWrittenBack, WrittenIsReadBack};
+ghost use Rattle.claims.specs.Trees.{TreeIsChecked};
+ghost use Rattle.claims.specs.Ways.{EveryWay};
+
+// Takes any slice.
+fn lend(_bytes: &[u8]) {}
+
+// What stands in a slice of bytes is below 256: the prover says so of a slice that is lent on.
+fn are_bytes(bytes: &[u8])
+    ensures { λ _. ⌜ Bytes (now (bytes .entry)) ⌝ }
+{
+    lend(bytes);
+}
+
+// A read's record says where the message lies.
+pub fn record_holds_message(bytes: &[u8])
+    ensures { λ _. ⌜ RecordHoldsMessage (now (bytes .entry)) ⌝ }
+{
+    are_bytes(bytes);
+}
+
+// Every frame that is accepted is written back as the same bytes.
+pub fn accepted_is_written_back(bytes: &[u8])
+    ensures { λ _. ⌜ AcceptedIsWrittenBack (now (bytes .entry)) ⌝ }
+{
+    are_bytes(bytes);
+}
+
+// Every message that is written is read back as the same message.
+pub fn written_is_read_back(
+    kind: u8,
+    flags: u8,
+    userid: u32,
+    rolemask: u32,
+    first: u32,
+    second: u32,
+    routes: &[u8],
+    topic: &[u8],
+    payload: &[u8],
+)
+    ensures { λ _. ⌜ WrittenIsReadBack (headerOf kind flags userid rolemask first second) (now (routes .entry)) (now (topic .entry)) (now (payload .entry)) ⌝ }
+{}
+
+// The tree check accepts the trees that the paper's sentence accepts, and writes their depths.
+pub fn tree_is_checked(tree: &[u8])
+    ensures { λ _. ⌜ TreeIsChecked (now (tree .entry)) ⌝ }
+{}
+
+// From each rank of a right tree the hops lead to every other, over the lowest common ancestor.
+pub fn every_way(tree: &[u8])
+    ensures { λ _. ⌜ EveryWay (now (tree .entry)) ⌝ }
+{}
