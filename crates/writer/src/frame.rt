@@ -11,7 +11,7 @@ use message::Header;
 
 // The body: the routing group, the topic, the payload, and the header, which is always last.
 fn write_body(out: &mut [u8], header: Header, routes: &[u8], topic: &[u8], payload: &[u8]) -> usize
-    requires { ⌜ length (now routes) % 37 ≡ 0 ⌝ }
+    requires { ⌜ (length (now routes) % 37 ≡ 0) × (length (now topic) ≤ 255) ⌝ }
     requires { ⌜ length (bodyOf (givenMessage header (now routes) (now topic) (now payload))) ≤ length (now out) ⌝ }
     ensures { λ r. ⌜ Lays (bodyOf (givenMessage header (now (routes .entry)) (now (topic .entry)) (now (payload .entry)))) (now (out .entry)) (now (out .exit)) r ⌝ }
 {
@@ -33,11 +33,12 @@ pub(crate) fn write_frame(
     topic: &[u8],
     payload: &[u8],
 )
-    requires { ⌜ length (now routes) % 37 ≡ 0 ⌝ }
+    requires { ⌜ (length (now routes) % 37 ≡ 0) × (length (now topic) ≤ 255) ⌝ }
     requires { ⌜ n ≡ length (frameOf (givenMessage header (now routes) (now topic) (now payload))) ⌝ }
     requires { ⌜ n ≤ length (now out) ⌝ }
     ensures { λ _. ⌜ now (out .exit) ≡ laid (frameOf (givenMessage header (now (routes .entry)) (now (topic .entry)) (now (payload .entry)))) (now (out .entry)) ⌝ }
 {
-    part::write_pair(out, 4293787666, n - 8);
+    let front = [message::START as usize, n - 8];
+    octets::put_row(out, &front);
     write_body(&mut out[8..], header, routes, topic, payload);
 }
