@@ -46,8 +46,8 @@ module _ (p out : List ℕ) where
     short-no-room h = no-room p out (omega (arith, ap length short-bytes))
 
     -- a byte is stored, and the data laid behind it
-    pub short-written : length p + 1 ≤ length out → {last : List ℕ} → last ≡ laidIfRoom p (from 1 (set out 0 (length p))) → Written p out (behind 1 (set out 0 (length p)) last) (length p + 1)
-    short-written h e = all-laid p short-bytes (omega arith) (omega arith) (lays-leaf (lays-byte (lays-none out) (length p) (omega arith)) p (omega arith) e)
+    pub short-written : length p + 1 ≤ length out → {last : List ℕ} → last ≡ laidIfRoom p (from 1 (set out 0 (length p))) → {n : ℕ} → n ≡ length p + 1 → Written p out (behind 1 (set out 0 (length p)) last) n
+    short-written h e k = all-laid p short-bytes (omega arith) (omega (arith, k)) (lays-leaf (lays-byte (lays-none out) (length p) (omega arith)) p (omega arith) e)
 
   module _ (long : 255 ≤ length p) where
     long-bytes : (255 ∷ four (length p)) ++ p ≡ partBytes p
@@ -57,7 +57,7 @@ module _ (p out : List ℕ) where
     long-no-room h = no-room p out (omega (arith, ap length long-bytes))
 
     -- a byte is stored, four bytes laid behind it, and the data behind those
-    pub long-written : length p + 5 ≤ length out → {first last : List ℕ} → first ≡ laidIfRoom (four (length p)) (from 1 (set out 0 255)) → last ≡ laidIfRoom p (from 5 (behind 1 (set out 0 255) first)) → Written p out (behind 5 (behind 1 (set out 0 255) first) last) (length p + 5)
-    long-written h e f =
-        all-laid p long-bytes (omega arith) (omega arith)
+    pub long-written : length p + 5 ≤ length out → {first last : List ℕ} → first ≡ laidIfRoom (four (length p)) (from 1 (set out 0 255)) → last ≡ laidIfRoom p (from 5 (behind 1 (set out 0 255) first)) → {n : ℕ} → n ≡ length p + 5 → Written p out (behind 5 (behind 1 (set out 0 255) first) last) n
+    long-written h e f k =
+        all-laid p long-bytes (omega arith) (omega (arith, k))
         (lays-leaf (lays-leaf (lays-byte (lays-none out) 255 (omega arith)) (four (length p)) (omega arith) e) p (omega arith) f)

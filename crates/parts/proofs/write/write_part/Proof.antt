@@ -61,7 +61,7 @@ same-length c = let args = c .before .before .before .before .before .before .be
 
 returns-2 : tie.Need-returns-2
 returns-2 c = let args = c .before .before .before .before .before .before .before .before .args in
-    short-written (args .«data» .now) (args .out .now) (omega arith) (omega arith) (c .before .before .copy .ensures)
+    short-written (args .«data» .now) (args .out .now) (omega arith) (omega arith) (c .before .before .copy .ensures) (omega arith)
 
 add-if3 : tie.Need-add-if3
 add-if3 c = search needs
@@ -106,7 +106,7 @@ same-length-2 c = let d = c .before .before .before .before .before .before in
 
 returns-4 : tie.Need-returns-4
 returns-4 c = let args = c .before .before .before .before .before .before .before .before .before .before .before .before .args in
-    long-written (args .«data» .now) (args .out .now) (omega arith) (omega arith) (c .before .before .before .before .before .before .put-number .ensures) (c .before .before .copy2 .ensures)
+    long-written (args .«data» .now) (args .out .now) (omega arith) (omega arith) (c .before .before .before .before .before .before .put-number .ensures) (c .before .before .copy2 .ensures) (omega arith)
 
 pub write-part-spec : {M : Type 1} → statement M
 write-part-spec =
