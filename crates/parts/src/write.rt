@@ -1,4 +1,5 @@
 // A part written: its size, and its data behind that.
+use crate::size::LONG;
 ghost use mathlib.Core.Path.{_≡_};
 ghost use Rattle.message.specs.Frame.{partBytes};
 ghost use Rattle.octets.specs.Laid.{laidCount, laidIfRoom};
@@ -10,7 +11,7 @@ pub fn write_part(out: &mut [u8], data: &[u8]) -> usize
     ensures { λ _. ⌜ now (out .exit) ≡ laidIfRoom (partBytes (now («data» .entry))) (now (out .entry)) ⌝ }
 {
     let n = data.len();
-    if n < 255 {
+    if n < LONG {
         if out.len() < n + 1 {
             return 0;
         }
@@ -21,7 +22,7 @@ pub fn write_part(out: &mut [u8], data: &[u8]) -> usize
     if out.len() < n + 5 {
         return 0;
     }
-    out[0] = 255;
+    out[0] = LONG as u8;
     octets::put_number(&mut out[1..], n);
     copying::copy(data, &mut out[5..]);
     n + 5

@@ -24,7 +24,7 @@ fn write_body(out: &mut [u8], header: Header, routes: &[u8], topic: &[u8], paylo
     header_at + part::write_header(&mut out[header_at..], header)
 }
 
-// The frame of n bytes: FF EE 00 12 as one number, the body's length, the body.
+// The frame of n bytes: FF EE 00 12 and the body's length as two numbers, and the body.
 pub(crate) fn write_frame(
     out: &mut [u8],
     n: usize,
@@ -38,7 +38,7 @@ pub(crate) fn write_frame(
     requires { ⌜ n ≤ length (now out) ⌝ }
     ensures { λ _. ⌜ now (out .exit) ≡ laid (frameOf (givenMessage header (now (routes .entry)) (now (topic .entry)) (now (payload .entry)))) (now (out .entry)) ⌝ }
 {
-    let front = [message::START as usize, n - 8];
+    let front = [message::START as usize, n - draft::FRONT];
     octets::put_row(out, &front);
-    write_body(&mut out[8..], header, routes, topic, payload);
+    write_body(&mut out[draft::FRONT..], header, routes, topic, payload);
 }

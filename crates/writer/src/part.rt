@@ -11,6 +11,9 @@ ghost use Rattle.octets.specs.Lays.{Lays};
 use message::Header;
 use parts::write::write_part;
 
+// The most bytes that a topic has, with its zero byte.
+const TOPIC: usize = 256;
+
 // The routes, a part for each 37 bytes.
 fn write_routes(out: &mut [u8], routes: &[u8]) -> usize
     requires { ⌜ length (now routes) % 37 ≡ 0 ⌝ }
@@ -48,7 +51,7 @@ pub(crate) fn write_topic(out: &mut [u8], given: bool, topic: &[u8]) -> usize
     ensures { λ r. ⌜ Lays (joined (partIf given (now (topic .entry) ++ (0 ∷ [])))) (now (out .entry)) (now (out .exit)) r ⌝ }
 {
     if given {
-        let mut held = [0u8; 256];
+        let mut held = [0u8; TOPIC];
         copying::copy(topic, &mut held);
         write_part(out, &held[0..topic.len() + 1])
     } else {

@@ -70,6 +70,9 @@ returns-3 : tie.Need-returns-3
 returns-3 c = let args = c .before .before .before .before .args in
     long-no-room (args .«data» .now) (args .out .now) (omega arith) (omega arith)
 
+cast-out-2 : tie.Need-cast-out-2
+cast-out-2 c = search needs
+
 slice-write-out-2 : tie.Need-slice-write-out-2
 slice-write-out-2 c = search needs
 
@@ -125,6 +128,7 @@ write-part-spec =
     returns-2
     add-if3
     returns-3
+    cast-out-2
     slice-write-out-2
     sub-put-number
     part-put-number-start
