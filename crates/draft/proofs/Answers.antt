@@ -20,7 +20,7 @@ use Rattle.message.specs.Writing.{partsGivenFit, routesGood, cut, writingInto, 
 use Rattle.draft.specs.declared.Written.the-variants.{Refused, Frame}
 use Rattle.draft.specs.Written.{writtenAs, measured}
 use Rattle.draft.proofs.Cuts.{good-whole}
-use Rattle.draft.proofs.Judging.{order-is}
+use Rattle.draft.proofs.Judging.{order-is, topic-short}
 
 pub told-refused : (a : Answer (List ℕ)) {r : Refusal} → writtenAs a ≡ Refused r → a ≡ refused r
 told-refused (refused s) e = cc
@@ -31,7 +31,7 @@ told-frame (refused s) e = absurd (let z : _≡_ {A = ℕ} 0 1 = cc in omega ari
 told-frame (answered frame) e = (frame, refl, cc)
 
 -- an answer at the end of the writer's order has passed all its tests
-no-refusal : (k a r t f l s : Bool) {x : List ℕ} (frame : List ℕ) → refuseIf k WrongHeader (refuseIf a WrongParts (refuseIf r WrongRoute (refuseIf t WrongTopic (refuseIf f WrongField (refuseIf l LongBody (refuseIf s ShortOutput (answered x))))))) ≡ answered frame → (frame ≡ x) × (r ≡ false) × (s ≡ false)
+no-refusal : (k a r t f l s : Bool) {x : List ℕ} (frame : List ℕ) → refuseIf k WrongHeader (refuseIf a WrongParts (refuseIf r WrongRoute (refuseIf t WrongTopic (refuseIf f WrongField (refuseIf l LongBody (refuseIf s ShortOutput (answered x))))))) ≡ answered frame → (frame ≡ x) × (a ≡ false) × (r ≡ false) × (t ≡ false) × (s ≡ false)
 no-refusal true a r t f l s frame e = absurd (not-answered e)
 no-refusal false true r t f l s frame e = absurd (not-answered e)
 no-refusal false false true t f l s frame e = absurd (not-answered e)
@@ -39,14 +39,15 @@ no-refusal false false false true f l s frame e = absurd (not-answered e)
 no-refusal false false false false true l s frame e = absurd (not-answered e)
 no-refusal false false false false false true s frame e = absurd (not-answered e)
 no-refusal false false false false false false true frame e = absurd (not-answered e)
-no-refusal false false false false false false false frame e = (cc, refl, refl)
+no-refusal false false false false false false false frame e = (cc, refl, refl, refl, refl)
 
--- what a frame's length that is told says of the message that is given: its frame is written, which fits, and its routes are whole
+-- what a frame's length that is told says of the message that is given: its frame is written, which fits, its routes are whole and its topic is short
 pub record Told (room : ℕ) (h : Header) (routes topic payload : List ℕ) (n : ℕ) : Type 0 where
   pub writes : writingInto room (givenMessage h routes topic payload) ≡ answered (frameOf (givenMessage h routes topic payload))
   pub long : n ≡ length (frameOf (givenMessage h routes topic payload))
   pub fits : n ≤ room
   pub whole : length routes % 37 ≡ 0
+  pub short : length topic ≤ 255
 
 pub told-given : (room : ℕ) (h : Header) (routes topic payload : List ℕ) {n : ℕ} → writtenAs (writingInto room (givenMessage h routes topic payload)) ≡ Frame n → Told room h routes topic payload n
 unfolding measured
@@ -60,6 +61,7 @@ told-given room h routes topic payload e =
     record {
       writes = told .1 ∙ ap answered (is .0);
       long = long;
-      fits = omega (arith, long, ltb-false room (length (frameOf m)) (is .2));
-      whole = good-whole routes (not-false (routesGood (cut routes)) (is .1));
+      fits = omega (arith, long, ltb-false room (length (frameOf m)) (is .4));
+      whole = good-whole routes (not-false (routesGood (cut routes)) (is .2));
+      short = topic-short h routes topic payload (not-false (partsFit h && partsGivenFit m) (is .1)) (is .3);
     }

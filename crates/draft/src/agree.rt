@@ -7,6 +7,9 @@ ghost use Rattle.form.specs.Forms.{isTopic};
 ghost use Rattle.message.specs.Writing.{isEmpty, partsGivenFit, routesGood, cut, givenMessage};
 use message::Header;
 
+// How many bytes the most routes have.
+const MOST_ROUTES: usize = message::MOST_ROUTES * message::ROUTE;
+
 // Whether a part may be given: its flag is set, or it is empty.
 fn may_be_given(flag: bool, part: &[u8]) -> bool
     ensures { λ r. ⌜ r ≡ (flag || isEmpty (now (part .entry))) ⌝ }
@@ -35,18 +38,18 @@ pub(crate) fn parts_agree(header: Header, routes: &[u8], topic: &[u8], payload: 
 pub(crate) fn routes_good(routes: &[u8]) -> bool
     ensures { λ r. ⌜ r ≡ routesGood (cut (now (routes .entry))) ⌝ }
 {
-    if 2368 < routes.len() {
+    if MOST_ROUTES < routes.len() {
         return false;
     }
-    if routes.len() % 37 != 0 {
+    if routes.len() % message::ROUTE != 0 {
         return false;
     }
     let mut i = 0;
     while i < routes.len() {
-        if !form::is_route(&routes[i..i + 37]) {
+        if !form::is_route(&routes[i..i + message::ROUTE]) {
             return false;
         }
-        i += 37;
+        i += message::ROUTE;
     }
     true
 }

@@ -7,12 +7,19 @@ ghost use Rattle.message.specs.Writing.{givenMessage};
 ghost use Rattle.draft.specs.Parts.{partLength, groupLength};
 use message::Header;
 
+// How many bytes the header takes with its size.
+const HEADER_PART: usize = message::HEADER + 1;
+
 // How many bytes the routing group takes: 38 a route, and one for the delimiter.
 fn group_length(given: bool, n: usize) -> usize
     requires { ⌜ n ≤ 2368 ⌝ }
     ensures { λ r. ⌜ r ≡ groupLength given n ⌝ }
 {
-    if given { n / 37 * 38 + 1 } else { 0 }
+    if given {
+        n / message::ROUTE * message::ROUTE_PART + 1
+    } else {
+        0
+    }
 }
 
 // How many bytes a part of n bytes takes with its size.
@@ -27,7 +34,7 @@ fn part_length(given: bool, n: usize) -> usize
     }
 }
 
-// The body's length, of parts that are short enough for it to be added up; the header's part has 21 bytes.
+// The body's length, of parts that are short enough for it to be added up.
 pub(crate) fn body_length(header: Header, routes: &[u8], topic: &[u8], payload: &[u8]) -> usize
     requires { ⌜ (length (now routes) ≤ 2368) × (length (now routes) % 37 ≡ 0) ⌝ }
     requires { ⌜ (length (now topic) ≤ 255) × (length (now payload) ≤ 32768) ⌝ }
@@ -36,5 +43,5 @@ pub(crate) fn body_length(header: Header, routes: &[u8], topic: &[u8], payload: 
     let flags = header.flags;
     let group = group_length(message::has_route(flags), routes.len());
     let upto = group + part_length(message::has_topic(flags), topic.len() + 1);
-    upto + part_length(message::has_payload(flags), payload.len()) + 21
+    upto + part_length(message::has_payload(flags), payload.len()) + HEADER_PART
 }

@@ -12,6 +12,9 @@ use message::Refusal;
 mod agree;
 mod length;
 
+// How many bytes stand in front of the body: FF EE 00 12, and the body's length.
+pub const FRONT: usize = 8;
+
 // What is told of a message that is to be written: why nothing is, or how long the frame is.
 pub enum Written {
     Refused(Refusal),
@@ -25,12 +28,12 @@ fn measure(header: Header, routes: &[u8], topic: &[u8], payload: &[u8], room: us
     requires { ⌜ (hasTopic (header .flags) && not (isTopic (now topic))) ≡ false ⌝ }
     ensures { λ r. ⌜ r ≡ writtenAs (measured room (givenMessage header (now (routes .entry)) (now (topic .entry)) (now (payload .entry)))) ⌝ }
 {
-    if 32768 < payload.len() {
+    if message::MOST_BODY < payload.len() {
         return Written::Refused(Refusal::LongBody);
     }
     let body = length::body_length(header, routes, topic, payload);
-    let whole = body + 8;
-    if 32768 < body {
+    let whole = body + FRONT;
+    if message::MOST_BODY < body {
         Written::Refused(Refusal::LongBody)
     } else if room < whole {
         Written::Refused(Refusal::ShortOutput)

@@ -1,6 +1,6 @@
 -- Laws on bytes that helpers lay behind each other: one law for a helper that is lent the rest of the output, one for a byte stored there.
 -- Assumes nothing.
-use mathlib.Core.Path.{_≡_, refl, ap, _∙_}
+use mathlib.Core.Path.{_≡_, refl, sym, ap, _∙_}
 use Prim.Native.Nat.{ℕ, _+_, _-_, _<_, _≤_}
 use mathlib.Core.List.{List, [], _∷_, _++_, append-nil, append-assoc}
 use native.Mathlib.Omega.{arith}
@@ -9,8 +9,8 @@ use lib.ListN.{length, drop, set, length-append, length-drop, drop-of-length-le}
 use lib.Seq.{set-append-seam, drop-cons}
 use borrow.Rule.Slice.PartAt.{part-to-end}
 use borrow.Rule.Slice.PartMut.{midOf, putMid}
-use Rattle.octets.specs.Laid.{laid, laidIfRoom}
-use Rattle.octets.proofs.Buffers.{laid-room, length-laid, laid-more}
+use Rattle.octets.specs.Laid.{laid, laidIfRoom, laidCount}
+use Rattle.octets.proofs.Buffers.{laid-room, count-room, length-laid, laid-more}
 use Rattle.octets.specs.Lays.{Lays}
 
 pub lays-none : (out : List ℕ) → Lays [] out out 0
@@ -19,6 +19,13 @@ lays-none out = record { told = refl; bytes = refl }
 -- what a leaf that lays its bytes only where there is room does where there is room
 pub lays-room : {xs lent left : List ℕ} → length xs ≤ length lent → left ≡ laidIfRoom xs lent → Lays xs lent left (length xs)
 lays-room {xs} {lent} h e = record { told = refl; bytes = e ∙ laid-room xs lent h }
+
+-- the same of a leaf that tells how many they are, and the other way
+pub lays-counted : {xs lent left : List ℕ} {n : ℕ} → length xs ≤ length lent → n ≡ laidCount xs lent → left ≡ laidIfRoom xs lent → Lays xs lent left n
+lays-counted {xs} {lent} h n e = record { told = n ∙ count-room xs lent h; bytes = e ∙ laid-room xs lent h }
+
+pub counted-lays : {xs lent left : List ℕ} {n : ℕ} → length xs ≤ length lent → Lays xs lent left n → (n ≡ laidCount xs lent) × (left ≡ laidIfRoom xs lent)
+counted-lays {xs} {lent} h l = (l .told ∙ sym (count-room xs lent h), l .bytes ∙ sym (laid-room xs lent h))
 
 module _ {w lent out : List ℕ} {at : ℕ} (l : Lays w lent out at) where
   -- the rest of the output is lent on, and the bytes laid there come behind those that are laid already

@@ -13,3 +13,7 @@ laid xs out = xs ++ drop (length xs) out
 -- the same where xs fits, and out as it was where it does not
 abbrev pub laidIfRoom : List ℕ → List ℕ → List ℕ
 laidIfRoom xs out = cond (leb (length xs) (length out)) (laid xs out) out
+
+-- how many bytes are then written: all of xs, or none
+abbrev pub laidCount : List ℕ → List ℕ → ℕ
+laidCount xs out = cond (leb (length xs) (length out)) (length xs) 0

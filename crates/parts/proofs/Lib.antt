@@ -1,3 +1,4 @@
 -- Laws about this crate's definitions.
 pub mod Sizes
 pub mod Passing
+pub mod Writing

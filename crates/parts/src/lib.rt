@@ -1,3 +1,4 @@
-// The parts of a body: the size in front of each, and the walk over them all.
+// The parts of a body: the size in front of each, the walk over them all, and a part written.
 pub mod size;
 pub mod walk;
+pub mod write;

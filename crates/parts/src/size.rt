@@ -2,6 +2,9 @@
 ghost use mathlib.Core.Path.{_≡_};
 ghost use Rattle.parts.specs.Walk.{sizeAt};
 
+// A part of so many bytes or more has a size of five bytes, the first of which is this.
+pub(crate) const LONG: usize = 255;
+
 // Where a part's data starts, counted from its size byte, and how many bytes it has; or its size is wrong.
 pub enum Size {
     Wrong,
@@ -17,7 +20,7 @@ pub fn size_at(s: &[u8]) -> Size
     }
     let short = octets::wide(s[0]) as usize;
     let behind = s.len() - 1;
-    if short < 255 {
+    if short < LONG {
         if behind < short {
             return Size::Wrong;
         }
@@ -27,7 +30,7 @@ pub fn size_at(s: &[u8]) -> Size
         return Size::Wrong;
     }
     let long = octets::number_of(s[1], s[2], s[3], s[4]) as usize;
-    if long < 255 {
+    if long < LONG {
         return Size::Wrong;
     }
     if behind - 4 < long {

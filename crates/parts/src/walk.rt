@@ -7,6 +7,9 @@ ghost use Prim.Native.Nat.{_<_, _≤_};
 ghost use Rattle.message.specs.Reading.{partsIn};
 ghost use Rattle.parts.specs.Walk.{walkedAs, nextEmpty};
 
+// The most parts that a body has: 64 routes, the delimiter, the topic, the payload and the header.
+const MOST: usize = 68;
+
 // How many parts there are, how many of them stand in front of the first empty one, and where the last one's size stands.
 pub struct Walked {
     pub count: usize,
@@ -43,7 +46,7 @@ pub fn count_parts(body: &[u8]) -> Walk
         if at == body.len() {
             break Walk::Counted(Walked { count, empty, last });
         }
-        if count == 68 {
+        if count == MOST {
             break Walk::Refused(Refusal::ManyParts);
         }
         let size = size_at(&body[at..]);

@@ -11,7 +11,7 @@ use message::Header;
 
 // The body: the routing group, the topic, the payload, and the header, which is always last.
 fn write_body(out: &mut [u8], header: Header, routes: &[u8], topic: &[u8], payload: &[u8]) -> usize
-    requires { ⌜ length (now routes) % 37 ≡ 0 ⌝ }
+    requires { ⌜ (length (now routes) % 37 ≡ 0) × (length (now topic) ≤ 255) ⌝ }
     requires { ⌜ length (bodyOf (givenMessage header (now routes) (now topic) (now payload))) ≤ length (now out) ⌝ }
     ensures { λ r. ⌜ Lays (bodyOf (givenMessage header (now (routes .entry)) (now (topic .entry)) (now (payload .entry)))) (now (out .entry)) (now (out .exit)) r ⌝ }
 {
@@ -24,7 +24,7 @@ fn write_body(out: &mut [u8], header: Header, routes: &[u8], topic: &[u8], paylo
     header_at + part::write_header(&mut out[header_at..], header)
 }
 
-// The frame of n bytes: FF EE 00 12 as one number, the body's length, the body.
+// The frame of n bytes: FF EE 00 12 and the body's length as two numbers, and the body.
 pub(crate) fn write_frame(
     out: &mut [u8],
     n: usize,
@@ -33,11 +33,12 @@ pub(crate) fn write_frame(
     topic: &[u8],
     payload: &[u8],
 )
-    requires { ⌜ length (now routes) % 37 ≡ 0 ⌝ }
+    requires { ⌜ (length (now routes) % 37 ≡ 0) × (length (now topic) ≤ 255) ⌝ }
     requires { ⌜ n ≡ length (frameOf (givenMessage header (now routes) (now topic) (now payload))) ⌝ }
     requires { ⌜ n ≤ length (now out) ⌝ }
     ensures { λ _. ⌜ now (out .exit) ≡ laid (frameOf (givenMessage header (now (routes .entry)) (now (topic .entry)) (now (payload .entry)))) (now (out .entry)) ⌝ }
 {
-    part::write_pair(out, 4293787666, n - 8);
-    write_body(&mut out[8..], header, routes, topic, payload);
+    let front = [message::START as usize, n - draft::FRONT];
+    octets::put_row(out, &front);
+    write_body(&mut out[draft::FRONT..], header, routes, topic, payload);
 }

@@ -35,7 +35,7 @@ told c = told-given _ _ _ _ _ (sym (c .before .before .judge .ensures) ∙ c .dr
 
 write-frame-requires : tie.Need-write-frame-requires
 write-frame-requires c κs = let t = told (c .before .before) in
-    (t .whole, (t .long, t .fits))
+    ((t .whole, t .short), (t .long, t .fits))
 
 returns : tie.Need-returns
 returns c = let start = c .before .before .before .before .before .before .before .before in

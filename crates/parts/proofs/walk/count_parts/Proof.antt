@@ -94,13 +94,13 @@ loop-again c = more c
 
 returns : tie.Need-returns Inv-loop μ-loop
 returns c = let h = c .before in
-    passed-all (bodyOf h) _ _ _ _ (h .loop .inv) (c .if1 .taken)
+    passed-all (bodyOf h) _ _ _ _ (h .loop .inv) (omega (arith, h .loop .inv .within))
 
 too-many : tie.Need-returns-2 Inv-loop μ-loop
 too-many c =
     let h = c .before .before in
     let left : h .loop .at ≡ length (bodyOf h) → ⊥ = search needs in
-    passed-many (bodyOf h) _ _ _ _ (h .loop .inv) left (c .if2 .taken)
+    passed-many (bodyOf h) _ _ _ _ (h .loop .inv) left (omega (arith, h .loop .inv .few))
 
 -- there was room for the part whose size is wrong: 5 comes before its size is read
 wrong-size : tie.Need-returns-3 Inv-loop μ-loop

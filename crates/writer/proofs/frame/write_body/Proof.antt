@@ -82,7 +82,7 @@ has-route-requires : tie.Need-has-route-requires
 has-route-requires c κs = tt
 
 write-group-requires : tie.Need-write-group-requires
-write-group-requires c κs = (start c .pre .0, group-room c)
+write-group-requires c κs = (start c .pre .0 .0, group-room c)
 
 sub-write-topic : tie.Need-sub-write-topic
 sub-write-topic c = let d = c .before .before in
@@ -98,7 +98,7 @@ has-topic-requires : tie.Need-has-topic-requires
 has-topic-requires c κs = tt
 
 write-topic-requires : tie.Need-write-topic-requires
-write-topic-requires c κs = lays-rest (routed c .write-group .ensures) _ (topic-room c)
+write-topic-requires c κs = (start (routed c .before) .pre .0 .1, lays-rest (routed c .write-group .ensures) _ (topic-room c))
 
 add-payload-at : tie.Need-add-payload-at
 add-payload-at c = let d = c .before .before in

@@ -10,12 +10,13 @@ use borrow.Rule.Slice.PartMut.{putMid}
 use Rattle.octets.specs.Number.{four}
 use Rattle.octets.specs.Laid.{laid}
 use Rattle.octets.specs.Lays.{Lays}
-use Rattle.octets.proofs.Laying.{lays-more, lays-length, lays-rest, lays-within}
+use Rattle.octets.proofs.Laying.{lays-room, lays-more, lays-rest}
 use Rattle.message.specs.Message.{Message}
 use Rattle.message.specs.Frame.{bodyOf}
 use Rattle.message.specs.Writing.{givenMessage}
 use Rattle.draft.proofs.Bodies.{frame-length}
 use Rattle.writer.proofs.Bodies.{frame-bytes}
+use borrow.Author.Needs.{needs}
 use Rattle.writer.proofs.frame.write_frame.Statement.{statement}
 use Rattle.writer.proofs.frame.write_frame.Tie as tie
 
@@ -31,25 +32,31 @@ module _ (s : tie.Start) where
   room = omega (arith, long, s .pre .1 .1)
 
 -- the start and the body's length are laid
-module _ (c : tie.After-write-pair) where
+module _ (c : tie.After-put-row) where
   abbrev start : tie.Start
-  start = c .before .before .before .before .before .before
+  start = c .before .before .before .before .before .before .before
 
-  front : Lays (four 4293787666 ++ four (start .args .n - 8)) (start .args .out .now) (c .write-pair .last .0) 8
-  front = c .write-pair .ensures
+  front : Lays (four 4293787666 ++ four (start .args .n - 8)) (start .args .out .now) (c .put-row .last .0) 8
+  front = lays-room (omega (arith, room start)) (c .put-row .ensures)
 
-sub-write-pair : tie.Need-sub-write-pair
-sub-write-pair c = omega (arith, long (c .before .before .before .before .before))
-
-write-pair-requires : tie.Need-write-pair-requires
-write-pair-requires c κs = omega (arith, room (c .before .before .before .before .before))
+cast-t8 : tie.Need-cast-t8
+cast-t8 c = search needs
 
 sub-write-body : tie.Need-sub-write-body
-sub-write-body c = let d = c .before .before in
-    lays-within (front d) (omega (arith, room (start d)))
+sub-write-body c = omega (arith, long (c .before .before .before .before))
+
+slice-aggregate-put-row : tie.Need-slice-aggregate-put-row
+slice-aggregate-put-row c = search needs
+
+put-row-requires : tie.Need-put-row-requires
+put-row-requires c κs = tt
+
+sub-write-body-2 : tie.Need-sub-write-body-2
+sub-write-body-2 c = let d = c .before .before in
+    omega (arith, room (start d), d .put-row .kept .0)
 
 part-write-body-start : tie.Need-part-write-body-start
-part-write-body-start c = sub-write-body c
+part-write-body-start c = sub-write-body-2 c
 
 part-write-body-end : tie.Need-part-write-body-end
 part-write-body-end c = le-refl _
@@ -60,21 +67,20 @@ write-body-requires c κs = let d = c .before .before .before in
 
 -- the body is laid behind them
 module _ (e : tie.After-write-body) where
-  abbrev headed : tie.After-write-pair
+  abbrev headed : tie.After-put-row
   headed = e .before .before .before .before
 
   abbrev bytes : List ℕ
   bytes = (four 4293787666 ++ four (start headed .args .n - 8)) ++ bodyOf (given (start headed))
 
   abbrev left : List ℕ
-  left = putMid 8 (length (headed .write-pair .last .0) - 8) (headed .write-pair .last .0) (e .write-body .last .0)
+  left = putMid 8 (length (headed .put-row .last .0) - 8) (headed .put-row .last .0) (e .write-body .last .0)
 
   whole : Lays bytes (start headed .args .out .now) left (8 + e .write-body .result)
   whole = lays-more (front headed) (e .write-body .ensures)
 
 same-length : tie.Need-same-length
-same-length c = let e = c .before .before in
-    lays-length (whole e) (omega (arith, room (start (headed e))))
+same-length c = search needs
 
 returns : tie.Need-returns
 returns c = let e = c .before .before in
@@ -85,9 +91,11 @@ pub write-frame-spec : {M : Type 1} → statement M
 write-frame-spec =
     tie.close
     (tie.spec
-    sub-write-pair
-    write-pair-requires
+    cast-t8
     sub-write-body
+    slice-aggregate-put-row
+    put-row-requires
+    sub-write-body-2
     part-write-body-start
     part-write-body-end
     write-body-requires

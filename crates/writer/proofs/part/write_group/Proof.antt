@@ -1,16 +1,18 @@
--- `writer::part::write_group` meets its contract: the delimiter's size is laid behind the routes.
+-- `writer::part::write_group` meets its contract: the delimiter is laid behind the routes.
 -- Assumes nothing.
 use native.Mathlib.Omega.{arith}
 use native.Mathlib.Nat.{le-refl}
-use Prim.Native.Nat.{_≤_}
-use mathlib.Core.Path.{_≡_}
-use mathlib.Core.List.{[], _∷_, _++_}
+use Prim.Native.Nat.{ℕ, _+_, _≤_}
+use mathlib.Core.Path.{_≡_, refl}
+use mathlib.Core.List.{List, [], _∷_, _++_}
 use lib.ListN.{length}
-use Rattle.message.specs.Frame.{joined, groupIf}
+use Rattle.message.specs.Frame.{partBytes, joined, groupIf}
 use Rattle.message.specs.Writing.{cut}
+use Rattle.parts.proofs.Writing.{part-laid}
 use Rattle.writer.proofs.Parts.{group-parts}
 use Rattle.writer.proofs.Bodies.{front-fits}
-use Rattle.octets.proofs.Laying.{lays-more, lays-length, lays-within, lays-rest}
+use Rattle.octets.proofs.Buffers.{count-within}
+use Rattle.octets.proofs.Laying.{lays-more, lays-within, lays-rest}
 use borrow.Author.Needs.{needs}
 use Rattle.writer.proofs.part.write_group.Statement.{statement}
 use Rattle.writer.proofs.part.write_group.Tie as tie
@@ -26,36 +28,46 @@ module _ (d : tie.After-write-routes) where
   room : length (joined (cut (start .args .routes .now)) ++ (0 ∷ [])) ≤ length (start .args .out .now)
   room = rw parts at (start .pre .1)
 
+  at-end : d .write-routes .result ≤ length (d .write-routes .last .0)
+  at-end = lays-within (d .write-routes .ensures) (front-fits (joined (cut (start .args .routes .now))) (0 ∷ []) room)
+
+-- the data that the code gives the delimiter
+abbrev delimiter : List ℕ
+delimiter = []
+
 write-routes-requires : tie.Need-write-routes-requires
 write-routes-requires c κs = let start = c .before .before .before .before in
     let routes = start .args .routes .now in
     let room = rw (group-parts routes (c .before .if1 .taken)) at (start .pre .1) in
     (start .pre .0, front-fits (joined (cut routes)) (0 ∷ []) room)
 
-sub-write-size : tie.Need-sub-write-size
-sub-write-size c = let d = c .before .before in
-    lays-within (d .write-routes .ensures) (front-fits (joined (cut (start d .args .routes .now))) (0 ∷ []) (room d))
+sub-write-part : tie.Need-sub-write-part
+sub-write-part c = at-end (c .before .before)
 
-part-write-size-start : tie.Need-part-write-size-start
-part-write-size-start c = sub-write-size c
+part-write-part-start : tie.Need-part-write-part-start
+part-write-part-start c = at-end (c .before .before)
 
-part-write-size-end : tie.Need-part-write-size-end
-part-write-size-end c = le-refl _
+part-write-part-end : tie.Need-part-write-part-end
+part-write-part-end c = le-refl _
 
-write-size-requires : tie.Need-write-size-requires
-write-size-requires c κs = let d = c .before .before .before in
-    lays-rest (d .write-routes .ensures) (0 ∷ []) (room d)
+slice-aggregate-write-part : tie.Need-slice-aggregate-write-part
+slice-aggregate-write-part c = search needs
 
-returns : tie.Need-returns
-returns c = let d = c .before .before .before .before .before .before in
-    rw (parts d) (lays-more (d .write-routes .ensures) (c .before .before .write-size .ensures))
-
-same-length : tie.Need-same-length
-same-length c = lays-length (returns c) (start (c .before .before .before .before .before .before) .pre .1)
+write-part-requires : tie.Need-write-part-requires
+write-part-requires c κs = tt
 
 add-result : tie.Need-add-result
-add-result c = let s = start (c .before .before .before .before .before .before) in
-    omega (arith, returns c .told, s .pre .1, s .good)
+add-result c = let e = c .before .before in
+    let d = e .before .before .before .before .before in
+    omega (arith, count-within (partBytes delimiter) (d .write-routes .result) (d .write-routes .last .0) (at-end d) (e .write-part .ensures .0), d .write-routes .kept .0, start d .good)
+
+same-length : tie.Need-same-length
+same-length c = search needs
+
+returns : tie.Need-returns
+returns c = let e = c .before .before in
+    let d = e .before .before .before .before .before in
+    rw (parts d) (lays-more (d .write-routes .ensures) (part-laid {p = []} refl (lays-rest (d .write-routes .ensures) (0 ∷ []) (room d)) (e .write-part .ensures)))
 
 returns-2 : tie.Need-returns-2
 returns-2 c = search needs
@@ -65,10 +77,11 @@ write-group-spec =
     tie.close
     (tie.spec
     write-routes-requires
-    sub-write-size
-    part-write-size-start
-    part-write-size-end
-    write-size-requires
+    sub-write-part
+    part-write-part-start
+    part-write-part-end
+    slice-aggregate-write-part
+    write-part-requires
     add-result
     same-length
     returns

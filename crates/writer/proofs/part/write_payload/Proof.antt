@@ -1,21 +1,22 @@
 -- `writer::part::write_payload` meets its contract: a part, or nothing.
 -- Assumes nothing.
+use mathlib.Core.Path.{refl}
 use Rattle.writer.proofs.Parts.{one-part}
-use Rattle.octets.proofs.Laying.{lays-length}
+use Rattle.parts.proofs.Writing.{part-laid}
 use borrow.Author.Needs.{needs}
 use Rattle.writer.proofs.part.write_payload.Statement.{statement}
 use Rattle.writer.proofs.part.write_payload.Tie as tie
 
 write-part-requires : tie.Need-write-part-requires
-write-part-requires c κs =
-    let start = c .before .before .before .before in
-    rw (one-part (start .args .payload .now) (c .before .if1 .taken)) at (start .pre)
-
-returns : tie.Need-returns
-returns c = rw (one-part (c .before .before .before .before .before .before .before .args .payload .now) (c .before .before .before .before .if1 .taken)) (c .before .before .write-part .ensures)
+write-part-requires c κs = tt
 
 same-length : tie.Need-same-length
-same-length c = lays-length (returns c) (c .before .before .before .before .before .before .before .pre)
+same-length c = search needs
+
+returns : tie.Need-returns
+returns c = let start = c .before .before .before .before .before .before .before in
+    let one = one-part (start .args .payload .now) (c .before .before .before .before .if1 .taken) in
+    rw one (part-laid {p = start .args .payload .now} refl (rw one at (start .pre)) (c .before .before .write-part .ensures))
 
 returns-2 : tie.Need-returns-2
 returns-2 c = search needs

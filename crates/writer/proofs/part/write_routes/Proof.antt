@@ -12,7 +12,9 @@ use Rattle.message.specs.Frame.{partBytes, joined}
 use Rattle.message.specs.Writing.{cut}
 use Rattle.octets.specs.Lays.{Lays}
 use Rattle.draft.proofs.Cuts.{route-width}
+use Rattle.parts.proofs.Writing.{part-laid}
 use Rattle.writer.proofs.Parts.{cut-next}
+use Rattle.octets.proofs.Buffers.{count-within}
 use Rattle.octets.proofs.Laying.{lays-none, lays-more, lays-length, lays-rest}
 use Rattle.writer.proofs.part.write_routes.Statement.{statement}
 use Rattle.writer.proofs.part.write_routes.Tie as tie
@@ -81,28 +83,45 @@ part-write-part-end-2 : tie.Need-part-write-part-end-2 Inv-loop μ-loop
 part-write-part-end-2 c = omega (arith, c .before .before .before .before .before .pre .0)
 
 write-part-requires : tie.Need-write-part-requires Inv-loop μ-loop
-write-part-requires c κs =
-    let at-loop = c .before .before .before in
-    let start = at-loop .before .before .before in
-    let b = at-loop .loop .inv in
-    rw (route-width (at-loop .loop .i)) (lays-rest (b .lays) (partBytes (take 37 (drop (at-loop .loop .i) (start .args .routes .now)))) (next-room b (c .before .before .loop-test .taken) (start .pre .1)))
+write-part-requires c κs = tt
 
-loop-again : tie.Need-loop-again Inv-loop μ-loop
-loop-again c =
-    let at-loop = c .before .before .before .before .before .before in
-    next (at-loop .loop .inv) (c .before .before .before .before .before .loop-test .taken) (at-loop .before .before .before .pre .0)
-    (rw (route-width (at-loop .loop .i)) at (c .before .before .write-part .ensures))
+-- a route's part is written
+module _ (c : tie.After-write-part Inv-loop μ-loop) where
+  abbrev head : tie.At-loop Inv-loop μ-loop
+  head = c .before .before .before .before
+
+  abbrev start : tie.Start Inv-loop μ-loop
+  start = head .before .before .before
+
+  -- the bytes that the code takes for it
+  abbrev route : List ℕ
+  route = take (head .loop .i + 37 - head .loop .i) (drop (head .loop .i) (start .args .routes .now))
+
+  -- and lies in the output, whatever it holds
+  within : head .loop .at + c .write-part .result ≤ length (start .args .out .now)
+  within =
+      let b = head .loop .inv in
+      let long = begun-length b (start .pre .1) in
+      omega (arith, long, count-within (partBytes route) (head .loop .at) (head .loop .out) (omega (arith, begun-room b (start .pre .1), long, b .lays .told)) (c .write-part .ensures .0))
+
+  -- it is the part of the route at i
+  laid : Lays (partBytes (take 37 (drop (head .loop .i) (start .args .routes .now)))) (midOf (head .loop .at) (length (head .loop .out) - head .loop .at) (head .loop .out)) (c .write-part .last .0) (c .write-part .result)
+  laid =
+      let b = head .loop .inv in
+      let whole = take 37 (drop (head .loop .i) (start .args .routes .now)) in
+      part-laid (ap (λ (n : ℕ). take n (drop (head .loop .i) (start .args .routes .now))) (route-width (head .loop .i))) (lays-rest (b .lays) (partBytes whole) (next-room b (omega arith) (start .pre .1))) (c .write-part .ensures)
 
 add-at : tie.Need-add-at Inv-loop μ-loop
-add-at c =
-    let at-loop = c .before .before .before .before .before .before in
-    let start = at-loop .before .before .before in
-    omega (arith, loop-again c .lays .told, begun-room (loop-again c) (start .pre .1), start .good)
+add-at c = let d = c .before .before in
+    omega (arith, within d, start d .good)
 
 add-i : tie.Need-add-i Inv-loop μ-loop
-add-i c =
-    let at-loop = c .before .before .before .before .before .before in
-    omega (arith, loop-again c .within, at-loop .before .before .before .good)
+add-i c = let d = c .before .before in
+    omega (arith, start d .pre .0, head d .loop .inv .whole, start d .good)
+
+loop-again : tie.Need-loop-again Inv-loop μ-loop
+loop-again c = let d = c .before .before in
+    next (head d .loop .inv) (omega arith) (start d .pre .0) (laid d)
 
 loop-less : tie.Need-loop-less Inv-loop μ-loop
 loop-less c = omega (arith, c .before .before .before .before .before .loop-test .taken)
