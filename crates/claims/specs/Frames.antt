@@ -12,10 +12,10 @@ use Rattle.message.specs.Header.{hasTopic, hasPayload}
 use Rattle.message.specs.Message.{Message}
 use Rattle.message.specs.Frame.{frameOf}
 use Rattle.message.specs.Reading.{readingOf}
-use Rattle.message.specs.Writing.{givenMessage}
+use Rattle.message.specs.Writing.{routeLength, givenMessage}
 use Rattle.reader.specs.Places.{stretch}
 use Rattle.lampreycoil.specs.Calls.{Reads, Writes, readRecord, countRecord}
-use Rattle.claims.specs.Records.{numberIn, taken, fieldsIn, routesAt, topicAt, payloadAt, handedOn}
+use Rattle.claims.specs.Records.{numberIn, routePart, taken, fieldsIn, routesAt, topicAt, payloadAt, handedOn}
 
 -- ---- a record holds the message that was read
 
@@ -25,7 +25,7 @@ pub record Holds (bytes listed : List ℕ) (m : Message) : Type 0 where
   pub fields : fieldsIn listed ≡ m .header
   pub count : numberIn listed 7 ≡ length (m .routes)
   -- the first route where the record says, the others 38 bytes apart
-  pub routes : (i : ℕ) → i < length (m .routes) → stretch bytes (numberIn listed 8 + 38 * i) 37 ≡ getD (m .routes) i []
+  pub routes : (i : ℕ) → i < length (m .routes) → stretch bytes (numberIn listed 8 + routePart * i) routeLength ≡ getD (m .routes) i []
   -- "the reader shows it without the zero"
   pub topic : topicAt bytes listed ≡ m .topic
   pub payload : payloadAt bytes listed ≡ m .payload

@@ -5,7 +5,7 @@ use lib.ListN.{drop}
 use Rattle.octets.specs.Number.{number}
 use Rattle.message.specs.declared.Header.{Header}
 use Rattle.message.specs.Message.{Message}
-use Rattle.message.specs.Writing.{givenMessage}
+use Rattle.message.specs.Writing.{routeLength, givenMessage}
 use Rattle.reader.specs.Places.{stretch}
 use Rattle.lampreycoil.specs.Calls.{headerOf}
 
@@ -21,11 +21,15 @@ taken row = numberIn row 0
 abbrev pub fieldsIn : List ℕ → Header
 fieldsIn row = headerOf (numberIn row 1) (numberIn row 2) (numberIn row 3) (numberIn row 4) (numberIn row 5) (numberIn row 6)
 
+-- "its length grows by 38": a route with its size byte
+abbrev pub routePart : ℕ
+routePart = 38
+
 -- so many routes, laid end to end without their size bytes, where the first one's data starts at a place of the bytes and the others lie 38
 -- bytes apart
 abbrev pub routesFrom : List ℕ → ℕ → ℕ → List ℕ
 routesFrom bytes zero start = []
-routesFrom bytes (suc n) start = stretch bytes start 37 ++ routesFrom bytes n (start + 38)
+routesFrom bytes (suc n) start = stretch bytes start routeLength ++ routesFrom bytes n (start + routePart)
 
 -- the routes, the topic and the payload at the places that the record names: number of routes, start of the first route's data, topic start,
 -- topic length, payload start, payload length

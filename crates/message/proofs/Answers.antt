@@ -19,6 +19,15 @@ pub outcome : (t : Bool) → (t ≡ true) ⊎ (t ≡ false)
 outcome true = inl refl
 outcome false = inr refl
 
+-- two tests that hold in the same cases
+pub same-test : {a b : Bool} → (a ≡ true → b ≡ true) → (b ≡ true → a ≡ true) → a ≡ b
+same-test {a} {b} f g = go a b f g
+  where
+    go : (a b : Bool) → (a ≡ true → b ≡ true) → (b ≡ true → a ≡ true) → a ≡ b
+    go true b f g = sym (f refl)
+    go false true f g = g refl
+    go false false f g = refl
+
 pub and-left : (a b : Bool) → (a && b) ≡ true → a ≡ true
 and-left true b e = refl
 and-left false b e = e

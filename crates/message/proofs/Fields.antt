@@ -3,14 +3,20 @@
 use mathlib.Core.Path.{_≡_}
 use mathlib.Core.Bool.{Bool, true, false, not, _&&_}
 use lib.Dec.{eqb, ltb}
-use borrow.Author.Tests.{eq-eqb, ne-eqb}
+use Prim.Native.Nat.{_<_}
+use borrow.Author.Tests.{eq-eqb, ne-eqb, lt-ltb, eqb-true, ltb-true}
+use Rattle.message.proofs.Answers.{and-right}
 use Rattle.message.specs.declared.Header.{Header}
 use Rattle.message.specs.Header.{hasTopic, hasPayload, hasRoute, isType, isKnown, partsFit, fieldsGood}
 
 module _ (h : Header) where
-  pub known-type : isType (h .kind) ≡ true → isKnown h ≡ ltb (h .flags) 128
+  pub known-in : isType (h .kind) ≡ true → h .flags < 128 → isKnown h ≡ true
   unfolding isKnown
-  known-type e = rw e
+  known-in e l = rw (e, lt-ltb (h .flags) 128 l)
+
+  pub known-flags : isKnown h ≡ true → h .flags < 128
+  unfolding isKnown
+  known-flags e = ltb-true (h .flags) 128 (and-right (isType (h .kind)) (ltb (h .flags) 128) e)
 
   pub unknown-type : isType (h .kind) ≡ false → isKnown h ≡ false
   unfolding isKnown
@@ -34,9 +40,14 @@ module _ (h : Header) where
   unfolding fieldsGood
   request-fields e = rw (eq-eqb (h .kind) 1 e)
 
-  pub event-fields : (h .kind ≡ 1 → ⊥) → h .kind ≡ 4 → fieldsGood h ≡ eqb (h .second) 0
-  unfolding fieldsGood
-  event-fields n e = rw (ne-eqb (h .kind) 1 n, eq-eqb (h .kind) 4 e)
+  module _ (n : (h .kind ≡ 1 → ⊥)) (e : h .kind ≡ 4) where
+    pub event-good : h .second ≡ 0 → fieldsGood h ≡ true
+    unfolding fieldsGood
+    event-good z = rw (ne-eqb (h .kind) 1 n, eq-eqb (h .kind) 4 e, eq-eqb (h .second) 0 z)
+
+    pub event-unused : fieldsGood h ≡ true → h .second ≡ 0
+    unfolding fieldsGood
+    event-unused t = eqb-true (h .second) 0 (rw (ne-eqb (h .kind) 1 n, eq-eqb (h .kind) 4 e) at t)
 
   pub free-fields : (h .kind ≡ 1 → ⊥) → (h .kind ≡ 4 → ⊥) → fieldsGood h ≡ true
   unfolding fieldsGood

@@ -47,6 +47,10 @@ partsOf m = routing m ++ (topicPart m ++ (payloadPart m ++ (headerBytes (m .head
 abbrev pub frameStart : List ℕ
 frameStart = 0xFF ∷ 0xEE ∷ 0x00 ∷ 0x12 ∷ []
 
+-- "Body: at most 32,768 bytes."
+abbrev pub mostBody : ℕ
+mostBody = 32768
+
 -- "then the body: the parts, one after another"
 unfoldable pub bodyOf : Message → List ℕ
 bodyOf m = joined (partsOf m)

@@ -41,9 +41,19 @@ fieldsGood h =
     cond (eqb (h .kind) 1) (not (eqb (h .first) 4294967294))
     (cond (eqb (h .kind) 4) (eqb (h .second) 0) true)
 
+-- "The header .. has 20 bytes: 8E, 01, type, .."
+abbrev pub headerLength : ℕ
+headerLength = 20
+
+abbrev pub magic : ℕ
+magic = 0x8E
+
+abbrev pub version : ℕ
+version = 1
+
 -- "20 bytes: 8E, 01, type, flags, userid, rolemask, two 4-byte fields"
 unfoldable pub headerBytes : Header → List ℕ
-headerBytes h = 0x8E ∷ 1 ∷ h .kind ∷ h .flags ∷ (four (h .userid) ++ four (h .rolemask) ++ four (h .first) ++ four (h .second))
+headerBytes h = magic ∷ version ∷ h .kind ∷ h .flags ∷ (four (h .userid) ++ four (h .rolemask) ++ four (h .first) ++ four (h .second))
 
 -- the fields in the 20 bytes of a header
 unfoldable pub headerIn : List ℕ → Header
@@ -59,4 +69,4 @@ headerIn p =
 
 -- 6: "last part not 20 bytes; its magic, version, type or flag 80 wrong"
 unfoldable pub isHeader : List ℕ → Bool
-isHeader p = eqb (length p) 20 && (eqb (getD p 0 0) 0x8E && (eqb (getD p 1 0) 1 && isKnown (headerIn p)))
+isHeader p = eqb (length p) headerLength && (eqb (getD p 0 0) magic && (eqb (getD p 1 0) version && isKnown (headerIn p)))

@@ -13,7 +13,7 @@ use Rattle.form.specs.Count.{one}
 use Rattle.message.specs.Header.{hasTopic, hasPayload, hasRoute, partsFit, fieldsGood, headerIn, isHeader}
 use Rattle.form.specs.Forms.{isTopic}
 use Rattle.message.specs.Message.{Message}
-use Rattle.message.specs.Frame.{frameStart}
+use Rattle.message.specs.Frame.{frameStart, mostBody}
 use Rattle.message.specs.Writing.{routesGood}
 
 -- ---- the parts of a body
@@ -27,6 +27,10 @@ unfoldable pub firstPart : ℕ → List ℕ → Answer (List ℕ × List ℕ)
 firstPart size xs =
     cond (ltb size 255) (cutPart size xs)
     (refuseIf (ltb (length xs) 4 || ltb (number xs) 255) WrongSize (cutPart (number xs) (drop 4 xs)))
+
+-- "a 69th part begins"
+abbrev pub mostParts : ℕ
+mostParts = 68
 
 -- the parts of a run of bytes, of which at most `most` may come: 5 where one more begins, before its size is read
 unfoldable pub partsIn : ℕ → List ℕ → Answer (List (List ℕ))
@@ -108,6 +112,6 @@ unfoldable pub readingOf : List ℕ → Answer Message
 readingOf b =
     refuseIf (ltb (length b) 8) ShortInput
     (refuseIf (not (startsRight b)) WrongStart
-    (refuseIf (ltb 32768 (bodyLength b)) LongBody
+    (refuseIf (ltb mostBody (bodyLength b)) LongBody
     (refuseIf (ltb (length b) (8 + bodyLength b)) ShortInput
-    (andThen (partsIn 68 (take (bodyLength b) (drop 8 b))) judged))))
+    (andThen (partsIn mostParts (take (bodyLength b) (drop 8 b))) judged))))

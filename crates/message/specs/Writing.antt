@@ -10,7 +10,7 @@ use Rattle.message.specs.Answer.{Answer, answered, refuseIf, andThen}
 use Rattle.message.specs.Header.{hasTopic, hasPayload, hasRoute, isKnown, partsFit, fieldsGood}
 use Rattle.form.specs.Forms.{isRoute, isTopic}
 use Rattle.message.specs.Message.{Message}
-use Rattle.message.specs.Frame.{bodyOf, frameOf}
+use Rattle.message.specs.Frame.{mostBody, bodyOf, frameOf}
 
 abbrev pub isEmpty : {A : Type 0} → List A → Bool
 isEmpty [] = true
@@ -38,18 +38,22 @@ writing m =
     (refuseIf (not (routesGood (m .routes))) WrongRoute
     (refuseIf (hasTopic (m .header .flags) && not (isTopic (m .topic))) WrongTopic
     (refuseIf (not (fieldsGood (m .header))) WrongField
-    (refuseIf (ltb 32768 (length (bodyOf m))) LongBody
+    (refuseIf (ltb mostBody (length (bodyOf m))) LongBody
     (answered (frameOf m)))))))
 
 -- the same into an output of so many bytes: 11 comes last
 unfoldable pub writingInto : ℕ → Message → Answer (List ℕ)
 writingInto room m = andThen (writing m) (λ frame. refuseIf (ltb room (length frame)) ShortOutput (answered frame))
 
+-- "36 characters .. then a zero byte"
+abbrev pub routeLength : ℕ
+routeLength = 37
+
 -- "routes of 37 bytes each": the given bytes cut into routes, the last of which may be short and is then not of the form
 abbrev pub cutRoutes : ℕ → List ℕ → List (List ℕ)
 cutRoutes zero xs = []
 cutRoutes (suc k) [] = []
-cutRoutes (suc k) (x ∷ xs) = take 37 (x ∷ xs) ∷ cutRoutes k (drop 37 (x ∷ xs))
+cutRoutes (suc k) (x ∷ xs) = take routeLength (x ∷ xs) ∷ cutRoutes k (drop routeLength (x ∷ xs))
 
 -- all of them, cut
 abbrev pub cut : List ℕ → List (List ℕ)

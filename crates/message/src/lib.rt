@@ -3,13 +3,15 @@ ghost use mathlib.Core.Path.{_≡_};
 ghost use Rattle.message.specs.Refusals.{numberOf};
 ghost use Rattle.message.specs.Header.{hasTopic, hasPayload, hasRoute, isType, isKnown, partsFit, fieldsGood};
 
-// The numbers of "A frame" that more than one crate uses: the header's first two bytes and its length, FF EE 00 12 as one number, a route's
+// The numbers of "A frame" that more than one crate uses: the header's first two bytes, its length without and with its size byte, FF EE 00 12 as one number, a route's
 // length without and with its size byte, and the most routes and the most bytes that a body has.
 pub const MAGIC: u8 = 142;
 
 pub const VERSION: u8 = 1;
 
 pub const HEADER: usize = 20;
+
+pub const HEADER_PART: usize = 21;
 
 pub const START: u32 = 4293787666;
 
@@ -20,6 +22,9 @@ pub const ROUTE_PART: usize = 38;
 pub const MOST_ROUTES: usize = 64;
 
 pub const MOST_BODY: usize = 32768;
+
+// The nodeid that never appears on the wire.
+const NO_NODE: u32 = 4294967294;
 
 // Why a call says no: a name for each row of "Numbers for a no".
 pub enum Refusal {
@@ -154,7 +159,7 @@ pub fn fields_good(h: Header) -> bool
     ensures { λ r. ⌜ r ≡ fieldsGood h ⌝ }
 {
     if h.kind == 1 {
-        return h.first != 4294967294;
+        return h.first != NO_NODE;
     }
     if h.kind == 4 {
         return h.second == 0;

@@ -30,13 +30,13 @@ fn fields(p: &[u8]) -> Header
 pub(crate) fn read_header(p: &[u8]) -> Head
     ensures { λ r. ⌜ r ≡ headAs (now (p .entry)) ⌝ }
 {
-    if p.len() != 20 {
+    if p.len() != message::HEADER {
         return Head::Wrong;
     }
-    if p[0] != 142 {
+    if p[0] != message::MAGIC {
         return Head::Wrong;
     }
-    if p[1] != 1 {
+    if p[1] != message::VERSION {
         return Head::Wrong;
     }
     let h = fields(p);

@@ -1,4 +1,5 @@
 // What the parts of a body are: the header first, then 7 to 10 in the paper's order.
+use crate::FRONT;
 use crate::Frame;
 use crate::Reading;
 use crate::Stretch;
@@ -20,6 +21,11 @@ ghost use Rattle.message.specs.Writing.{allRoutes};
 ghost use Rattle.message.specs.Reading.{partsIn, front, judged, judgedAs, isTopicPart};
 ghost use Rattle.reader.specs.Places.{readAs};
 ghost use Rattle.reader.specs.Judging.{partsFound, Found, HasSize, stretchAt, firstRoute, pieceIf, Within, topicWrong, Placeable, placedAs, WalkedOver, Headed, Sorted};
+
+// The size byte of a route's part.
+const ROUTE_SIZE: u8 = 37;
+// Where the data of a first route starts: behind the bytes in front of the body, and its size byte.
+const FIRST_ROUTE: usize = 9;
 
 // Where a part's data lies in the body, and where the next part begins.
 struct Piece {
@@ -93,13 +99,13 @@ fn are_routes(body: &[u8], routes: usize) -> bool
     let mut i = 0;
     let mut at = 0;
     while i < routes {
-        if body[at] != 37 {
+        if body[at] != ROUTE_SIZE {
             return false;
         }
-        if !form::is_route(&body[at + 1..at + 38]) {
+        if !form::is_route(&body[at + 1..at + message::ROUTE_PART]) {
             return false;
         }
-        at += 38;
+        at += message::ROUTE_PART;
         i += 1;
     }
     true
@@ -109,7 +115,7 @@ fn are_routes(body: &[u8], routes: usize) -> bool
 fn first_route(routes: usize) -> usize
     ensures { λ r. ⌜ r ≡ firstRoute routes ⌝ }
 {
-    if routes == 0 { 0 } else { 9 }
+    if routes == 0 { 0 } else { FIRST_ROUTE }
 }
 
 // 9: whether there is to be a topic, and the part is none.
@@ -133,16 +139,16 @@ fn placed(size: usize, h: Header, routes: usize, topic: Piece, payload: Piece) -
 {
     let has_topic = message::has_topic(h.flags);
     Frame {
-        taken: 8 + size,
+        taken: FRONT + size,
         header: h,
         routes,
         route: first_route(routes),
         topic: Stretch {
-            start: if_set(has_topic, 8 + topic.at),
+            start: if_set(has_topic, FRONT + topic.at),
             len: topic.len - if_set(has_topic, 1),
         },
         payload: Stretch {
-            start: if_set(message::has_payload(h.flags), 8 + payload.at),
+            start: if_set(message::has_payload(h.flags), FRONT + payload.at),
             len: payload.len,
         },
     }
@@ -153,7 +159,7 @@ fn judge_rest(body: &[u8], h: Header, routes: usize) -> Reading
     requires { ⌜ Sorted (now body) h routes ⌝ }
     ensures { λ r. ⌜ r ≡ readAs (judgedAs h (front (partsFound (now (body .entry))))) ⌝ }
 {
-    let at = 38 * routes + if_set(message::has_route(h.flags), 1);
+    let at = message::ROUTE_PART * routes + if_set(message::has_route(h.flags), 1);
     let topic = piece_if(body, message::has_topic(h.flags), at);
     if topic_wrong(body, h.flags, topic) {
         return Reading::Refused(Refusal::WrongTopic);
@@ -176,7 +182,7 @@ fn judge_parts(body: &[u8], w: Walked, h: Header) -> Reading
     if !agree {
         return Reading::Refused(Refusal::WrongParts);
     }
-    if 64 < routes {
+    if message::MOST_ROUTES < routes {
         return Reading::Refused(Refusal::WrongRoute);
     }
     if are_routes(body, routes) {
@@ -192,7 +198,7 @@ fn judge_counted(body: &[u8], w: Walked) -> Reading
     ensures { λ r. ⌜ r ≡ readAs (andThen (partsIn 68 (now (body .entry))) judged) ⌝ }
 {
     let last = w.last;
-    if body.len() - last != 21 {
+    if body.len() - last != message::HEADER_PART {
         return Reading::Refused(Refusal::WrongHeader);
     }
     let start = last + 1;

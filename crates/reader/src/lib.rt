@@ -12,6 +12,9 @@ mod agree;
 mod header;
 mod judge;
 
+// Bytes in front of a body: the frame's four, and the body's length.
+const FRONT: usize = 8;
+
 // Where bytes lie, counted from the frame's front. Both are 0 where the part is absent.
 pub struct Stretch {
     pub start: usize,
@@ -39,26 +42,26 @@ fn starts_right(bytes: &[u8]) -> bool
     requires { ⌜ 4 ≤ length (now bytes) ⌝ }
     ensures { λ r. ⌜ r ≡ startsRight (now (bytes .entry)) ⌝ }
 {
-    octets::number_of(bytes[0], bytes[1], bytes[2], bytes[3]) == 4293787666
+    octets::number_of(bytes[0], bytes[1], bytes[2], bytes[3]) == message::START
 }
 
 // Reads the frame at the front of bytes. What lies behind it is ignored.
 pub fn read(bytes: &[u8]) -> Reading
     ensures { λ r. ⌜ r ≡ readAs (readingOf (now (bytes .entry))) ⌝ }
 {
-    if bytes.len() < 8 {
+    if bytes.len() < FRONT {
         return Reading::Refused(Refusal::ShortInput);
     }
     if !starts_right(bytes) {
         return Reading::Refused(Refusal::WrongStart);
     }
     let size = octets::number_of(bytes[4], bytes[5], bytes[6], bytes[7]) as usize;
-    if 32768 < size {
+    if message::MOST_BODY < size {
         return Reading::Refused(Refusal::LongBody);
     }
-    let end = 8 + size;
+    let end = FRONT + size;
     if bytes.len() < end {
         return Reading::Refused(Refusal::ShortInput);
     }
-    judge(&bytes[8..end])
+    judge(&bytes[FRONT..end])
 }

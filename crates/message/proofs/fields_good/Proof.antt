@@ -1,7 +1,10 @@
 -- `message::fields_good` meets its contract.
 -- Assumes nothing.
+use native.Mathlib.Omega.{arith}
 use mathlib.Core.Path.{sym}
-use Rattle.message.proofs.Fields.{request-fields, event-fields, free-fields}
+use borrow.Author.Tests.{eq-eqb, lt-ltb, eqb-true, ltb-true}
+use Rattle.message.proofs.Answers.{same-test}
+use Rattle.message.proofs.Fields.{request-fields, event-good, event-unused, free-fields}
 use Rattle.message.proofs.fields_good.Statement.{statement}
 use Rattle.message.proofs.fields_good.Tie as tie
 
@@ -9,7 +12,10 @@ returns : tie.Need-returns
 returns c = sym (request-fields (c .before .before .before .args .h) (c .before .if1 .taken))
 
 returns-2 : tie.Need-returns-2
-returns-2 c = sym (event-fields (c .before .before .before .before .before .args .h) (c .before .before .before .if1 .left) (c .before .if2 .taken))
+returns-2 c = let h = c .before .before .before .before .before .args .h in
+    let other = c .before .before .before .if1 .left in
+    let event = c .before .if2 .taken in
+    same-test (λ t. event-good h other event (omega (arith, eqb-true, ltb-true))) (λ good. omega (arith, eq-eqb, lt-ltb, event-unused h other event good))
 
 returns-3 : tie.Need-returns-3
 returns-3 c = sym (free-fields (c .before .before .before .before .args .h) (c .before .before .if1 .left) (c .if2 .left))

@@ -1,8 +1,11 @@
 -- `message::is_known` meets its contract.
 -- Assumes nothing.
 use borrow.Author.Needs.{needs}
+use native.Mathlib.Omega.{arith}
 use mathlib.Core.Path.{sym, _∙_}
-use Rattle.message.proofs.Fields.{known-type, unknown-type}
+use borrow.Author.Tests.{lt-ltb, le-leb, ltb-true, leb-true}
+use Rattle.message.proofs.Answers.{same-test}
+use Rattle.message.proofs.Fields.{known-in, known-flags, unknown-type}
 use Rattle.message.proofs.is_known.Statement.{statement}
 use Rattle.message.proofs.is_known.Tie as tie
 
@@ -10,7 +13,9 @@ is-type-requires : tie.Need-is-type-requires
 is-type-requires c κs = search needs
 
 returns : tie.Need-returns
-returns c = sym (known-type (c .before .before .before .args .h) (sym (c .before .before .is-type .ensures) ∙ c .before .if1 .taken))
+returns c = let h = c .before .before .before .args .h in
+    let type-known = sym (c .before .before .is-type .ensures) ∙ c .before .if1 .taken in
+    same-test (λ t. known-in h type-known (omega (arith, ltb-true, leb-true))) (λ known. omega (arith, lt-ltb, le-leb, known-flags h known))
 
 returns-2 : tie.Need-returns-2
 returns-2 c = sym (unknown-type (c .before .before .args .h) (sym (c .before .is-type .ensures) ∙ c .if1 .left))

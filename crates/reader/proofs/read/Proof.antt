@@ -24,19 +24,19 @@ module _ (c : tie.After-number-of) where
   bytes = right .before .before .before .before .args .bytes .now
 
   long : 8 ≤ length bytes
-  long = right .before .before .if1 .left
+  long = omega (arith, right .before .before .if1 .left)
 
   start : startsRight bytes ≡ true
   start = sym (right .before .starts-right .ensures) ∙ not-false _ (right .if2 .left)
 
 returns : tie.Need-returns
-returns c = sym (ap readAs (open-short (c .before .before .args .bytes .now) (c .if1 .taken)))
+returns c = sym (ap readAs (open-short (c .before .before .args .bytes .now) (omega (arith, c .if1 .taken))))
 
 starts-right-requires : tie.Need-starts-right-requires
 starts-right-requires c κs = search needs
 
 returns-2 : tie.Need-returns-2
-returns-2 c = sym (ap readAs (open-start (c .before .before .before .before .args .bytes .now) (c .before .before .if1 .left) (sym (c .before .starts-right .ensures) ∙ not-true _ (c .if2 .taken))))
+returns-2 c = sym (ap readAs (open-start (c .before .before .before .before .args .bytes .now) (omega (arith, c .before .before .if1 .left)) (sym (c .before .starts-right .ensures) ∙ not-true _ (c .if2 .taken))))
 
 shared-slice-read-number-of : tie.Need-shared-slice-read-number-of
 shared-slice-read-number-of c = search needs
@@ -58,14 +58,14 @@ cast-size c = search needs
 
 returns-3 : tie.Need-returns-3
 returns-3 c = let p = c .before in
-    sym (ap readAs (open-long _ (long p) (start p) _ (p .number-of .ensures) (c .if3 .taken)))
+    sym (ap readAs (open-long _ (long p) (start p) _ (p .number-of .ensures) (omega (arith, c .if3 .taken))))
 
 add-end : tie.Need-add-end
 add-end c = search needs
 
 returns-4 : tie.Need-returns-4
 returns-4 c = let p = c .before .before in
-    sym (ap readAs (open-cut _ (long p) (start p) _ (p .number-of .ensures) (c .before .if3 .left) (c .if4 .taken)))
+    sym (ap readAs (open-cut _ (long p) (start p) _ (p .number-of .ensures) (omega (arith, c .before .if3 .left)) (omega (arith, c .if4 .taken))))
 
 sub-judge : tie.Need-sub-judge
 sub-judge c = search needs
@@ -84,7 +84,7 @@ returns-5 c = let p = c .before .before .before .before in
     let n = p .number-of .result in
     let size : 8 + n - 8 ≡ n = omega arith in
     c .judge .ensures ∙ ap (λ (k : ℕ). readAs (andThen (partsIn 68 (take k (drop 8 (bytes p)))) judged)) size
-    ∙ sym (ap readAs (open-body _ (long p) (start p) n (p .number-of .ensures) (c .before .before .before .if3 .left) (c .before .before .if4 .left)))
+    ∙ sym (ap readAs (open-body _ (long p) (start p) n (p .number-of .ensures) (omega (arith, c .before .before .before .if3 .left)) (omega (arith, c .before .before .if4 .left))))
 
 pub read-spec : {M : Type 1} → statement M
 read-spec =

@@ -72,7 +72,12 @@ number-of-requires-4 : tie.Need-number-of-requires-4
 number-of-requires-4 c κs = search needs
 
 returns : tie.Need-returns
-returns c = fields-in (c .before .before .before .before .before .before .before .before .before .before .before .before .before .before .before .before .before .before .before .before .before .before .before .args .p .now) (c .before .before .before .before .before .before .before .before .before .before .before .before .before .before .before .number-of .ensures) (c .before .before .before .before .before .before .before .before .before .before .number-of2 .ensures) (c .before .before .before .before .before .number-of3 .ensures) (c .number-of4 .ensures)
+returns c =
+    let third = c .before .before .before .before .before in
+    let second = third .before .before .before .before .before in
+    let first = second .before .before .before .before .before in
+    let start = first .before .before .before .before .before .before .before .before in
+    fields-in (start .args .p .now) (first .number-of .ensures) (second .number-of2 .ensures) (third .number-of3 .ensures) (c .number-of4 .ensures)
 
 pub fields-spec : {M : Type 1} → statement M
 fields-spec =

@@ -49,7 +49,7 @@ returns c = sym (ap readAs (judged-parts _ _ (tested (c .before) ∙ not-true _ 
 returns-2 : tie.Need-returns-2
 returns-2 c = let e = c .before in
     let p = e .before .before in
-    sym (ap readAs (judged-routes _ _ (agree e) (many-routes _ _ _ (p .before .before .before .pre) _ (routes p) (agree e) (c .if2 .taken))))
+    sym (ap readAs (judged-routes _ _ (agree e) (many-routes _ _ _ (p .before .before .before .pre) _ (routes p) (agree e) (omega (arith, c .if2 .taken)))))
 
 are-routes-requires : tie.Need-are-routes-requires
 are-routes-requires c κs = let e = c .before in
@@ -60,7 +60,7 @@ are-routes-requires c κs = let e = c .before in
 judge-rest-requires : tie.Need-judge-rest-requires
 judge-rest-requires c κs = let e = c .before .before .before in
     let p = e .before .before in
-    sorted _ _ _ (p .before .before .before .pre) _ (routes p) (agree e) (c .before .before .if2 .left) (sym (c .before .are-routes .ensures) ∙ c .if3 .taken)
+    sorted _ _ _ (p .before .before .before .pre) _ (routes p) (agree e) (omega (arith, c .before .before .if2 .left)) (sym (c .before .are-routes .ensures) ∙ c .if3 .taken)
 
 returns-3 : tie.Need-returns-3
 returns-3 c = search needs
@@ -68,7 +68,7 @@ returns-3 c = search needs
 returns-4 : tie.Need-returns-4
 returns-4 c = let e = c .before .before .before in
     let p = e .before .before in
-    sym (ap readAs (judged-routes _ _ (agree e) (routes-tested _ _ _ (p .before .before .before .pre) _ (routes p) (agree e) (c .before .before .if2 .left) ∙ sym (c .before .are-routes .ensures) ∙ c .if3 .left)))
+    sym (ap readAs (judged-routes _ _ (agree e) (routes-tested _ _ _ (p .before .before .before .pre) _ (routes p) (agree e) (omega (arith, c .before .before .if2 .left)) ∙ sym (c .before .are-routes .ensures) ∙ c .if3 .left)))
 
 pub judge-parts-spec : {M : Type 1} → statement M
 judge-parts-spec =
