@@ -161,10 +161,12 @@ fn judge_rest(body: &[u8], h: Header, routes: usize) -> Reading
 {
     let at = message::ROUTE_PART * routes + if_set(message::has_route(h.flags), 1);
     let topic = piece_if(body, message::has_topic(h.flags), at);
-    if topic_wrong(body, h.flags, topic) {
+    let wrong = topic_wrong(body, h.flags, topic);
+    let good = message::fields_good(h);
+    if wrong {
         return Reading::Refused(Refusal::WrongTopic);
     }
-    if message::fields_good(h) {
+    if good {
         let payload = piece_if(body, message::has_payload(h.flags), topic.next);
         Reading::Accepted(placed(body.len(), h, routes, topic, payload))
     } else {

@@ -56,10 +56,10 @@ pub fn read(bytes: &[u8]) -> Reading
         return Reading::Refused(Refusal::WrongStart);
     }
     let size = octets::number_of(bytes[4], bytes[5], bytes[6], bytes[7]) as usize;
+    let end = FRONT + size;
     if message::MOST_BODY < size {
         return Reading::Refused(Refusal::LongBody);
     }
-    let end = FRONT + size;
     if bytes.len() < end {
         return Reading::Refused(Refusal::ShortInput);
     }

@@ -99,8 +99,8 @@ read-spec =
     shared-slice-read-number-of-4
     number-of-requires
     cast-size
-    returns-3
     add-end
+    returns-3
     returns-4
     sub-judge
     part-judge-start

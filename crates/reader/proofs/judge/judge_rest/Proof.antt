@@ -56,12 +56,12 @@ tested c =
     let p = c .before .before .before in
     sym (topic-tested _ _ _ (sorted p) (bytes p) (at p) (place p) _ (is-topic (c .before))) ∙ sym (c .topic-wrong .ensures)
 
-good : (c : tie.Else1) → (let p = c .before .before .before .before in (hasTopic (h p .flags) && not (isTopicPart (topicData (body p) (h p) (routes p) (sorted p) (bytes p)))) ≡ false)
-good c = tested (c .before) ∙ c .if1 .left
+good : (c : tie.Else1) → (let p = c .before .before .before .before .before in (hasTopic (h p .flags) && not (isTopicPart (topicData (body p) (h p) (routes p) (sorted p) (bytes p)))) ≡ false)
+good c = tested (c .before .before) ∙ c .if1 .left
 
 -- 10 is what was tested, and the test is passed
 fields : (c : tie.Then2) → fieldsGood (h (c .before .before .before .before .before .before)) ≡ true
-fields c = sym (c .before .fields-good .ensures) ∙ c .if2 .taken
+fields c = sym (c .before .before .fields-good .ensures) ∙ c .if2 .taken
 
 -- the payload's piece
 is-payload : (c : tie.After-piece-if2) → (let q = c .before .before .before .before .before .before in let p = q .before .before in c .piece-if2 .result ≡ pieceIf (hasPayload (h p .flags)) (q .piece-if .result .next) (partsFound (drop (q .piece-if .result .next) (body p))))
@@ -94,13 +94,13 @@ topic-wrong-requires c κs =
     let p = c .before .before in
     topic-within _ _ _ (sorted p) (bytes p) (at p) (place p) _ (is-topic c)
 
-returns : tie.Need-returns
-returns c =
-    let p = c .before .before .before .before in
-    sym (ap readAs (judged-topic _ _ (sorted p .agree) (sorted p .good) (tested (c .before) ∙ c .if1 .taken)))
-
 fields-good-requires : tie.Need-fields-good-requires
 fields-good-requires c κs = search needs
+
+returns : tie.Need-returns
+returns c =
+    let p = c .before .before .before .before .before in
+    sym (ap readAs (judged-topic _ _ (sorted p .agree) (sorted p .good) (tested (c .before .before) ∙ c .if1 .taken)))
 
 has-payload-requires : tie.Need-has-payload-requires
 has-payload-requires c κs = search needs
@@ -114,15 +114,15 @@ piece-if-requires-2 c κs =
 
 placed-requires : tie.Need-placed-requires
 placed-requires c κs =
-    let e = c .before .before .before .before in
-    let q = e .before .before in
+    let e = c .before .before .before in
+    let q = e .before .before .before in
     let p = q .before .before in
     placeable _ _ _ (sorted p) (bytes p) (at p) (place p) _ (is-topic q) _ (is-payload c) (good e)
 
 returns-2 : tie.Need-returns-2
 returns-2 c =
-    let e = c .before .before .before .before .before in
-    let q = e .before .before in
+    let e = c .before .before .before .before in
+    let q = e .before .before .before in
     let p = q .before .before in
     let f = fields (c .before .before .before) in
     let answer = answer-is _ _ _ (sorted p) (bytes p) (at p) (place p) _ (is-topic q) _ (is-payload (c .before)) (good e) f in
@@ -130,9 +130,9 @@ returns-2 c =
 
 returns-3 : tie.Need-returns-3
 returns-3 c =
-    let e = c .before .before in
-    let p = e .before .before .before .before in
-    sym (ap readAs (judged-field _ _ (sorted p .agree) (sorted p .good) (good e) (sym (c .before .fields-good .ensures) ∙ c .if2 .left)))
+    let e = c .before in
+    let p = e .before .before .before .before .before in
+    sym (ap readAs (judged-field _ _ (sorted p .agree) (sorted p .good) (good e) (sym (e .before .fields-good .ensures) ∙ c .if2 .left)))
 
 pub judge-rest-spec : {M : Type 1} → statement M
 judge-rest-spec =
@@ -145,8 +145,8 @@ judge-rest-spec =
     has-topic-requires
     piece-if-requires
     topic-wrong-requires
-    returns
     fields-good-requires
+    returns
     has-payload-requires
     piece-if-requires-2
     placed-requires
