@@ -13,14 +13,15 @@ use borrow.Author.Tests.{eq-eqb, ne-eqb, eqb-true, lt-ltb, le-ltb}
 use Rattle.message.specs.declared.Header.{Header}
 use Rattle.message.specs.declared.Refusal.{Refusal}
 use Rattle.message.specs.declared.Refusal.the-variants.{LongBody, WrongHeader, WrongParts, WrongRoute, WrongTopic, WrongField, ShortOutput}
-use Rattle.message.specs.Answer.{Answer, refused, answered, refuseIf, andThen}
+use Rattle.message.specs.Answer.{Answer, refuseIf, andThen}
 use Rattle.message.specs.Header.{hasTopic, hasPayload, hasRoute, isKnown, partsFit, fieldsGood}
 use Rattle.message.specs.Message.{Message}
 use Rattle.form.specs.Forms.{isTopic}
 use Rattle.message.specs.Frame.{bodyOf, frameOf}
 use Rattle.message.specs.Writing.{isEmpty, partsGivenFit, routesGood, cut, writing, writingInto, givenMessage}
 use Rattle.draft.specs.declared.Written.the-variants.{Refused, Frame}
-use Rattle.draft.specs.Written.{writtenAs, measured}
+use Rattle.draft.specs.Written.{writtenAs}
+use Rattle.draft.specs.Private.{measured}
 use Rattle.form.proofs.Topics.{topic-long}
 use Rattle.draft.proofs.Cuts.{cut-empty}
 use Rattle.draft.proofs.Bodies.{payload-shorter}
@@ -112,18 +113,14 @@ module _ (h : Header) (routes topic payload : List ℕ) where
         go false e g = absurd (omega (arith, is-empty payload g))
 
 module _ (room : ℕ) (m : Message) where
-  pub measured-long : 32768 < length (bodyOf m) → measured room m ≡ refused LongBody
+  pub measured-long : 32768 < length (bodyOf m) → Refused LongBody ≡ writtenAs (measured room m)
   unfolding measured
   measured-long l = rw (lt-ltb 32768 (length (bodyOf m)) l)
 
-  pub measured-short : length (bodyOf m) ≤ 32768 → room < length (frameOf m) → measured room m ≡ refused ShortOutput
+  pub measured-short : length (bodyOf m) ≤ 32768 → room < length (frameOf m) → Refused ShortOutput ≡ writtenAs (measured room m)
   unfolding measured
   measured-short l h = rw (le-ltb 32768 (length (bodyOf m)) l, lt-ltb room (length (frameOf m)) h)
 
-  measured-fits : length (bodyOf m) ≤ 32768 → length (frameOf m) ≤ room → measured room m ≡ answered (frameOf m)
+  pub measured-fits : {n : ℕ} → length (bodyOf m) ≤ 32768 → length (frameOf m) ≤ room → n ≡ length (frameOf m) → Frame n ≡ writtenAs (measured room m)
   unfolding measured
-  measured-fits l h = rw (le-ltb 32768 (length (bodyOf m)) l, le-ltb room (length (frameOf m)) h)
-
-  -- and its length is told
-  pub measured-told : {n : ℕ} → length (bodyOf m) ≤ 32768 → length (frameOf m) ≤ room → n ≡ length (frameOf m) → Frame n ≡ writtenAs (measured room m)
-  measured-told l h e = ap Frame e ∙ ap writtenAs (sym (measured-fits l h))
+  measured-fits l h e = rw (le-ltb 32768 (length (bodyOf m)) l, le-ltb room (length (frameOf m)) h, e)

@@ -1,7 +1,7 @@
 -- `draft::measure` meets its contract: what 6 to 10 let through is short enough to be added up, but for the payload.
 -- Assumes nothing.
 use native.Mathlib.Omega.{arith}
-use mathlib.Core.Path.{_≡_, refl, sym, ap}
+use mathlib.Core.Path.{_≡_, refl}
 use mathlib.Core.List.{List}
 use Prim.Native.Nat.{ℕ, _+_, _%_, _<_, _≤_}
 use lib.ListN.{length}
@@ -11,10 +11,11 @@ use Rattle.message.specs.Message.{Message}
 use Rattle.message.specs.Frame.{bodyOf}
 use Rattle.message.specs.Writing.{givenMessage}
 use Rattle.draft.specs.declared.Written.the-variants.{Refused, Frame}
-use Rattle.draft.specs.Written.{writtenAs, measured}
+use Rattle.draft.specs.Written.{writtenAs}
+use Rattle.draft.specs.Private.{measured}
 use Rattle.draft.proofs.Cuts.{good-few, good-whole}
 use Rattle.draft.proofs.Bodies.{body-most, frame-length}
-use Rattle.draft.proofs.Judging.{topic-short, payload-long, measured-long, measured-short, measured-told}
+use Rattle.draft.proofs.Judging.{topic-short, payload-long, measured-long, measured-short, measured-fits}
 use Rattle.draft.proofs.measure.Statement.{statement}
 use Rattle.draft.proofs.measure.Tie as tie
 
@@ -40,7 +41,7 @@ module _ (s : tie.Start) where
 
 returns : tie.Need-returns
 returns c = let s = c .before .before .before .before in
-    ap writtenAs (sym (measured-long (s .args .room) (given s) (long s (omega arith))))
+    measured-long (s .args .room) (given s) (long s (omega arith))
 
 body-length-requires : tie.Need-body-length-requires
 body-length-requires c κs = let s = c .before .before .before .before in
@@ -61,14 +62,14 @@ module _ (d : tie.After-body-length) where
   answer = measured (start .args .room) (given start)
 
   told-long : 32768 < body → Refused LongBody ≡ writtenAs answer
-  told-long l = ap writtenAs (sym (measured-long (start .args .room) (given start) (omega (arith, d .body-length .ensures))))
+  told-long l = measured-long (start .args .room) (given start) (omega (arith, d .body-length .ensures))
 
   told-short : body ≤ 32768 → start .args .room < body + 8 → Refused ShortOutput ≡ writtenAs answer
-  told-short l h = ap writtenAs (sym (measured-short (start .args .room) (given start) (omega (arith, d .body-length .ensures)) (omega (arith, d .body-length .ensures, frame-length (given start)))))
+  told-short l h = measured-short (start .args .room) (given start) (omega (arith, d .body-length .ensures)) (omega (arith, d .body-length .ensures, frame-length (given start)))
 
   told-frame : body ≤ 32768 → body + 8 ≤ start .args .room → {n : ℕ} → n ≡ body + 8 → Frame n ≡ writtenAs answer
   told-frame l h e =
-      measured-told (start .args .room) (given start) (omega (arith, d .body-length .ensures)) (omega (arith, d .body-length .ensures, frame-length (given start))) (omega (arith, e, d .body-length .ensures, frame-length (given start)))
+      measured-fits (start .args .room) (given start) (omega (arith, d .body-length .ensures)) (omega (arith, d .body-length .ensures, frame-length (given start))) (omega (arith, e, d .body-length .ensures, frame-length (given start)))
 
 returns-2 : tie.Need-returns-2
 returns-2 c = told-long (c .before) (omega arith)
