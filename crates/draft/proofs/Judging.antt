@@ -9,24 +9,35 @@ use native.Mathlib.Decide.{decLe}
 use native.Mathlib.Nat.{lt-of-not-le}
 use lib.Dec.{eqb}
 use lib.ListN.{length}
-use borrow.Author.Tests.{ne-eqb, eqb-true, lt-ltb, le-ltb}
+use borrow.Author.Tests.{eq-eqb, ne-eqb, eqb-true, lt-ltb, le-ltb}
 use Rattle.message.specs.declared.Header.{Header}
 use Rattle.message.specs.declared.Refusal.{Refusal}
 use Rattle.message.specs.declared.Refusal.the-variants.{LongBody, WrongHeader, WrongParts, WrongRoute, WrongTopic, WrongField, ShortOutput}
-use Rattle.message.specs.Answer.{Answer, refused, answered, refuseIf, andThen}
+use Rattle.message.specs.Answer.{Answer, refuseIf, andThen}
 use Rattle.message.specs.Header.{hasTopic, hasPayload, hasRoute, isKnown, partsFit, fieldsGood}
 use Rattle.message.specs.Message.{Message}
 use Rattle.form.specs.Forms.{isTopic}
 use Rattle.message.specs.Frame.{bodyOf, frameOf}
 use Rattle.message.specs.Writing.{isEmpty, partsGivenFit, routesGood, cut, writing, writingInto, givenMessage}
-use Rattle.draft.specs.Written.{measured}
+use Rattle.draft.specs.declared.Written.the-variants.{Refused, Frame}
+use Rattle.draft.specs.Written.{writtenAs}
+use Rattle.draft.specs.Private.{measured}
 use Rattle.form.proofs.Topics.{topic-long}
 use Rattle.draft.proofs.Cuts.{cut-empty}
 use Rattle.draft.proofs.Bodies.{payload-shorter}
 
-pub empty-length : (xs : List ℕ) → eqb (length xs) 0 ≡ isEmpty xs
+empty-length : (xs : List ℕ) → eqb (length xs) 0 ≡ isEmpty xs
 empty-length [] = refl
 empty-length (x ∷ xs) = ne-eqb (suc (length xs)) 0 (λ (e : suc (length xs) ≡ 0). omega arith)
+
+-- an empty part may be given, and one that is not where its flag is set
+pub given-empty : (flag : Bool) (xs : List ℕ) → length xs ≡ 0 → true ≡ (flag || isEmpty xs)
+given-empty true xs e = refl
+given-empty false xs e = sym (sym (empty-length xs) ∙ eq-eqb (length xs) 0 e)
+
+pub given-full : (flag : Bool) (xs : List ℕ) → 0 < length xs → flag ≡ (flag || isEmpty xs)
+given-full true xs h = refl
+given-full false xs h = sym (sym (empty-length xs) ∙ ne-eqb (length xs) 0 (λ (e : length xs ≡ 0). omega arith))
 
 last-two : (f a b c : Bool) → (f && (a && (b && c))) ≡ true → (b ≡ true) × (c ≡ true)
 last-two true true true c e = (refl, e)
@@ -41,6 +52,29 @@ is-empty xs e = eqb-true (length xs) 0 (empty-length xs ∙ e)
 then-if : (test : Bool) (r : Refusal) (next : Answer (List ℕ)) (f : List ℕ → Answer (List ℕ)) → andThen (refuseIf test r next) f ≡ refuseIf test r (andThen next f)
 then-if true r next f = refl
 then-if false r next f = refl
+
+-- the order in which 6 to 10 are told, by what their tests found, and what is told after each
+pub record Order (header parts route topic field : Bool) (rest whole : Answer (List ℕ)) : Type 0 where
+  pub order : refuseIf header WrongHeader (refuseIf parts WrongParts (refuseIf route WrongRoute (refuseIf topic WrongTopic (refuseIf field WrongField rest)))) ≡ whole
+
+module _ {h p r t f : Bool} {rest whole : Answer (List ℕ)} (o : Order h p r t f rest whole) where
+  pub told-header : h ≡ true → Refused WrongHeader ≡ writtenAs whole
+  told-header e₁ = ap writtenAs (rw e₁ at (o .order))
+
+  pub told-parts : h ≡ false → p ≡ true → Refused WrongParts ≡ writtenAs whole
+  told-parts e₁ e₂ = ap writtenAs (rw (e₁, e₂) at (o .order))
+
+  pub told-route : h ≡ false → p ≡ false → r ≡ true → Refused WrongRoute ≡ writtenAs whole
+  told-route e₁ e₂ e₃ = ap writtenAs (rw (e₁, e₂, e₃) at (o .order))
+
+  pub told-topic : h ≡ false → p ≡ false → r ≡ false → t ≡ true → Refused WrongTopic ≡ writtenAs whole
+  told-topic e₁ e₂ e₃ e₄ = ap writtenAs (rw (e₁, e₂, e₃, e₄) at (o .order))
+
+  pub told-field : h ≡ false → p ≡ false → r ≡ false → t ≡ false → f ≡ true → Refused WrongField ≡ writtenAs whole
+  told-field e₁ e₂ e₃ e₄ e₅ = ap writtenAs (rw (e₁, e₂, e₃, e₄, e₅) at (o .order))
+
+  pub told-rest : h ≡ false → p ≡ false → r ≡ false → t ≡ false → f ≡ false → writtenAs rest ≡ writtenAs whole
+  told-rest e₁ e₂ e₃ e₄ e₅ = ap writtenAs (rw (e₁, e₂, e₃, e₄, e₅) at (o .order))
 
 module _ (h : Header) (routes topic payload : List ℕ) where
   -- r, t and p say which flags are set, f whether they fit the type
@@ -79,14 +113,14 @@ module _ (h : Header) (routes topic payload : List ℕ) where
         go false e g = absurd (omega (arith, is-empty payload g))
 
 module _ (room : ℕ) (m : Message) where
-  pub measured-long : 32768 < length (bodyOf m) → measured room m ≡ refused LongBody
+  pub measured-long : 32768 < length (bodyOf m) → Refused LongBody ≡ writtenAs (measured room m)
   unfolding measured
   measured-long l = rw (lt-ltb 32768 (length (bodyOf m)) l)
 
-  pub measured-short : length (bodyOf m) ≤ 32768 → room < length (frameOf m) → measured room m ≡ refused ShortOutput
+  pub measured-short : length (bodyOf m) ≤ 32768 → room < length (frameOf m) → Refused ShortOutput ≡ writtenAs (measured room m)
   unfolding measured
   measured-short l h = rw (le-ltb 32768 (length (bodyOf m)) l, lt-ltb room (length (frameOf m)) h)
 
-  pub measured-fits : length (bodyOf m) ≤ 32768 → length (frameOf m) ≤ room → measured room m ≡ answered (frameOf m)
+  pub measured-fits : {n : ℕ} → length (bodyOf m) ≤ 32768 → length (frameOf m) ≤ room → n ≡ length (frameOf m) → Frame n ≡ writtenAs (measured room m)
   unfolding measured
-  measured-fits l h = rw (le-ltb 32768 (length (bodyOf m)) l, le-ltb room (length (frameOf m)) h)
+  measured-fits l h e = rw (le-ltb 32768 (length (bodyOf m)) l, le-ltb room (length (frameOf m)) h, e)

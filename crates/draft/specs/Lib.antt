@@ -1,3 +1,3 @@
--- What the clauses of this crate's functions cite.
+-- To be believed: Written, which the public promises cite. Private serves the code's proofs alone: only private functions promise it.
 pub mod Written
-pub mod Parts
+pub mod Private

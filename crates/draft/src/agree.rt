@@ -10,11 +10,14 @@ use message::Header;
 // How many bytes the most routes have.
 const MOST_ROUTES: usize = message::MOST_ROUTES * message::ROUTE;
 
-// Whether a part may be given: its flag is set, or it is empty.
+// Whether a part may be given: it is empty, or its flag is set.
 fn may_be_given(flag: bool, part: &[u8]) -> bool
     ensures { λ r. ⌜ r ≡ (flag || isEmpty (now (part .entry))) ⌝ }
 {
-    if flag { true } else { part.len() == 0 }
+    if part.len() == 0 {
+        return true;
+    }
+    flag
 }
 
 // Whether the flags fit the type and no part is given without its flag.

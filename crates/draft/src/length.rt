@@ -4,7 +4,7 @@ ghost use Prim.Native.Nat.{_≤_, _%_};
 ghost use lib.ListN.{length};
 ghost use Rattle.message.specs.Frame.{bodyOf};
 ghost use Rattle.message.specs.Writing.{givenMessage};
-ghost use Rattle.draft.specs.Parts.{partLength, groupLength};
+ghost use Rattle.draft.specs.Private.{partLength, groupLength};
 use message::Header;
 
 // How many bytes the header takes with its size.

@@ -5,7 +5,8 @@ ghost use lib.ListN.{length};
 ghost use Rattle.message.specs.Header.{hasTopic, partsFit};
 ghost use Rattle.form.specs.Forms.{isTopic};
 ghost use Rattle.message.specs.Writing.{partsGivenFit, routesGood, cut, writingInto, givenMessage};
-ghost use Rattle.draft.specs.Written.{writtenAs, measured};
+ghost use Rattle.draft.specs.Written.{writtenAs};
+ghost use Rattle.draft.specs.Private.{measured};
 use message::Header;
 use message::Refusal;
 

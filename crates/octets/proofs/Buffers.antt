@@ -40,6 +40,10 @@ length-laid xs out h = simp (length-append, length-drop) (omega arith)
 pub length-lent : (at : ℕ) (out last : List ℕ) → length last ≡ length (midOf at (length out - at) out) → length (putMid at (length out - at) out last) ≡ length out
 length-lent at out last h = same-len-mid at (length out - at) out last h
 
+-- it has room there for what fits behind the place
+pub room-lent : (at : ℕ) (out : List ℕ) {n : ℕ} → at + n ≤ length out → n ≤ length (midOf at (length out - at) out)
+room-lent at out h = omega (arith, ap length (part-to-end out at), length-drop at out)
+
 -- and what was laid there, however much, ends in the buffer
 pub count-within : (xs : List ℕ) (at : ℕ) (out : List ℕ) {n : ℕ} → at ≤ length out → n ≡ laidCount xs (midOf at (length out - at) out) → at + n ≤ length out
 count-within xs at out h e = omega (arith, count-most xs (midOf at (length out - at) out), ap length (part-to-end out at), length-drop at out)

@@ -1,2 +1,4 @@
--- What the clauses of this crate's functions cite.
+-- To be believed: Walk, which the public promises cite (a part that is written is that of the message's Frame and of the octets' Laid).
+-- Private serves the code's proofs alone: only private functions promise it.
+pub mod Private
 pub mod Walk

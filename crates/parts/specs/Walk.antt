@@ -1,8 +1,6 @@
 -- What the walk over a body's parts finds, of the list of parts. Assumes nothing.
-use Prim.Native.Nat.{ℕ, _+_}
-use mathlib.Core.Bool.{cond, not, _&&_}
+use Prim.Native.Nat.{ℕ}
 use mathlib.Core.List.{List, [], _∷_}
-use lib.Dec.{eqb}
 use lib.ListN.{length}
 use Rattle.message.specs.Answer.{Answer, refused, answered}
 use Rattle.message.specs.Frame.{sizeBytes, joined}
@@ -11,6 +9,7 @@ use Rattle.parts.specs.declared.size.Size.{Size}
 use Rattle.parts.specs.declared.size.Size.the-variants.{Wrong, Data}
 use Rattle.parts.specs.declared.walk.Walk.{Walk}
 use Rattle.parts.specs.declared.walk.Walk.the-variants.{Refused, Counted}
+pub use Rattle.parts.specs.Private.{nextEmpty}
 
 -- a part that was cut: its data starts behind its size
 abbrev pub sizedAs : Answer (List ℕ × List ℕ) → Size
@@ -25,7 +24,3 @@ sizeAt (x ∷ xs) = sizedAs (firstPart x xs)
 abbrev pub walkedAs : Answer (List (List ℕ)) → Walk
 walkedAs (refused r) = Refused r
 walkedAs (answered ps) = Counted (record { count = length ps; empty = length (beforeEmpty ps); last = length (joined (front ps)) })
-
--- the parts in front of the first empty one, counted after one part more: it counts if none was empty so far, and it is not
-abbrev pub nextEmpty : ℕ → ℕ → ℕ → ℕ
-nextEmpty count empty len = cond (eqb empty count && not (eqb len 0)) (empty + 1) empty

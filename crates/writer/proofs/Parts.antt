@@ -1,15 +1,15 @@
 -- Laws on the parts that are written: the routes one at a time, and the parts that are there only where their flag is set.
 -- Assumes nothing.
-use mathlib.Core.Path.{_≡_, refl, sym, ap, _∙_}
+use mathlib.Core.Path.{_≡_, refl}
 use mathlib.Core.Bool.{Bool, true}
-use Prim.Native.Nat.{ℕ, suc, _+_, _-_, _<_, _≤_}
-use mathlib.Core.List.{List, [], _∷_, _++_, append-nil, append-assoc}
+use Prim.Native.Nat.{ℕ, _+_, _-_, _<_}
+use mathlib.Core.List.{List, [], _∷_, _++_, append-nil}
 use native.Mathlib.Omega.{arith}
-use lib.ListN.{length, getD, take, drop, replicate, length-append, length-drop, length-replicate, getD-replicate}
-use lib.Seq.{drop-drop, drop-cons, take-at}
+use lib.ListN.{length, take, drop, replicate, length-drop}
+use lib.Seq.{drop-drop, take-at}
 use Rattle.octets.specs.Number.{rowBytes}
 use Rattle.octets.specs.Laid.{laidIfRoom}
-use Rattle.octets.proofs.Buffers.{laid-room}
+use Rattle.octets.specs.Lays.{Lays}
 use Rattle.message.specs.declared.Header.{Header}
 use Rattle.message.specs.Header.{headerBytes}
 use Rattle.message.specs.Frame.{partBytes, joined, partIf, groupIf}
@@ -29,19 +29,11 @@ module _ {given : Bool} where
   pub group-parts : (routes : List ℕ) → given ≡ true → joined (groupIf given (cut routes)) ≡ joined (cut routes) ++ (0 ∷ [])
   group-parts routes e = rw (e, joined-append)
 
--- a topic laid over zero bytes, and the one behind it
-abbrev zeros : List ℕ
-zeros = replicate 256 0
-
-pub zero-ended : (topic : List ℕ) {held : List ℕ} → length topic ≤ 255 → held ≡ laidIfRoom topic (replicate 256 0) → take (length topic + 1 - 0) held ≡ topic ++ (0 ∷ [])
-zero-ended topic {held} h e =
-    let n = length topic in
-    let long : length zeros ≡ 256 = length-replicate {A = ℕ} 256 0 in
-    let first : getD zeros n 0 ≡ 0 = getD-replicate {A = ℕ} 256 n 0 0 (omega arith) in
-    let behind : drop n zeros ≡ 0 ∷ drop (suc n) zeros = drop-cons zeros n 0 (omega (arith, long)) ∙ ap (λ (z : ℕ). z ∷ drop (suc n) zeros) first in
-    let all : held ≡ (topic ++ (0 ∷ [])) ++ drop (suc n) zeros = e ∙ laid-room topic zeros (omega (arith, long)) ∙ ap (λ (l : List ℕ). topic ++ l) behind ∙ sym (append-assoc topic (0 ∷ []) (drop (suc n) zeros)) in
-    let to : n + 1 - 0 ≡ length (topic ++ (0 ∷ [])) = omega (arith, length-append topic (0 ∷ [])) in
-    rw (to, all) (take-at (topic ++ (0 ∷ [])) (drop (suc n) zeros) (length (topic ++ (0 ∷ []))) refl)
+-- what was laid over the front of an array, cut from it
+pub held-front : (xs : List ℕ) {lent held : List ℕ} {n : ℕ} → Lays xs lent held n → take (n - 0) held ≡ xs
+held-front xs {lent} l =
+    let all : length xs - 0 ≡ length xs = omega arith in
+    rw (l .told, l .bytes, all) (take-at xs (drop (length xs) lent) (length xs) refl)
 
 -- four bytes, and four numbers laid behind them
 pub header-held : (h : Header) {last : List ℕ} → last ≡ laidIfRoom (rowBytes (h .userid ∷ h .rolemask ∷ h .first ∷ h .second ∷ [])) (replicate 16 0) → 142 ∷ 1 ∷ h .kind ∷ h .flags ∷ (last ++ []) ≡ headerBytes h

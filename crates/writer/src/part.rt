@@ -2,7 +2,7 @@
 // and tells how many bytes they are, so that the next helper can be lent what follows. What lies behind the bytes stays as it was.
 ghost use mathlib.Core.Path.{_≡_};
 ghost use mathlib.Core.List.{_∷_, [], _++_};
-ghost use Prim.Native.Nat.{_≤_, _%_};
+ghost use Prim.Native.Nat.{_<_, _≤_, _%_};
 ghost use lib.ListN.{length};
 ghost use Rattle.message.specs.Header.{headerBytes};
 ghost use Rattle.message.specs.Frame.{partBytes, joined, partIf, groupIf};
@@ -43,8 +43,18 @@ pub(crate) fn write_group(out: &mut [u8], given: bool, routes: &[u8]) -> usize
     }
 }
 
-// The topic, where there is one, with the zero byte that ends it: that is not in the caller's slice, so the two stand in an array first,
-// which is all zero bytes before the topic goes into it.
+// Lays the topic and the zero byte that ends it over the front of an array, and tells how many bytes they are.
+fn hold_topic(held: &mut [u8], topic: &[u8]) -> usize
+    requires { ⌜ length (now topic) < length (now held) ⌝ }
+    ensures { λ r. ⌜ Lays (now (topic .entry) ++ (0 ∷ [])) (now (held .entry)) (now (held .exit)) r ⌝ }
+{
+    let end = topic.len();
+    copying::copy(topic, held);
+    held[end] = 0;
+    end + 1
+}
+
+// The topic, where there is one. Its zero byte is not in the caller's slice, so the two stand in an array first.
 pub(crate) fn write_topic(out: &mut [u8], given: bool, topic: &[u8]) -> usize
     requires { ⌜ length (now topic) ≤ 255 ⌝ }
     requires { ⌜ length (joined (partIf given (now topic ++ (0 ∷ [])))) ≤ length (now out) ⌝ }
@@ -52,8 +62,8 @@ pub(crate) fn write_topic(out: &mut [u8], given: bool, topic: &[u8]) -> usize
 {
     if given {
         let mut held = [0u8; TOPIC];
-        copying::copy(topic, &mut held);
-        write_part(out, &held[0..topic.len() + 1])
+        let n = hold_topic(&mut held, topic);
+        write_part(out, &held[0..n])
     } else {
         0
     }

@@ -1,15 +1,15 @@
 -- `draft::judge` meets its contract: the writer's order, at the tests that led to each return.
 -- Assumes nothing.
-use mathlib.Core.Path.{_≡_, sym, ap, _∙_}
-use mathlib.Core.Bool.{not}
+use mathlib.Core.Path.{_≡_, sym, _∙_}
+use mathlib.Core.Bool.{Bool, false, not}
 use mathlib.Core.List.{List}
 use Prim.Native.Nat.{ℕ}
 use borrow.Author.Tests.{not-false}
-use Rattle.message.specs.declared.Refusal.the-variants.{WrongHeader, WrongParts, WrongRoute, WrongTopic, WrongField}
-use Rattle.message.specs.Answer.{Answer, refuseIf}
+use Rattle.message.specs.Answer.{Answer}
 use Rattle.message.specs.Writing.{writingInto, givenMessage}
-use Rattle.draft.specs.Written.{writtenAs, measured}
-use Rattle.draft.proofs.Judging.{order-is}
+use Rattle.draft.specs.Private.{measured}
+use Rattle.draft.proofs.Judging.{Order, order-is, told-header, told-parts, told-route, told-topic, told-field, told-rest}
+use borrow.Author.Needs.{needs}
 use Rattle.draft.proofs.judge.Statement.{statement}
 use Rattle.draft.proofs.judge.Tie as tie
 
@@ -35,42 +35,59 @@ written s = writingInto (s .args .room) (givenMessage (s .args .header) (s .args
 abbrev rest : tie.Start → Answer (List ℕ)
 rest s = measured (s .args .room) (givenMessage (s .args .header) (s .args .routes .now) (s .args .topic .now) (s .args .payload .now))
 
--- the order in which the five tests are told
-order : (d : tie.After-fields-good) →
-    refuseIf (not (d .before .before .before .before .is-known .result)) WrongHeader
-    (refuseIf (not (d .before .before .before .parts-agree .result)) WrongParts
-    (refuseIf (not (d .before .before .routes-good .result)) WrongRoute
-    (refuseIf (d .before .topic-wrong .result) WrongTopic
-    (refuseIf (not (d .fields-good .result)) WrongField (rest (d .before .before .before .before .before .before .before .before)))))) ≡ written (d .before .before .before .before .before .before .before .before)
-order d =
-    order-is _ _ _ _ _ (d .before .before .before .before .is-known .ensures) (d .before .before .before .parts-agree .ensures) (d .before .before .routes-good .ensures)
-    (d .before .topic-wrong .ensures) (d .fields-good .ensures)
+-- the five tests, as they are known before any is told
+module _ (d : tie.After-fields-good) where
+  abbrev start : tie.Start
+  start = d .before .before .before .before .before .before .before .before
+
+  abbrev unknown : Bool
+  unknown = not (d .before .before .before .before .is-known .result)
+
+  abbrev disagree : Bool
+  disagree = not (d .before .before .before .parts-agree .result)
+
+  abbrev unrouted : Bool
+  unrouted = not (d .before .before .routes-good .result)
+
+  abbrev untitled : Bool
+  untitled = d .before .topic-wrong .result
+
+  abbrev unfit : Bool
+  unfit = not (d .fields-good .result)
+
+  order : Order unknown disagree unrouted untitled unfit (rest start) (written start)
+  order =
+      record {
+        order = order-is _ _ _ _ _ (d .before .before .before .before .is-known .ensures) (d .before .before .before .parts-agree .ensures) (d .before .before .routes-good .ensures)
+            (d .before .topic-wrong .ensures) (d .fields-good .ensures);
+      }
 
 returns : tie.Need-returns
-returns c = ap writtenAs (rw (c .if1 .taken) at (order (c .before)))
+returns c = told-header (order (c .before)) (search needs)
 
 returns-2 : tie.Need-returns-2
-returns-2 c = ap writtenAs (rw (c .before .if1 .left, c .if2 .taken) at (order (c .before .before)))
+returns-2 c = told-parts (order (c .before .before)) (search needs) (search needs)
 
 returns-3 : tie.Need-returns-3
-returns-3 c = ap writtenAs (rw (c .before .before .if1 .left, c .before .if2 .left, c .if3 .taken) at (order (c .before .before .before)))
+returns-3 c = told-route (order (c .before .before .before)) (search needs) (search needs) (search needs)
 
 returns-4 : tie.Need-returns-4
-returns-4 c = ap writtenAs (rw (c .before .before .before .if1 .left, c .before .before .if2 .left, c .before .if3 .left, c .if4 .taken) at (order (c .before .before .before .before)))
+returns-4 c = told-topic (order (c .before .before .before .before)) (search needs) (search needs) (search needs) (search needs)
 
 returns-5 : tie.Need-returns-5
-returns-5 c = let o = order (c .before .before .before .before .before) in
-    ap writtenAs (rw (c .before .before .before .before .if1 .left, c .before .before .before .if2 .left, c .before .before .if3 .left, c .before .if4 .left, c .if5 .taken) at o)
+returns-5 c = told-field (order (c .before .before .before .before .before)) (search needs) (search needs) (search needs) (search needs) (search needs)
 
 measure-requires : tie.Need-measure-requires
 measure-requires c κs = let d = c .before .before .before .before .before in
-    let agree = sym (d .before .before .before .parts-agree .ensures) ∙ not-false (d .before .before .before .parts-agree .result) (c .before .before .before .if2 .left) in
-    let good = sym (d .before .before .routes-good .ensures) ∙ not-false (d .before .before .routes-good .result) (c .before .before .if3 .left) in
-    (agree, (good, sym (d .before .topic-wrong .ensures) ∙ c .before .if4 .left))
+    let fits : disagree d ≡ false = search needs in
+    let whole : unrouted d ≡ false = search needs in
+    let right : untitled d ≡ false = search needs in
+    let agree = sym (d .before .before .before .parts-agree .ensures) ∙ not-false (d .before .before .before .parts-agree .result) fits in
+    let good = sym (d .before .before .routes-good .ensures) ∙ not-false (d .before .before .routes-good .result) whole in
+    (agree, (good, sym (d .before .topic-wrong .ensures) ∙ right))
 
 returns-6 : tie.Need-returns-6
-returns-6 c = let o = order (c .before .before .before .before .before .before) in
-    c .measure .ensures ∙ ap writtenAs (rw (c .before .before .before .before .before .if1 .left, c .before .before .before .before .if2 .left, c .before .before .before .if3 .left, c .before .before .if4 .left, c .before .if5 .left) at o)
+returns-6 c = c .measure .ensures ∙ told-rest (order (c .before .before .before .before .before .before)) (search needs) (search needs) (search needs) (search needs) (search needs)
 
 pub judge-spec : {M : Type 1} → statement M
 judge-spec =

@@ -1,14 +1,18 @@
 -- `draft::measure` meets its contract: what 6 to 10 let through is short enough to be added up, but for the payload.
 -- Assumes nothing.
 use native.Mathlib.Omega.{arith}
-use mathlib.Core.Path.{_≡_, refl, sym, ap, _∙_}
+use mathlib.Core.Path.{_≡_, refl}
+use mathlib.Core.List.{List}
 use Prim.Native.Nat.{ℕ, _+_, _%_, _<_, _≤_}
 use lib.ListN.{length}
+use Rattle.message.specs.declared.Refusal.the-variants.{LongBody, ShortOutput}
+use Rattle.message.specs.Answer.{Answer}
 use Rattle.message.specs.Message.{Message}
 use Rattle.message.specs.Frame.{bodyOf}
 use Rattle.message.specs.Writing.{givenMessage}
-use Rattle.draft.specs.declared.Written.the-variants.{Frame}
+use Rattle.draft.specs.declared.Written.the-variants.{Refused, Frame}
 use Rattle.draft.specs.Written.{writtenAs}
+use Rattle.draft.specs.Private.{measured}
 use Rattle.draft.proofs.Cuts.{good-few, good-whole}
 use Rattle.draft.proofs.Bodies.{body-most, frame-length}
 use Rattle.draft.proofs.Judging.{topic-short, payload-long, measured-long, measured-short, measured-fits}
@@ -37,29 +41,44 @@ module _ (s : tie.Start) where
 
 returns : tie.Need-returns
 returns c = let s = c .before .before .before .before in
-    ap writtenAs (sym (measured-long (s .args .room) (given s) (long s (c .if1 .taken))))
+    measured-long (s .args .room) (given s) (long s (omega arith))
 
 body-length-requires : tie.Need-body-length-requires
 body-length-requires c κs = let s = c .before .before .before .before in
-    ((few s, whole s), (short s, c .if1 .left))
+    ((few s, whole s), (short s, omega arith))
 
 add-whole : tie.Need-add-whole
-add-whole c = omega (arith, c .body-length .ensures, most (c .before .before .before .before .before) (c .before .if1 .left))
+add-whole c = omega (arith, c .body-length .ensures, most (c .before .before .before .before .before) (omega arith))
+
+-- what is told once the body's length is known
+module _ (d : tie.After-body-length) where
+  abbrev start : tie.Start
+  start = d .before .before .before .before .before
+
+  abbrev body : ℕ
+  body = d .body-length .result
+
+  abbrev answer : Answer (List ℕ)
+  answer = measured (start .args .room) (given start)
+
+  told-long : 32768 < body → Refused LongBody ≡ writtenAs answer
+  told-long l = measured-long (start .args .room) (given start) (omega (arith, d .body-length .ensures))
+
+  told-short : body ≤ 32768 → start .args .room < body + 8 → Refused ShortOutput ≡ writtenAs answer
+  told-short l h = measured-short (start .args .room) (given start) (omega (arith, d .body-length .ensures)) (omega (arith, d .body-length .ensures, frame-length (given start)))
+
+  told-frame : body ≤ 32768 → body + 8 ≤ start .args .room → {n : ℕ} → n ≡ body + 8 → Frame n ≡ writtenAs answer
+  told-frame l h e =
+      measured-fits (start .args .room) (given start) (omega (arith, d .body-length .ensures)) (omega (arith, d .body-length .ensures, frame-length (given start))) (omega (arith, e, d .body-length .ensures, frame-length (given start)))
 
 returns-2 : tie.Need-returns-2
-returns-2 c = let s = c .before .before .before .before .before .before in
-    ap writtenAs (sym (measured-long (s .args .room) (given s) (omega (arith, c .before .body-length .ensures))))
+returns-2 c = told-long (c .before) (omega arith)
 
 returns-3 : tie.Need-returns-3
-returns-3 c = let s = c .before .before .before .before .before .before .before in
-    let body = c .before .before .body-length .ensures in
-    ap writtenAs (sym (measured-short (s .args .room) (given s) (omega (arith, body)) (omega (arith, body, frame-length (given s)))))
+returns-3 c = told-short (c .before .before) (omega arith) (omega arith)
 
 returns-4 : tie.Need-returns-4
-returns-4 c = let s = c .before .before .before .before .before .before .before in
-    let body = c .before .before .body-length .ensures in
-    let long = ap (λ (n : ℕ). n + 8) body ∙ sym (frame-length (given s)) in
-    ap Frame long ∙ ap writtenAs (sym (measured-fits (s .args .room) (given s) (omega (arith, body)) (omega (arith, long))))
+returns-4 c = told-frame (c .before .before) (omega arith) (omega arith) (omega arith)
 
 pub measure-spec : {M : Type 1} → statement M
 measure-spec =

@@ -21,7 +21,7 @@ returns : tie.Need-returns Inv-loop μ-loop
 returns c = sym (routes-many (c .before .before .args .routes .now) (omega arith))
 
 returns-2 : tie.Need-returns-2 Inv-loop μ-loop
-returns-2 c = sym (routes-uneven (c .before .before .before .args .routes .now) (λ e. c .if2 .taken (omega arith)))
+returns-2 c = sym (routes-uneven (c .before .before .before .args .routes .now) (λ (e : length (c .before .before .before .args .routes .now) % 37 ≡ 0). omega arith))
 
 loop-holds : tie.Need-loop-holds Inv-loop μ-loop
 loop-holds c = (omega arith, refl, refl)
@@ -45,7 +45,7 @@ returns-3 : tie.Need-returns-3 Inv-loop μ-loop
 returns-3 c =
     let at-loop = c .before .before .before .before in
     let routes = at-loop .before .before .before .before .args .routes .now in
-    let turn = rw (not-true (c .before .is-route .result) (c .if3 .taken)) at (all-next routes (at-loop .loop .i) (c .before .before .before .loop-test .taken) (c .before .is-route .ensures)) in
+    let turn = rw (not-true (c .before .is-route .result) (c .if3 .taken)) at (all-next routes (at-loop .loop .i) (omega arith) (c .before .is-route .ensures)) in
     sym (routes-few routes (omega (arith, at-loop .before .before .if1 .left)) ∙ sym (at-loop .loop .inv .2) ∙ turn)
 
 add-i : tie.Need-add-i Inv-loop μ-loop
@@ -58,7 +58,7 @@ loop-again : tie.Need-loop-again Inv-loop μ-loop
 loop-again c =
     let at-loop = c .before .before .before .before in
     let routes = at-loop .before .before .before .before .args .routes .now in
-    let turn = rw (not-false (c .before .is-route .result) (c .if3 .left)) at (all-next routes (at-loop .loop .i) (c .before .before .before .loop-test .taken) (c .before .is-route .ensures)) in
+    let turn = rw (not-false (c .before .is-route .result) (c .if3 .left)) at (all-next routes (at-loop .loop .i) (omega arith) (c .before .is-route .ensures)) in
     (omega arith, omega arith, sym turn ∙ at-loop .loop .inv .2)
 
 returns-4 : tie.Need-returns-4 Inv-loop μ-loop

@@ -1,5 +1,6 @@
 -- `draft::length::group_length` meets its contract.
 -- Assumes nothing.
+use native.Mathlib.Omega.{arith}
 use borrow.Author.Needs.{needs}
 use Rattle.draft.proofs.length.group_length.Statement.{statement}
 use Rattle.draft.proofs.length.group_length.Tie as tie
@@ -11,7 +12,7 @@ add-result : tie.Need-add-result
 add-result c = search needs
 
 returns : tie.Need-returns
-returns c = rw (c .if1 .taken)
+returns c = rw (c .if1 .taken) (omega arith)
 
 returns-2 : tie.Need-returns-2
 returns-2 c = search needs

@@ -1,7 +1,6 @@
 -- `draft::length::part_length` meets its contract.
 -- Assumes nothing.
 use native.Mathlib.Omega.{arith}
-use mathlib.Core.Path.{sym}
 use Rattle.draft.proofs.Parts.{part-one, part-five}
 use borrow.Author.Needs.{needs}
 use Rattle.draft.proofs.length.part_length.Statement.{statement}
@@ -14,10 +13,12 @@ add-result-2 : tie.Need-add-result-2
 add-result-2 c = search needs
 
 returns : tie.Need-returns
-returns c = sym (part-one (c .before .if1 .taken) (omega arith))
+returns c = let args = c .before .before .args in
+    omega (arith, part-one {given = args .given} {n = args .n} (c .before .if1 .taken) (omega arith))
 
 returns-2 : tie.Need-returns-2
-returns-2 c = sym (part-five (c .before .if1 .taken) (omega arith))
+returns-2 c = let args = c .before .before .args in
+    omega (arith, part-five {given = args .given} {n = args .n} (c .before .if1 .taken) (omega arith))
 
 returns-3 : tie.Need-returns-3
 returns-3 c = search needs

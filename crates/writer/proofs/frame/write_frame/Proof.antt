@@ -10,7 +10,8 @@ use borrow.Rule.Slice.PartMut.{putMid}
 use Rattle.octets.specs.Number.{four}
 use Rattle.octets.specs.Laid.{laid}
 use Rattle.octets.specs.Lays.{Lays}
-use Rattle.octets.proofs.Laying.{lays-room, lays-more, lays-rest}
+use Rattle.octets.proofs.Buffers.{room-lent}
+use Rattle.octets.proofs.Laying.{lays-room, lays-more}
 use Rattle.message.specs.Message.{Message}
 use Rattle.message.specs.Frame.{bodyOf}
 use Rattle.message.specs.Writing.{givenMessage}
@@ -63,7 +64,7 @@ part-write-body-end c = le-refl _
 
 write-body-requires : tie.Need-write-body-requires
 write-body-requires c κs = let d = c .before .before .before in
-    (start d .pre .0, lays-rest (front d) (bodyOf (given (start d))) (omega (arith, room (start d))))
+    (start d .pre .0, room-lent 8 (d .put-row .last .0) (omega (arith, room (start d), d .put-row .kept .0)))
 
 -- the body is laid behind them
 module _ (e : tie.After-write-body) where

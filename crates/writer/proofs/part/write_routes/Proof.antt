@@ -97,19 +97,22 @@ module _ (c : tie.After-write-part Inv-loop μ-loop) where
   abbrev route : List ℕ
   route = take (head .loop .i + 37 - head .loop .i) (drop (head .loop .i) (start .args .routes .now))
 
-  -- and lies in the output, whatever it holds
+  -- its part lies in the output, whatever it holds
   within : head .loop .at + c .write-part .result ≤ length (start .args .out .now)
   within =
       let b = head .loop .inv in
       let long = begun-length b (start .pre .1) in
       omega (arith, long, count-within (partBytes route) (head .loop .at) (head .loop .out) (omega (arith, begun-room b (start .pre .1), long, b .lays .told)) (c .write-part .ensures .0))
 
-  -- it is the part of the route at i
+  -- they are the route at i
+  same : route ≡ take 37 (drop (head .loop .i) (start .args .routes .now))
+  same = ap (λ (n : ℕ). take n (drop (head .loop .i) (start .args .routes .now))) (route-width (head .loop .i))
+
   laid : Lays (partBytes (take 37 (drop (head .loop .i) (start .args .routes .now)))) (midOf (head .loop .at) (length (head .loop .out) - head .loop .at) (head .loop .out)) (c .write-part .last .0) (c .write-part .result)
   laid =
       let b = head .loop .inv in
       let whole = take 37 (drop (head .loop .i) (start .args .routes .now)) in
-      part-laid (ap (λ (n : ℕ). take n (drop (head .loop .i) (start .args .routes .now))) (route-width (head .loop .i))) (lays-rest (b .lays) (partBytes whole) (next-room b (omega arith) (start .pre .1))) (c .write-part .ensures)
+      part-laid same (lays-rest (b .lays) (partBytes whole) (next-room b (omega arith) (start .pre .1))) (c .write-part .ensures)
 
 add-at : tie.Need-add-at Inv-loop μ-loop
 add-at c = let d = c .before .before in
