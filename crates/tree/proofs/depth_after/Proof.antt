@@ -21,7 +21,7 @@ add-result : tie.Need-add-result
 add-result c =
     let args = c .before .before .before .before .before .args in
     let parent = c .before .before .parent-of .result in
-    omega (arith, c .before .before .before .before .before .pre .1 .right parent (c .before .if1 .taken), c .before .before .before .before .before .pre .1 .most parent (c .before .if1 .taken))
+    omega (arith, c .before .before .before .before .before .pre .1 .right parent (omega arith), c .before .before .before .before .before .pre .1 .most parent (omega arith))
 
 depth-of-requires : tie.Need-depth-of-requires
 depth-of-requires c κs = search needs
@@ -31,7 +31,7 @@ returns c =
     let args = c .before .before .before .before .before .args in
     let tree = args .tree .now in
     let is = c .before .before .parent-of .ensures in
-    let inside : parentOf tree (args .rank) < args .rank = rw (← is) (c .before .if1 .taken) in
+    let inside : parentOf tree (args .rank) < args .rank = omega (arith, is, c .before .if1 .taken) in
     rw is
     (omega (
       arith,

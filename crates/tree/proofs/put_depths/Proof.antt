@@ -5,7 +5,8 @@ use mathlib.Core.List.{_++_}
 use Prim.Native.Nat.{_-_, _≤_}
 use native.Mathlib.Omega.{arith}
 use lib.ListN.{length, drop, length-set}
-use Rattle.tree.specs.Depths.{depthsBelow, Shallow}
+use Rattle.tree.specs.Depths.{depthsBelow}
+use Rattle.tree.specs.Working.{Shallow}
 use Rattle.tree.proofs.Depths.{good-depth, shallow-none, shallow-more}
 use Rattle.tree.proofs.Checking.{depths-none, depths-more, depths-all}
 use Rattle.tree.proofs.put_depths.Statement.{statement}
