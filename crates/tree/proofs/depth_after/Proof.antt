@@ -1,8 +1,10 @@
 -- `tree::depth_after` meets its contract: a rank is one deeper than its parent.
 -- Assumes nothing.
+use mathlib.Core.Path.{ap, _∙_}
 use Prim.Native.Nat.{_<_}
 use native.Mathlib.Omega.{arith}
 use Rattle.tree.specs.Tree.{parentOf}
+use Rattle.tree.specs.Depths.{depthOf}
 use Rattle.tree.proofs.Depths.{depth-next}
 use borrow.Author.Needs.{needs}
 use Rattle.tree.proofs.depth_after.Statement.{statement}
@@ -40,7 +42,9 @@ returns c =
     ))
 
 returns-2 : tie.Need-returns-2
-returns-2 c = search needs
+returns-2 c =
+    let tree = c .before .before .before .before .before .args .tree .now in
+    c .depth-of .ensures ∙ ap (depthOf tree) (omega arith)
 
 pub depth-after-spec : {M : Type 1} → statement M
 depth-after-spec =
