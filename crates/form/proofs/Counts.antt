@@ -11,7 +11,8 @@ use lib.Dec.{eqb}
 use lib.ListN.{length, getD, take, length-take}
 use lib.Seq.{take-suc}
 use borrow.Author.Tests.{ne-eqb}
-use Rattle.form.specs.Count.{one, isZero, count}
+use Rattle.form.specs.Count.{one}
+use Rattle.form.specs.Working.{isZero, count}
 use Rattle.form.specs.Forms.{noZero}
 
 pub one-le : (t : Bool) → one t ≤ 1

@@ -7,7 +7,7 @@ use mathlib.Core.List.{List}
 use lib.Dec.{eqb}
 use lib.ListN.{length}
 use borrow.Author.Tests.{le-leb, lt-leb}
-use Rattle.form.specs.Count.{count, isZero}
+use Rattle.form.specs.Working.{isZero, count}
 use Rattle.form.specs.Forms.{isTopic}
 use Rattle.form.proofs.Counts.{none-zero}
 

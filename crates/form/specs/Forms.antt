@@ -24,6 +24,10 @@ stands nul x = eqb x 0
 abbrev pub routePlaces : List Place
 routePlaces = replicate 8 hex ++ (hyphen ∷ replicate 4 hex) ++ (hyphen ∷ replicate 4 hex) ++ (hyphen ∷ replicate 4 hex) ++ (hyphen ∷ replicate 12 hex) ++ (nul ∷ [])
 
+-- "one 37-byte route": as many as its places
+abbrev pub routeLength : ℕ
+routeLength = 37
+
 -- as many bytes as places, and each as its place says
 abbrev pub matches : List Place → List ℕ → Bool
 matches [] [] = true

@@ -3,8 +3,12 @@
 ghost use mathlib.Core.Path.{_≡_};
 ghost use Prim.Native.Nat.{_≤_};
 ghost use lib.ListN.{length};
-ghost use Rattle.form.specs.Count.{one, count, isZero};
+ghost use Rattle.form.specs.Count.{one};
+ghost use Rattle.form.specs.Working.{count, isZero};
 ghost use Rattle.form.specs.Forms.{isHex, isRoute, isTopic};
+
+// Bytes of a route, its zero byte with them.
+pub const ROUTE: usize = 37;
 
 // 1 for a lower-case hex digit.
 fn hex(x: u8) -> u8
@@ -61,7 +65,7 @@ fn zeros(s: &[u8]) -> u8
 pub fn is_route(s: &[u8]) -> bool
     ensures { λ r. ⌜ r ≡ isRoute (now (s .entry)) ⌝ }
 {
-    if s.len() != 37 {
+    if s.len() != ROUTE {
         return false;
     }
     if s[8] != 45 {

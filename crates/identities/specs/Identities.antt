@@ -6,7 +6,7 @@ use lib.Dec.{eqb, leb}
 use lib.ListN.{length}
 use Rattle.message.specs.declared.Refusal.the-variants.{WrongTree, WrongIdentities}
 use Rattle.message.specs.Answer.{Answer, answered, refuseIf}
-use Rattle.form.specs.Forms.{isRoute}
+use Rattle.form.specs.Forms.{routeLength, isRoute}
 use Rattle.records.specs.declared.Found.{Found}
 use Rattle.records.specs.Below.{allBelow, noneTwice}
 use Rattle.records.specs.Bytes.{sameBytes}
@@ -17,7 +17,7 @@ use Rattle.tree.specs.Depths.{treeGood}
 
 -- "one 37-byte route a rank"
 abbrev pub identityAt : List ℕ → ℕ → List ℕ
-identityAt identities rank = recordAt 37 identities rank
+identityAt identities rank = recordAt routeLength identities rank
 
 -- when two routes are the same identity
 unfoldable pub sameIdentity : List ℕ → List ℕ → Bool
@@ -27,7 +27,7 @@ sameIdentity a b = sameBytes a b
 unfoldable pub identitiesGood : List ℕ → List ℕ → Bool
 identitiesGood tree identities =
     leb (ranksIn tree) 1024
-    && (eqb (length identities) (ranksIn tree * 37)
+    && (eqb (length identities) (ranksIn tree * routeLength)
     && (allBelow (ranksIn tree) (λ rank. isRoute (identityAt identities rank))
     && noneTwice (λ a b. sameIdentity (identityAt identities a) (identityAt identities b)) (ranksIn tree)))
 
@@ -37,4 +37,4 @@ checkOf tree identities = refuseIf (not (treeGood tree)) WrongTree (refuseIf (no
 
 -- the rank whose identity a route is, or none: "the top route is no broker's identity"
 unfoldable pub brokerOf : List ℕ → List ℕ → Found
-brokerOf identities route = firstOf (λ rank. sameIdentity (identityAt identities rank) route) (length identities / 37)
+brokerOf identities route = firstOf (λ rank. sameIdentity (identityAt identities rank) route) (length identities / routeLength)

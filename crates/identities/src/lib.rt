@@ -1,23 +1,22 @@
 // The brokers' identities: the table's check, and the rank whose identity a route is.
+use form::ROUTE;
 use message::Refusal;
 use records::Found;
 use tree::Checked;
 ghost use mathlib.Core.Path.{_≡_};
 ghost use Prim.Native.Nat.{_+_, _*_, _<_, _≤_};
 ghost use lib.ListN.{length};
+ghost use Rattle.form.specs.Forms.{routeLength};
 ghost use Rattle.tree.specs.Checking.{told};
 ghost use Rattle.identities.specs.Identities.{identityAt, sameIdentity, identitiesGood, checkOf, brokerOf};
 
-// Bytes an identity.
-const WIDTH: usize = 37;
-
 // The identity of a rank.
 fn identity_at(identities: &[u8], rank: usize) -> &[u8]
-    requires { ⌜ rank * 37 + 37 ≤ length (now identities) ⌝ }
+    requires { ⌜ rank * routeLength + routeLength ≤ length (now identities) ⌝ }
     ensures { λ r. ⌜ now r ≡ identityAt (now (identities .entry)) rank ⌝ }
 {
-    let at = rank * WIDTH;
-    &identities[at..at + WIDTH]
+    let at = rank * ROUTE;
+    &identities[at..at + ROUTE]
 }
 
 // Whether two routes are the same identity.
@@ -35,7 +34,7 @@ pub fn are_identities(tree: &[u8], identities: &[u8]) -> bool
     if n > 1024 {
         return false;
     }
-    if identities.len() != n * WIDTH {
+    if identities.len() != n * ROUTE {
         return false;
     }
     let mut rank = 0;
@@ -45,7 +44,7 @@ pub fn are_identities(tree: &[u8], identities: &[u8]) -> bool
         }
         rank += 1;
     }
-    records::are_distinct(identities, 37, n)
+    records::are_distinct(identities, ROUTE as u8, n)
 }
 
 // The identity check: 14, then 16, or how many identities there are.
@@ -65,7 +64,7 @@ pub fn check_identities(tree: &[u8], identities: &[u8]) -> Checked
 pub fn find_broker(identities: &[u8], route: &[u8]) -> Found
     ensures { λ r. ⌜ r ≡ brokerOf (now (identities .entry)) (now (route .entry)) ⌝ }
 {
-    let n = identities.len() / WIDTH;
+    let n = identities.len() / ROUTE;
     let mut broker = 0;
     while broker < n {
         if is_same(identity_at(identities, broker), route) {

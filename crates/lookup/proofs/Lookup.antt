@@ -20,7 +20,8 @@ use Rattle.tree.specs.Tree.{ranksIn}
 use Rattle.services.proofs.Services.{Form, length-name, GoodServices, same-service}
 use Rattle.records.proofs.Bytes.{same-lengths, same-refl, same-equal}
 use Rattle.services.specs.Services.{servicesIn, serviceAt, rankIn, nameLength, nameIn, sameService}
-use Rattle.lookup.specs.Lookup.{wholeOrNone, registers, registeredAs}
+use Rattle.lookup.specs.Lookup.{registers, registeredAs}
+use Rattle.lookup.specs.Working.{wholeOrNone}
 
 registered-is : (services : List ℕ) (rank : ℕ) (service : List ℕ) → registeredAs services rank service ≡ firstFrom (λ i. registers (serviceAt services i) rank service) (length services / 32) 0
 unfolding registeredAs servicesIn

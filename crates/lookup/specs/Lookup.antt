@@ -23,7 +23,3 @@ registers row rank service =
 -- the number of the record that registers the service at the rank, counted from 0, or none
 unfoldable pub registeredAs : List ℕ → ℕ → List ℕ → Found
 registeredAs services rank service = firstOf (λ i. registers (serviceAt services i) rank service) (servicesIn services)
-
--- the service, or nothing in place of one of more than 27 bytes: what the look-up compares. No promise of a public call speaks of it.
-unfoldable pub wholeOrNone : List ℕ → List ℕ
-wholeOrNone service = cond (leb (length service) 27) service []

@@ -1,14 +1,14 @@
 // The service that a topic names, and the record of the table that registers it.
 use records::Found;
+use services::LONGEST;
+use services::NAME;
+use services::WIDTH;
 ghost use mathlib.Core.Path.{_≡_};
 ghost use Prim.Native.Nat.{_≤_};
 ghost use lib.ListN.{length};
-ghost use Rattle.lookup.specs.Lookup.{serviceOf, wholeOrNone, registers, registeredAs};
-
-// Bytes a record.
-const WIDTH: usize = 32;
-// Where the name begins.
-const NAME: usize = 5;
+ghost use Rattle.services.specs.Services.{serviceWidth, longestName};
+ghost use Rattle.lookup.specs.Lookup.{serviceOf, registers, registeredAs};
+ghost use Rattle.lookup.specs.Working.{wholeOrNone};
 
 // The service that a topic names: all before the first period, or all of it.
 pub fn service_of(topic: &[u8]) -> &[u8]
@@ -28,7 +28,7 @@ pub fn service_of(topic: &[u8]) -> &[u8]
 fn whole_or_none(service: &[u8]) -> &[u8]
     ensures { λ r. ⌜ now r ≡ wholeOrNone (now (service .entry)) ⌝ }
 {
-    if service.len() > 27 {
+    if service.len() > LONGEST {
         return &service[..0];
     }
     service
@@ -36,7 +36,7 @@ fn whole_or_none(service: &[u8]) -> &[u8]
 
 // Whether a record registers a service at a rank.
 fn is_registered(row: &[u8], rank: u32, service: &[u8]) -> bool
-    requires { ⌜ (length (now row) ≡ 32) × (length (now service) ≤ 27) ⌝ }
+    requires { ⌜ (length (now row) ≡ serviceWidth) × (length (now service) ≤ longestName) ⌝ }
     ensures { λ r. ⌜ r ≡ registers (now (row .entry)) rank (now (service .entry)) ⌝ }
 {
     let asked = service.len();

@@ -15,13 +15,24 @@ use Rattle.tree.specs.Tree.{ranksIn}
 use Rattle.tree.specs.Depths.{treeGood}
 
 -- "records of 32 bytes"
+abbrev pub serviceWidth : ℕ
+serviceWidth = 32
+
 unfoldable pub servicesIn : List ℕ → ℕ
-servicesIn services = length services / 32
+servicesIn services = length services / serviceWidth
 
 abbrev pub serviceAt : List ℕ → ℕ → List ℕ
-serviceAt services i = recordAt 32 services i
+serviceAt services i = recordAt serviceWidth services i
 
 -- ---- one record: "rank (4), name length 1 to 27 (1), name .., zero padding"
+
+-- where the name begins, behind the rank and the name's length
+abbrev pub nameStart : ℕ
+nameStart = 5
+
+-- "name length 1 to 27"
+abbrev pub longestName : ℕ
+longestName = 27
 
 abbrev pub rankIn : List ℕ → ℕ
 rankIn row = number row
@@ -30,10 +41,10 @@ abbrev pub nameLength : List ℕ → ℕ
 nameLength row = getD row 4 0
 
 abbrev pub nameIn : List ℕ → List ℕ
-nameIn row = take (nameLength row) (drop 5 row)
+nameIn row = take (nameLength row) (drop nameStart row)
 
 abbrev pub paddingIn : List ℕ → List ℕ
-paddingIn row = drop (5 + nameLength row) row
+paddingIn row = drop (nameStart + nameLength row) row
 
 -- "neither zero nor period"
 unfoldable pub isName : List ℕ → Bool
@@ -48,7 +59,7 @@ isPadding (x ∷ xs) = eqb x 0 && isPadding xs
 -- a record of the form, in a tree of so many ranks
 unfoldable pub serviceGood : ℕ → List ℕ → Bool
 serviceGood ranks row =
-    ltb (rankIn row) ranks && (leb 1 (nameLength row) && (leb (nameLength row) 27 && (isName (nameIn row) && isPadding (paddingIn row))))
+    ltb (rankIn row) ranks && (leb 1 (nameLength row) && (leb (nameLength row) longestName && (isName (nameIn row) && isPadding (paddingIn row))))
 
 -- ---- the table
 
@@ -59,7 +70,7 @@ sameService a b = eqb (rankIn a) (rankIn b) && sameBytes (nameIn a) (nameIn b)
 -- 15: the records are whole and few, each of the form, and no rank and name is there twice
 unfoldable pub servicesGood : List ℕ → List ℕ → Bool
 servicesGood tree services =
-    eqb (length services) (servicesIn services * 32)
+    eqb (length services) (servicesIn services * serviceWidth)
     && (leb (servicesIn services) 1024
     && (allBelow (servicesIn services) (λ i. serviceGood (ranksIn tree) (serviceAt services i))
     && noneTwice (λ i j. sameService (serviceAt services i) (serviceAt services j)) (servicesIn services)))

@@ -5,16 +5,18 @@ ghost use mathlib.Core.Path.{_≡_};
 ghost use Prim.Native.Nat.{_+_, _*_, _<_, _≤_};
 ghost use lib.ListN.{length};
 ghost use Rattle.tree.specs.Checking.{told};
-ghost use Rattle.services.specs.Services.{serviceAt, isName, isPadding, serviceGood, servicesGood, checkOf};
+ghost use Rattle.services.specs.Services.{serviceWidth, serviceAt, isName, isPadding, serviceGood, servicesGood, checkOf};
 
 // Bytes a record.
-const WIDTH: usize = 32;
+pub const WIDTH: usize = 32;
 // Where the name begins.
-const NAME: usize = 5;
+pub const NAME: usize = 5;
+// How many bytes a name has at most.
+pub const LONGEST: usize = 27;
 
 // The record with the number i.
 fn service_at(services: &[u8], i: usize) -> &[u8]
-    requires { ⌜ i * 32 + 32 ≤ length (now services) ⌝ }
+    requires { ⌜ i * serviceWidth + serviceWidth ≤ length (now services) ⌝ }
     ensures { λ r. ⌜ now r ≡ serviceAt (now (services .entry)) i ⌝ }
 {
     let at = i * WIDTH;
@@ -54,7 +56,7 @@ fn is_padding(s: &[u8]) -> bool
 
 // Whether a record is of the form, in a tree of so many ranks.
 fn is_service(row: &[u8], ranks: usize) -> bool
-    requires { ⌜ length (now row) ≡ 32 ⌝ }
+    requires { ⌜ length (now row) ≡ serviceWidth ⌝ }
     ensures { λ r. ⌜ r ≡ serviceGood ranks (now (row .entry)) ⌝ }
 {
     let rank = octets::number_of(row[0], row[1], row[2], row[3]);
@@ -65,7 +67,7 @@ fn is_service(row: &[u8], ranks: usize) -> bool
     if size < 1 {
         return false;
     }
-    if size > 27 {
+    if size > LONGEST {
         return false;
     }
     let end = NAME + size;
@@ -94,7 +96,7 @@ pub fn are_services(tree: &[u8], services: &[u8]) -> bool
         }
         i += 1;
     }
-    records::are_distinct(services, 32, n)
+    records::are_distinct(services, WIDTH as u8, n)
 }
 
 // The service check: 14, then 15, or how many records there are.

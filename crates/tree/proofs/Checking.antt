@@ -30,10 +30,10 @@ module _ (tree : List ℕ) where
   depths-none out = refl
 
   -- one depth more is written
-  pub depths-more : (n : ℕ) (out : List ℕ) → n < length out → set (depthsBelow tree n ++ drop n out) n (depthOf tree n) ≡ depthsBelow tree (n + 1) ++ drop (n + 1) out
+  pub depths-more : (n d : ℕ) (out : List ℕ) → n < length out → {now : List ℕ} → now ≡ depthsBelow tree n ++ drop n out → d ≡ depthOf tree n → set now n d ≡ depthsBelow tree (n + 1) ++ drop (n + 1) out
   unfolding depthsBelow
-  depths-more n out h =
-      rw (add-one, drop-cons out n 0 h, set-at (depthsBelow tree n) (getD out n 0) (drop (suc n) out) (depthOf tree n) n (length-depths n), append-snoc) refl
+  depths-more n d out h e is =
+      rw (e, is, add-one, drop-cons out n 0 h, set-at (depthsBelow tree n) (getD out n 0) (drop (suc n) out) (depthOf tree n) n (length-depths n), append-snoc) refl
 
   -- all are written
   pub depths-all : (n : ℕ) (out : List ℕ) → n ≡ ranksIn tree → depthsBelow tree n ++ drop n out ≡ laid (depthsOf tree) out

@@ -15,7 +15,8 @@ use Rattle.records.specs.Below.{allBelow}
 use Rattle.records.proofs.Truth.{outcome, left, right, both, left-fails, right-fails}
 use Rattle.records.proofs.Below.{all-at, all-of, all-fails}
 use Rattle.tree.specs.Tree.{noRank, ranksIn, wholeTree, parentOf}
-use Rattle.tree.specs.Depths.{Depths, Accepted, Shallow, climbs, depthOf, treeGood}
+use Rattle.tree.specs.Depths.{Depths, Accepted, climbs, depthOf, treeGood}
+use Rattle.tree.specs.Working.{Shallow}
 use Rattle.tree.proofs.Tree.{parent-outside, whole-some, whole-few}
 
 module _ (tree : List ℕ) where

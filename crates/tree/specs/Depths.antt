@@ -5,7 +5,6 @@ use Prim.Native.Nat.{ℕ, zero, suc, _+_, _≤_, _<_}
 use mathlib.Core.Bool.{Bool, true, cond, _&&_}
 use mathlib.Core.List.{List, [], _∷_, _++_}
 use lib.Dec.{eqb, leb}
-use lib.ListN.{getD}
 use Rattle.records.specs.Below.{allBelow}
 use Rattle.tree.specs.Tree.{noRank, ranksIn, wholeTree, parentOf}
 
@@ -45,9 +44,3 @@ depthsBelow tree (suc n) = depthsBelow tree n ++ (depthOf tree n ∷ [])
 -- "The tree check also writes one depth byte a rank to a lent buffer"
 abbrev pub depthsOf : List ℕ → List ℕ
 depthsOf tree = depthsBelow tree (ranksIn tree)
-
--- `depths` has the depths of the ranks below r, none of them above 16: what the test of a tree has found so far. No promise of a public call speaks
--- of it.
-pub record Shallow (tree depths : List ℕ) (r : ℕ) : Type 0 where
-  pub right : (k : ℕ) → k < r → getD depths k 0 ≡ depthOf tree k
-  pub most : (k : ℕ) → k < r → depthOf tree k ≤ 16

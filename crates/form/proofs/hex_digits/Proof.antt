@@ -7,7 +7,7 @@ use lib.ListN.{length, take, getD}
 use lib.Seq.{take-length}
 use Rattle.form.proofs.Counts.{one-le, count-more, count-take-le}
 use Rattle.form.specs.Forms.{isHex}
-use Rattle.form.specs.Count.{count}
+use Rattle.form.specs.Working.{count}
 use Rattle.form.proofs.hex_digits.Statement.{statement}
 use Rattle.form.proofs.hex_digits.Tie as tie
 

@@ -1,14 +1,15 @@
 -- `form::nul` meets its contract.
 -- Assumes nothing.
+use native.Mathlib.Omega.{arith}
 use borrow.Author.Tests.{eq-eqb, ne-eqb}
 use Rattle.form.proofs.nul.Statement.{statement}
 use Rattle.form.proofs.nul.Tie as tie
 
 returns : tie.Need-returns
-returns c = simp (eq-eqb _ _ (c .if1 .taken))
+returns c = simp (eq-eqb (c .before .args .x) 0 (omega arith))
 
 returns-2 : tie.Need-returns-2
-returns-2 c = simp (ne-eqb _ _ (c .if1 .left))
+returns-2 c = simp (ne-eqb (c .before .args .x) 0 (λ e. omega arith))
 
 pub nul-spec : {M : Type 1} → statement M
 nul-spec = tie.close (tie.spec returns returns-2)

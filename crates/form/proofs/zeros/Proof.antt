@@ -6,8 +6,7 @@ use Prim.Native.Nat.{ℕ, _≤_, _-_}
 use lib.ListN.{length, take, getD}
 use lib.Seq.{take-length}
 use Rattle.form.proofs.Counts.{one-le, count-more, count-take-le}
-use Rattle.form.specs.Count.{isZero}
-use Rattle.form.specs.Count.{count}
+use Rattle.form.specs.Working.{isZero, count}
 use Rattle.form.proofs.zeros.Statement.{statement}
 use Rattle.form.proofs.zeros.Tie as tie
 

@@ -40,7 +40,7 @@ hop-within-returns : (t : ℕ) → hop-within-lts.Need-returns (
 ) (hop-within-at t) hop-within.Post
 hop-within-returns t c =
     let args = c .before .before .before .args in
-    c .parent-of .ensures ∙ sym (hop-up (args .tree .now) (args .from) (args .target) (args .depth) (c .before .if1 .taken))
+    c .parent-of .ensures ∙ sym (hop-up (args .tree .now) (args .from) (args .target) (args .depth) (omega arith))
 
 hop-within-parent-of-requires-2 : (t : ℕ) → hop-within-lts.Need-parent-of-requires-2 (
   parent-of-reads.Asked,
@@ -58,7 +58,7 @@ hop-within-returns-2 : (t : ℕ) → hop-within-lts.Need-returns-2 (
 ) (hop-within-at t) hop-within.Post
 hop-within-returns-2 t c =
     let args = c .before .before .before .before .args in
-    sym (hop-child (args .tree .now) (args .from) (args .target) (args .depth) (c .before .before .if1 .left) (sym (c .before .parent-of2 .ensures) ∙ c .if2 .taken))
+    sym (hop-child (args .tree .now) (args .from) (args .target) (args .depth) (λ e. omega arith) (omega (arith, c .before .parent-of2 .ensures)))
 
 hop-within-sub-hop-within : (t : ℕ) → hop-within-lts.Need-sub-hop-within (
   parent-of-reads.Asked,
@@ -87,7 +87,7 @@ hop-within-returns-3 : (t : ℕ) → hop-within-lts.Need-returns-3 (
 hop-within-returns-3 t c =
     let args = c .before .before .before .before .before .args in
     c .hop-within .ensures ∙ rw (c .before .before .parent-of2 .ensures)
-    (sym (hop-on (args .tree .now) (args .from) (args .target) (args .depth) (c .before .before .before .if1 .left) (rw (← c .before .before .parent-of2 .ensures) (c .before .if2 .left))))
+    (sym (hop-on (args .tree .now) (args .from) (args .target) (args .depth) (λ e. omega arith) (λ e. omega (arith, c .before .before .parent-of2 .ensures, c .before .if2 .left))))
 
 pub +hop-within-spec : {M : Type 1} → statement M
 +hop-within-spec = close μ-hop-within λ t. hop-within-lts.spec (

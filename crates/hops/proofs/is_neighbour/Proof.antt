@@ -28,7 +28,7 @@ returns-3 : tie.Need-returns-3
 returns-3 c =
     let args = c .before .before .before .before .before .before .args in
     let ranks = c .before .before .before .before .ranks-in .ensures in
-    sym (parent-neighbour (args .tree .now) (args .a) (args .b) (omega (arith, ranks)) (omega (arith, ranks)) (sym (c .before .parent-of .ensures) ∙ c .if3 .taken))
+    sym (parent-neighbour (args .tree .now) (args .a) (args .b) (omega (arith, ranks)) (omega (arith, ranks)) (omega (arith, c .before .parent-of .ensures, c .if3 .taken)))
 
 parent-of-requires-2 : tie.Need-parent-of-requires-2
 parent-of-requires-2 c κs = search needs
@@ -38,7 +38,7 @@ returns-4 c =
     let args = c .before .before .before .before .before .before .before .args in
     let ranks = c .before .before .before .before .before .ranks-in .ensures in
     rw (c .parent-of2 .ensures)
-    (sym (other-neighbour (args .tree .now) (args .a) (args .b) (omega (arith, ranks)) (omega (arith, ranks)) (rw (← c .before .before .parent-of .ensures) (c .before .if3 .left))))
+    (sym (other-neighbour (args .tree .now) (args .a) (args .b) (omega (arith, ranks)) (omega (arith, ranks)) (λ e. omega (arith, c .before .before .parent-of .ensures, c .before .if3 .left))))
 
 pub is-neighbour-spec : {M : Type 1} → statement M
 is-neighbour-spec = tie.close (tie.spec ranks-in-requires returns returns-2 parent-of-requires returns-3 parent-of-requires-2 returns-4)

@@ -36,7 +36,7 @@ mul-if2 c = omega arith
 returns-2 : tie.Need-returns-2 Inv-loop μ-loop
 returns-2 c =
     let args = c .before .before .before .before .before .args in
-    sym (bad-torn (args .tree .now) (args .identities .now) (rw (← c .before .before .ranks-in .ensures) (c .if2 .taken)))
+    sym (bad-torn (args .tree .now) (args .identities .now) (λ e. omega (arith, c .before .before .ranks-in .ensures, c .if2 .taken)))
 
 loop-holds : tie.Need-loop-holds Inv-loop μ-loop
 loop-holds c = (omega arith, c .before .before .ranks-in .ensures, all-none _)
@@ -69,6 +69,9 @@ loop-again c =
           (rw (← c .before .before .identity-at .ensures) (sym (c .before .is-route .ensures) ∙ not-false _ (c .if3 .left))),
     )
 
+cast-are-distinct : tie.Need-cast-are-distinct Inv-loop μ-loop
+cast-are-distinct c = omega arith
+
 are-distinct-requires : tie.Need-are-distinct-requires Inv-loop μ-loop
 are-distinct-requires c κs = tt
 
@@ -80,7 +83,7 @@ returns-4 c =
     let end : at-loop .loop .rank ≡ ranksIn (args .tree .now) = omega arith in
     c .are-distinct .ensures
     ∙ ap (distinct 37 (args .identities .now)) ranks
-    ∙ sym (rest-distinct (args .tree .now) (args .identities .now) (omega (arith, c .before .before .before .before .if1 .left)) (rw (← ranks) (c .before .before .before .if2 .left)) (rw (← end) (at-loop .loop .inv .2)))
+    ∙ sym (rest-distinct (args .tree .now) (args .identities .now) (omega (arith, c .before .before .before .before .if1 .left)) (omega (arith, ranks, c .before .before .before .if2 .left)) (rw (← end) (at-loop .loop .inv .2)))
 
 pub are-identities-spec : {M : Type 1} → statement M
 are-identities-spec =
@@ -99,5 +102,6 @@ are-identities-spec =
     add-rank
     loop-less
     loop-again
+    cast-are-distinct
     are-distinct-requires
     returns-4)

@@ -11,24 +11,24 @@ use Rattle.identities.proofs.check_identities.Tie as tie
 is-tree-requires : tie.Need-is-tree-requires
 is-tree-requires c κs = search needs
 
-returns : tie.Need-returns
-returns c =
+wrong-tree : tie.Need-returns
+wrong-tree c =
     let args = c .before .before .before .before .args in
     sym (check-tree-wrong (args .tree .now) (args .identities .now) (sym (c .before .is-tree .ensures) ∙ not-true _ (c .if1 .taken)))
 
 are-identities-requires : tie.Need-are-identities-requires
 are-identities-requires c κs = search needs
 
-returns-2 : tie.Need-returns-2
-returns-2 c =
+wrong-identities : tie.Need-returns-2
+wrong-identities c =
     let args = c .before .before .before .before .before .before .args in
     sym (check-wrong (args .tree .now) (args .identities .now) (sym (c .before .before .before .is-tree .ensures) ∙ not-false _ (c .before .before .if1 .left)) (sym (c .before .are-identities .ensures) ∙ not-true _ (c .if2 .taken)))
 
 ranks-in-requires : tie.Need-ranks-in-requires
 ranks-in-requires c κs = search needs
 
-returns-3 : tie.Need-returns-3
-returns-3 c =
+passes : tie.Need-returns-3
+passes c =
     let args = c .before .before .before .before .before .before .before .args in
     ap answered (c .ranks-in .ensures)
     ∙ sym (check-right (args .tree .now) (args .identities .now) (sym (c .before .before .before .before .is-tree .ensures) ∙ not-false _ (c .before .before .before .if1 .left)) (sym (c .before .before .are-identities .ensures) ∙ not-false _ (c .before .if2 .left)))
@@ -38,8 +38,8 @@ check-identities-spec =
     tie.close
     (tie.spec
     is-tree-requires
-    returns
+    wrong-tree
     are-identities-requires
-    returns-2
+    wrong-identities
     ranks-in-requires
-    returns-3)
+    passes)

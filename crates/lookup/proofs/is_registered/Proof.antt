@@ -33,7 +33,7 @@ number-of-requires c κs = search needs
 returns-2 : tie.Need-returns-2
 returns-2 c =
     let args = c .before .before .before .before .before .before .before .before .before .args in
-    sym (other-rank (args .row .now) (args .rank) (args .service .now) (rw (← c .before .number-of .ensures) (c .if2 .taken)))
+    sym (other-rank (args .row .now) (args .rank) (args .service .now) (λ e. omega (arith, c .before .number-of .ensures, c .if2 .taken)))
 
 shared-slice-read-wide : tie.Need-shared-slice-read-wide
 shared-slice-read-wide c = search needs
@@ -71,7 +71,7 @@ returns-4 c =
     let whole : nameLength (args .row .now) ≡ length (args .service .now) = omega (arith, c .before .before .before .wide .ensures, c .before .before .if3 .left) in
     c .same .ensures
     ∙ rw size
-    (sym (rest-same (args .row .now) (args .rank) (args .service .now) (omega arith) (sym (c .before .before .before .before .before .before .number-of .ensures) ∙ c .before .before .before .before .before .if2 .left) whole))
+    (sym (rest-same (args .row .now) (args .rank) (args .service .now) (omega arith) (omega (arith, c .before .before .before .before .before .before .number-of .ensures, c .before .before .before .before .before .if2 .left)) whole))
 
 pub is-registered-spec : {M : Type 1} → statement M
 is-registered-spec =

@@ -28,7 +28,7 @@ slice-aggregate-result c = simp length-take (omega arith)
 returns : tie.Need-returns Inv-loop μ-loop
 returns c =
     let at-loop = c .before .before .before .before in
-    sym (service-stop (at-loop .before .args .topic .now) (at-loop .loop .i) (omega arith) (c .before .if1 .taken)) ∙ at-loop .loop .inv .1
+    sym (service-stop (at-loop .before .args .topic .now) (at-loop .loop .i) (omega arith) (omega arith)) ∙ at-loop .loop .inv .1
 
 add-i : tie.Need-add-i Inv-loop μ-loop
 add-i c = omega arith
@@ -39,7 +39,7 @@ loop-less c = omega arith
 loop-again : tie.Need-loop-again Inv-loop μ-loop
 loop-again c =
     let at-loop = c .before .before .before in
-    (omega arith, sym (service-more (at-loop .before .args .topic .now) (at-loop .loop .i) (omega arith) (c .if1 .left)) ∙ at-loop .loop .inv .1)
+    (omega arith, sym (service-more (at-loop .before .args .topic .now) (at-loop .loop .i) (omega arith) (λ e. omega arith)) ∙ at-loop .loop .inv .1)
 
 returns-2 : tie.Need-returns-2 Inv-loop μ-loop
 returns-2 c = sym (service-end (c .before .before .args .topic .now) (c .before .loop .i) (omega arith)) ∙ c .before .loop .inv .1

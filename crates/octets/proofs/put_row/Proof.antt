@@ -2,7 +2,7 @@
 -- Assumes nothing.
 use native.Mathlib.Omega.{arith}
 use mathlib.Core.Path.{sym}
-use Prim.Native.Nat.{_+_, _-_, _≤_}
+use Prim.Native.Nat.{_+_, _-_, _*_, _≤_}
 use lib.ListN.{length}
 use borrow.Author.Needs.{needs}
 use Rattle.octets.proofs.Rows.{Rowed, row-length, rowed-none, rowed-at, rowed-length, rowed-more, rowed-all}
@@ -17,11 +17,15 @@ Inv-loop out₀ row at₀ i₀ out at i = Rowed row out₀ out at i
 abbrev μ-loop : tie.MeasureT-loop
 μ-loop out₀ row at₀ i₀ out at i = length row - i
 
+-- there is room for the whole row
+room : (s : tie.Then1 Inv-loop μ-loop) → 4 * length (s .before .before .before .args .row .now) ≤ length (s .before .before .before .args .out .now)
+room s = omega (arith, s .if1 .taken)
+
 -- there is room for a turn's number behind those that are laid
 fits : (h : tie.In-loop Inv-loop μ-loop) → h .before .loop .at + 4 ≤ length (h .before .loop .out)
 fits h =
-    let room = h .before .before .if1 .taken in
-    omega (arith, rowed-at (h .before .loop .inv) room, rowed-length (h .before .loop .inv) room)
+    let whole = room (h .before .before) in
+    omega (arith, rowed-at (h .before .loop .inv) whole, rowed-length (h .before .loop .inv) whole)
 
 mul-if1 : tie.Need-mul-if1 Inv-loop μ-loop
 mul-if1 c = omega (arith, c .before .before .good)
@@ -49,7 +53,7 @@ put-number-requires c κs = tt
 
 add-at : tie.Need-add-at Inv-loop μ-loop
 add-at c = let h = c .before .before .before .before .before in
-    omega (arith, fits h, rowed-length (h .before .loop .inv) (h .before .before .if1 .taken), h .before .before .before .before .before .good)
+    omega (arith, fits h, rowed-length (h .before .loop .inv) (room (h .before .before)), h .before .before .before .before .before .good)
 
 add-i : tie.Need-add-i Inv-loop μ-loop
 add-i c = let h = c .before .before .before .before .before in
@@ -60,13 +64,13 @@ loop-less c = omega (arith, c .before .before .before .before .before .loop-test
 
 loop-again : tie.Need-loop-again Inv-loop μ-loop
 loop-again c = let h = c .before .before .before .before .before in
-    rowed-more (h .before .loop .inv) (h .before .before .if1 .taken) (h .loop-test .taken) (c .before .before .put-number .ensures)
+    rowed-more (h .before .loop .inv) (room (h .before .before)) (h .loop-test .taken) (c .before .before .put-number .ensures)
 
 same-length : tie.Need-same-length Inv-loop μ-loop
-same-length c = rowed-length (c .before .loop .inv) (c .before .before .if1 .taken)
+same-length c = rowed-length (c .before .loop .inv) (room (c .before .before))
 
 returns : tie.Need-returns Inv-loop μ-loop
-returns c = rowed-all (c .before .loop .inv) (c .before .before .if1 .taken) (c .loop-test .left)
+returns c = rowed-all (c .before .loop .inv) (room (c .before .before)) (c .loop-test .left)
 
 returns-2 : tie.Need-returns-2 Inv-loop μ-loop
 returns-2 c = let args = c .before .before .before .args in

@@ -24,7 +24,7 @@ abbrev μ-loop : tie.MeasureT-loop
 returns : tie.Need-returns Inv-loop μ-loop
 returns c =
     let args = c .before .before .args in
-    sym (distinct-many (args .width) (args .table .now) (args .n) (c .if1 .taken))
+    sym (distinct-many (args .width) (args .table .now) (args .n) (omega arith))
 
 mul-if2 : tie.Need-mul-if2 Inv-loop μ-loop
 mul-if2 c =
@@ -34,7 +34,7 @@ mul-if2 c =
 returns-2 : tie.Need-returns-2 Inv-loop μ-loop
 returns-2 c =
     let args = c .before .before .before .args in
-    sym (distinct-short (args .width) (args .table .now) (args .n) (c .if2 .taken))
+    sym (distinct-short (args .width) (args .table .now) (args .n) (omega arith))
 
 loop-holds : tie.Need-loop-holds Inv-loop μ-loop
 loop-holds c =
@@ -110,7 +110,7 @@ loop-again c =
 returns-4 : tie.Need-returns-4 Inv-loop μ-loop
 returns-4 c =
     let args = c .before .before .before .before .before .args in
-    sym (distinct-all (args .width) (args .table .now) (args .n) (c .before .before .before .if1 .left) (c .before .before .if2 .left) (c .before .loop .i) (omega arith) (c .before .loop .inv .1 .none))
+    sym (distinct-all (args .width) (args .table .now) (args .n) (omega (arith, c .before .before .before .if1 .left)) (c .before .before .if2 .left) (c .before .loop .i) (omega arith) (c .before .loop .inv .1 .none))
 
 pub are-distinct-spec : {M : Type 1} → statement M
 are-distinct-spec =

@@ -38,7 +38,7 @@ returns : tie.Need-returns Inv-loop μ-loop
 returns c =
     let at-loop = c .before .before .before .before .before in
     let args = at-loop .before .before .args in
-    sym (among-hit (args .width) (args .table .now) (args .i) (at-loop .loop .at) (at-loop .loop .inv) (c .before .before .before .before .loop-test .taken)
+    sym (among-hit (args .width) (args .table .now) (args .i) (at-loop .loop .at) (at-loop .loop .inv) (λ e. omega arith)
     (rw (← c .before .before .before .record .ensures, ← c .before .before .record2 .ensures, ← c .before .same .ensures) (c .if1 .taken)))
 
 mul-at : tie.Need-mul-at Inv-loop μ-loop
@@ -51,19 +51,19 @@ loop-less : tie.Need-loop-less Inv-loop μ-loop
 loop-less c =
     let at-loop = c .before .before .before .before .before .before in
     let args = at-loop .before .before .args in
-    next-less (args .width) (args .table .now) (args .i) (at-loop .loop .at) (at-loop .loop .inv) (c .before .before .before .before .before .loop-test .taken) (args .next .now) (at-loop .before .before .pre .2)
+    next-less (args .width) (args .table .now) (args .i) (at-loop .loop .at) (at-loop .loop .inv) (λ e. omega arith) (args .next .now) (at-loop .before .before .pre .2)
 
 loop-again : tie.Need-loop-again Inv-loop μ-loop
 loop-again c =
     let at-loop = c .before .before .before .before .before .before in
     let args = at-loop .before .before .args in
-    among-more (args .width) (args .table .now) (args .i) (at-loop .loop .at) (at-loop .loop .inv) (c .before .before .before .before .before .loop-test .taken) (args .next .now) (at-loop .before .before .pre .2)
+    among-more (args .width) (args .table .now) (args .i) (at-loop .loop .at) (at-loop .loop .inv) (λ e. omega arith) (args .next .now) (at-loop .before .before .pre .2)
     (rw (← c .before .before .before .before .record .ensures, ← c .before .before .before .record2 .ensures, ← c .before .before .same .ensures) (c .before .if1 .left))
 
 returns-2 : tie.Need-returns-2 Inv-loop μ-loop
 returns-2 c =
     let args = c .before .before .before .args in
-    sym (among-end (args .width) (args .table .now) (args .i) (c .before .loop .at) (c .loop-test .left) (c .before .loop .inv))
+    sym (among-end (args .width) (args .table .now) (args .i) (c .before .loop .at) (omega arith) (c .before .loop .inv))
 
 pub is-fresh-spec : {M : Type 1} → statement M
 is-fresh-spec =

@@ -16,7 +16,7 @@ abbrev μ-loop : tie.MeasureT-loop
 μ-loop a b i₀ i = length a - i
 
 returns : tie.Need-returns Inv-loop μ-loop
-returns c = sym (same-lengths _ _ (c .if1 .taken))
+returns c = sym (same-lengths _ _ (λ e. omega arith))
 
 loop-holds : tie.Need-loop-holds Inv-loop μ-loop
 loop-holds c = (omega arith, refl)
@@ -31,7 +31,7 @@ returns-2 : tie.Need-returns-2 Inv-loop μ-loop
 returns-2 c =
     let at-loop = c .before .before .before .before in
     let args = at-loop .before .before .args in
-    sym (differ-at (args .a .now) (args .b .now) (at-loop .loop .i) (omega arith) (omega arith) (c .if2 .taken)) ∙ at-loop .loop .inv .1
+    sym (differ-at (args .a .now) (args .b .now) (at-loop .loop .i) (omega arith) (omega arith) (λ e. omega arith)) ∙ at-loop .loop .inv .1
 
 add-i : tie.Need-add-i Inv-loop μ-loop
 add-i c = omega arith
@@ -43,7 +43,7 @@ loop-again : tie.Need-loop-again Inv-loop μ-loop
 loop-again c =
     let at-loop = c .before .before .before .before in
     let args = at-loop .before .before .args in
-    (omega arith, sym (same-at (args .a .now) (args .b .now) (at-loop .loop .i) (omega arith) (omega arith) (c .if2 .left)) ∙ at-loop .loop .inv .1)
+    (omega arith, sym (same-at (args .a .now) (args .b .now) (at-loop .loop .i) (omega arith) (omega arith) (omega arith)) ∙ at-loop .loop .inv .1)
 
 returns-3 : tie.Need-returns-3 Inv-loop μ-loop
 returns-3 c =

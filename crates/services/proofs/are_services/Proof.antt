@@ -33,7 +33,7 @@ mul-if2 c = omega arith
 returns-2 : tie.Need-returns-2 Inv-loop μ-loop
 returns-2 c =
     let args = c .before .before .before .before .args in
-    sym (bad-torn (args .tree .now) (args .services .now) (rw (services-are (args .services .now)) (c .if2 .taken)))
+    sym (bad-torn (args .tree .now) (args .services .now) (λ e. omega (arith, services-are (args .services .now), c .if2 .taken)))
 
 ranks-in-requires : tie.Need-ranks-in-requires Inv-loop μ-loop
 ranks-in-requires c κs = tt
@@ -72,6 +72,9 @@ loop-again c =
           (rw (← c .before .before .service-at .ensures, ← at-loop .loop .inv .1) (sym (c .before .is-service .ensures) ∙ not-false _ (c .if3 .left))),
     )
 
+cast-are-distinct : tie.Need-cast-are-distinct Inv-loop μ-loop
+cast-are-distinct c = omega arith
+
 are-distinct-requires : tie.Need-are-distinct-requires Inv-loop μ-loop
 are-distinct-requires c κs = tt
 
@@ -84,7 +87,7 @@ returns-4 c =
     let end : at-loop .loop .i ≡ servicesIn services = omega arith in
     c .are-distinct .ensures
     ∙ rw count
-    (sym (rest-distinct (args .tree .now) services (bytes-of services (λ i. c .before .before .before .before .before .before .shared-slice-known2 .given i .fits)) (rw (← count) (c .before .before .before .before .if2 .left)) (omega arith) (rw (← end) (at-loop .loop .inv .3))))
+    (sym (rest-distinct (args .tree .now) services (bytes-of services (λ i. c .before .before .before .before .before .before .shared-slice-known2 .given i .fits)) (omega (arith, count, c .before .before .before .before .if2 .left)) (omega arith) (rw (← end) (at-loop .loop .inv .3))))
 
 pub are-services-spec : {M : Type 1} → statement M
 are-services-spec =
@@ -103,5 +106,6 @@ are-services-spec =
     add-i
     loop-less
     loop-again
+    cast-are-distinct
     are-distinct-requires
     returns-4)

@@ -11,25 +11,25 @@ use Rattle.services.proofs.check_services.Tie as tie
 is-tree-requires : tie.Need-is-tree-requires
 is-tree-requires c κs = search needs
 
-returns : tie.Need-returns
-returns c =
+wrong-tree : tie.Need-returns
+wrong-tree c =
     let args = c .before .before .before .before .args in
     sym (check-tree-wrong (args .tree .now) (args .services .now) (sym (c .before .is-tree .ensures) ∙ not-true _ (c .if1 .taken)))
 
 are-services-requires : tie.Need-are-services-requires
 are-services-requires c κs = search needs
 
-returns-2 : tie.Need-returns-2
-returns-2 c =
+wrong-services : tie.Need-returns-2
+wrong-services c =
     let args = c .before .before .before .before .before .before .args in
     sym (check-wrong (args .tree .now) (args .services .now) (sym (c .before .before .before .is-tree .ensures) ∙ not-false _ (c .before .before .if1 .left)) (sym (c .before .are-services .ensures) ∙ not-true _ (c .if2 .taken)))
 
-returns-3 : tie.Need-returns-3
-returns-3 c =
-    let args = c .before .before .before .before .before .before .args in
-    ap answered (sym (services-are (args .services .now)))
-    ∙ sym (check-right (args .tree .now) (args .services .now) (sym (c .before .before .before .is-tree .ensures) ∙ not-false _ (c .before .before .if1 .left)) (sym (c .before .are-services .ensures) ∙ not-false _ (c .if2 .left)))
+passes : tie.Need-returns-3
+passes c =
+    let given = c .before .before .before .before .before .before .args in
+    ap answered (sym (services-are (given .services .now)))
+    ∙ sym (check-right (given .tree .now) (given .services .now) (sym (c .before .before .before .is-tree .ensures) ∙ not-false _ (c .before .before .if1 .left)) (sym (c .before .are-services .ensures) ∙ not-false _ (c .if2 .left)))
 
 pub check-services-spec : {M : Type 1} → statement M
 check-services-spec =
-    tie.close (tie.spec is-tree-requires returns are-services-requires returns-2 returns-3)
+    tie.close (tie.spec is-tree-requires wrong-tree are-services-requires wrong-services passes)

@@ -24,7 +24,7 @@ shared-slice-read-if1 c = omega arith
 returns : tie.Need-returns Inv-loop μ-loop
 returns c =
     let at-loop = c .before .before .before in
-    sym (name-zero (at-loop .before .args .name .now) (at-loop .loop .i) (omega arith) (c .if1 .taken)) ∙ at-loop .loop .inv .1
+    sym (name-zero (at-loop .before .args .name .now) (at-loop .loop .i) (omega arith) (omega arith)) ∙ at-loop .loop .inv .1
 
 shared-slice-read-if2 : tie.Need-shared-slice-read-if2 Inv-loop μ-loop
 shared-slice-read-if2 c = omega arith
@@ -32,7 +32,7 @@ shared-slice-read-if2 c = omega arith
 returns-2 : tie.Need-returns-2 Inv-loop μ-loop
 returns-2 c =
     let at-loop = c .before .before .before .before .before in
-    sym (name-period (at-loop .before .args .name .now) (at-loop .loop .i) (omega arith) (c .before .before .if1 .left) (c .if2 .taken)) ∙ at-loop .loop .inv .1
+    sym (name-period (at-loop .before .args .name .now) (at-loop .loop .i) (omega arith) (λ e. omega arith) (omega arith)) ∙ at-loop .loop .inv .1
 
 add-i : tie.Need-add-i Inv-loop μ-loop
 add-i c = omega arith
@@ -43,7 +43,7 @@ loop-less c = omega arith
 loop-again : tie.Need-loop-again Inv-loop μ-loop
 loop-again c =
     let at-loop = c .before .before .before .before .before in
-    (omega arith, sym (name-more (at-loop .before .args .name .now) (at-loop .loop .i) (omega arith) (c .before .before .if1 .left) (c .if2 .left)) ∙ at-loop .loop .inv .1)
+    (omega arith, sym (name-more (at-loop .before .args .name .now) (at-loop .loop .i) (omega arith) (λ e. omega arith) (λ e. omega arith)) ∙ at-loop .loop .inv .1)
 
 returns-3 : tie.Need-returns-3 Inv-loop μ-loop
 returns-3 c = sym (name-end (c .before .before .args .name .now) (c .before .loop .i) (omega arith)) ∙ c .before .loop .inv .1

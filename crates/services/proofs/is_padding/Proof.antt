@@ -24,7 +24,7 @@ shared-slice-read-if1 c = omega arith
 returns : tie.Need-returns Inv-loop μ-loop
 returns c =
     let at-loop = c .before .before .before in
-    sym (padding-other (at-loop .before .args .s .now) (at-loop .loop .i) (omega arith) (c .if1 .taken)) ∙ at-loop .loop .inv .1
+    sym (padding-other (at-loop .before .args .s .now) (at-loop .loop .i) (omega arith) (λ e. omega arith)) ∙ at-loop .loop .inv .1
 
 add-i : tie.Need-add-i Inv-loop μ-loop
 add-i c = omega arith
@@ -35,7 +35,7 @@ loop-less c = omega arith
 loop-again : tie.Need-loop-again Inv-loop μ-loop
 loop-again c =
     let at-loop = c .before .before .before in
-    (omega arith, sym (padding-more (at-loop .before .args .s .now) (at-loop .loop .i) (omega arith) (c .if1 .left)) ∙ at-loop .loop .inv .1)
+    (omega arith, sym (padding-more (at-loop .before .args .s .now) (at-loop .loop .i) (omega arith) (omega arith)) ∙ at-loop .loop .inv .1)
 
 returns-2 : tie.Need-returns-2 Inv-loop μ-loop
 returns-2 c = sym (padding-end (c .before .before .args .s .now) (c .before .loop .i) (omega arith)) ∙ c .before .loop .inv .1

@@ -1,8 +1,10 @@
 -- `tree::depth_after` meets its contract: a rank is one deeper than its parent.
 -- Assumes nothing.
+use mathlib.Core.Path.{ap, _∙_}
 use Prim.Native.Nat.{_<_}
 use native.Mathlib.Omega.{arith}
 use Rattle.tree.specs.Tree.{parentOf}
+use Rattle.tree.specs.Depths.{depthOf}
 use Rattle.tree.proofs.Depths.{depth-next}
 use borrow.Author.Needs.{needs}
 use Rattle.tree.proofs.depth_after.Statement.{statement}
@@ -21,7 +23,7 @@ add-result : tie.Need-add-result
 add-result c =
     let args = c .before .before .before .before .before .args in
     let parent = c .before .before .parent-of .result in
-    omega (arith, c .before .before .before .before .before .pre .1 .right parent (c .before .if1 .taken), c .before .before .before .before .before .pre .1 .most parent (c .before .if1 .taken))
+    omega (arith, c .before .before .before .before .before .pre .1 .right parent (omega arith), c .before .before .before .before .before .pre .1 .most parent (omega arith))
 
 depth-of-requires : tie.Need-depth-of-requires
 depth-of-requires c κs = search needs
@@ -31,7 +33,7 @@ returns c =
     let args = c .before .before .before .before .before .args in
     let tree = args .tree .now in
     let is = c .before .before .parent-of .ensures in
-    let inside : parentOf tree (args .rank) < args .rank = rw (← is) (c .before .if1 .taken) in
+    let inside : parentOf tree (args .rank) < args .rank = omega (arith, is, c .before .if1 .taken) in
     rw is
     (omega (
       arith,
@@ -40,7 +42,9 @@ returns c =
     ))
 
 returns-2 : tie.Need-returns-2
-returns-2 c = search needs
+returns-2 c =
+    let tree = c .before .before .before .before .before .args .tree .now in
+    c .depth-of .ensures ∙ ap (depthOf tree) (omega arith)
 
 pub depth-after-spec : {M : Type 1} → statement M
 depth-after-spec =

@@ -24,7 +24,7 @@ returns : tie.Need-returns Inv-loop μ-loop
 returns c =
     let at-loop = c .before .before in
     let args = at-loop .before .before .args in
-    climb-stop (args .tree .now) (at-loop .loop .d) (at-loop .loop .at) (args .rank) (c .if1 .taken) (at-loop .loop .inv .1)
+    climb-stop (args .tree .now) (at-loop .loop .d) (at-loop .loop .at) (args .rank) (omega arith) (at-loop .loop .inv .1)
 
 parent-of-requires : tie.Need-parent-of-requires Inv-loop μ-loop
 parent-of-requires c κs = search needs
@@ -39,7 +39,7 @@ loop-again : tie.Need-loop-again Inv-loop μ-loop
 loop-again c =
     let at-loop = c .before .before .before in
     let args = at-loop .before .before .args in
-    (omega arith, rw (c .parent-of .ensures) (climb-turn (args .tree .now) (at-loop .loop .d) (at-loop .loop .at) (omega arith) (c .before .if1 .left)) ∙ at-loop .loop .inv .1)
+    (omega arith, rw (c .parent-of .ensures) (climb-turn (args .tree .now) (at-loop .loop .d) (at-loop .loop .at) (omega arith) (λ e. omega arith)) ∙ at-loop .loop .inv .1)
 
 returns-2 : tie.Need-returns-2 Inv-loop μ-loop
 returns-2 c =

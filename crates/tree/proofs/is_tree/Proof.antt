@@ -7,7 +7,7 @@ use borrow.Author.Tests.{not-true, not-false}
 use native.Mathlib.Omega.{arith}
 use lib.ListN.{length, length-set}
 use Rattle.tree.specs.Tree.{ranksIn}
-use Rattle.tree.specs.Depths.{Shallow}
+use Rattle.tree.specs.Working.{Shallow}
 use Rattle.tree.proofs.Tree.{whole-few}
 use Rattle.tree.proofs.Depths.{bad-whole, bad-top, bad-depth, shallow-none, shallow-more, good-all}
 use Rattle.tree.proofs.is_tree.Statement.{statement}
@@ -29,7 +29,7 @@ parent-of-requires : tie.Need-parent-of-requires Inv-loop μ-loop
 parent-of-requires c κs = tt
 
 returns-2 : tie.Need-returns-2 Inv-loop μ-loop
-returns-2 c = sym (bad-top (c .before .before .before .before .before .args .tree .now) (rw (← c .before .parent-of .ensures) (c .if2 .taken)))
+returns-2 c = sym (bad-top (c .before .before .before .before .before .args .tree .now) (λ e. omega (arith, c .before .parent-of .ensures, c .if2 .taken)))
 
 ranks-in-requires : tie.Need-ranks-in-requires Inv-loop μ-loop
 ranks-in-requires c κs = tt
@@ -77,7 +77,7 @@ loop-again c =
       at-loop .loop .inv .1,
       at-loop .loop .inv .2,
       length-set (at-loop .loop .depths) (at-loop .loop .r) (c .before .depth-after .result) ∙ at-loop .loop .inv .3,
-      shallow-more tree (at-loop .loop .depths) (at-loop .loop .r) (c .before .depth-after .result) (omega arith) (c .before .depth-after .ensures) (c .if3 .left) (at-loop .loop .inv .4),
+      shallow-more tree (at-loop .loop .depths) (at-loop .loop .r) (c .before .depth-after .result) (omega arith) (c .before .depth-after .ensures) (omega (arith, c .if3 .left)) (at-loop .loop .inv .4),
     )
 
 returns-4 : tie.Need-returns-4 Inv-loop μ-loop
@@ -85,7 +85,7 @@ returns-4 c =
     let at-loop = c .before in
     let tree = c .before .before .before .before .before .before .before .before .args .tree .now in
     let whole = sym (at-loop .before .before .before .before .before .is-whole .ensures) ∙ not-false _ (at-loop .before .before .before .before .if1 .left) in
-    sym (good-all tree whole (sym (at-loop .before .before .before .parent-of .ensures) ∙ at-loop .before .before .if2 .left) (at-loop .loop .depths) (at-loop .loop .r) (omega (arith, at-loop .loop .inv .1)) (at-loop .loop .inv .4))
+    sym (good-all tree whole (omega (arith, at-loop .before .before .before .parent-of .ensures, at-loop .before .before .if2 .left)) (at-loop .loop .depths) (at-loop .loop .r) (omega (arith, at-loop .loop .inv .1)) (at-loop .loop .inv .4))
 
 pub is-tree-spec : {M : Type 1} → statement M
 is-tree-spec =

@@ -37,7 +37,7 @@ number-of-requires c κs = search needs
 returns : tie.Need-returns
 returns c =
     let args = c .before .before .before .before .before .before .before .args in
-    c .number-of .ensures ∙ parent-inside (args .tree .now) (args .rank) (c .before .before .before .before .before .if1 .taken)
+    c .number-of .ensures ∙ parent-inside (args .tree .now) (args .rank) (omega (arith, c .before .before .before .before .before .if1 .taken))
 
 returns-2 : tie.Need-returns-2
 returns-2 c =

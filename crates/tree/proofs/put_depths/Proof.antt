@@ -2,10 +2,12 @@
 -- Assumes nothing.
 use mathlib.Core.Path.{_≡_, refl, _∙_}
 use mathlib.Core.List.{_++_}
-use Prim.Native.Nat.{_-_, _≤_}
+use Prim.Native.Nat.{ℕ, _-_, _<_, _≤_}
 use native.Mathlib.Omega.{arith}
 use lib.ListN.{length, drop, length-set}
-use Rattle.tree.specs.Depths.{depthsBelow, Shallow}
+use Rattle.tree.specs.Tree.{ranksIn}
+use Rattle.tree.specs.Depths.{depthOf, depthsBelow}
+use Rattle.tree.specs.Working.{Shallow}
 use Rattle.tree.proofs.Depths.{good-depth, shallow-none, shallow-more}
 use Rattle.tree.proofs.Checking.{depths-none, depths-more, depths-all}
 use Rattle.tree.proofs.put_depths.Statement.{statement}
@@ -17,6 +19,23 @@ Inv-loop tree depths₀ n rank₀ depths rank = (rank ≤ n) × (length depths �
 abbrev μ-loop : tie.MeasureT-loop
 μ-loop tree depths₀ n rank₀ depths rank = n - rank
 
+-- where a rank's depth is found, the turn it belongs to
+abbrev turn : tie.After-depth-after Inv-loop μ-loop → tie.In-loop Inv-loop μ-loop
+turn c = c .before .before
+
+module _ (h : tie.In-loop Inv-loop μ-loop) where
+  inside : h .before .loop .rank < ranksIn (h .before .before .before .before .before .args .tree .now)
+  inside = omega (arith, h .before .before .ranks-in .ensures)
+
+  few : h .before .loop .rank < 1024
+  few = omega (arith, inside, h .before .before .before .before .before .pre .2)
+
+  lent : h .before .loop .rank < length (h .before .before .before .before .before .args .depths .now)
+  lent = omega (arith, inside, h .before .before .before .before .before .pre .1)
+
+  place : h .before .loop .rank < length (h .before .loop .depths)
+  place = omega (arith, lent)
+
 ranks-in-requires : tie.Need-ranks-in-requires Inv-loop μ-loop
 ranks-in-requires c κs = tt
 
@@ -27,31 +46,33 @@ cast-loop : tie.Need-cast-loop Inv-loop μ-loop
 cast-loop c = omega (arith, c .before .before .before .before .pre .2)
 
 depth-after-requires : tie.Need-depth-after-requires Inv-loop μ-loop
-depth-after-requires c κs = (omega (arith, c .before .before .before .ranks-in .ensures, c .before .before .before .before .before .before .pre .1), c .before .before .loop .inv .3)
+depth-after-requires c κs = (omega (arith, place (c .before)), c .before .before .loop .inv .3)
 
 cast-depths : tie.Need-cast-depths Inv-loop μ-loop
 cast-depths c = omega arith
 
 slice-write-depths : tie.Need-slice-write-depths Inv-loop μ-loop
-slice-write-depths c = omega (arith, c .before .before .before .before .ranks-in .ensures, c .before .before .before .before .before .before .before .pre .1, c .before .before .before .before .before .before .before .pre .2)
+slice-write-depths c = place (turn c)
 
 add-rank : tie.Need-add-rank Inv-loop μ-loop
-add-rank c = omega (arith, c .before .before .before .before .ranks-in .ensures, c .before .before .before .before .before .before .before .pre .1, c .before .before .before .before .before .before .before .pre .2)
+add-rank c = omega (arith, few (turn c))
 
 loop-less : tie.Need-loop-less Inv-loop μ-loop
 loop-less c = omega arith
 
 loop-again : tie.Need-loop-again Inv-loop μ-loop
 loop-again c =
-    let at-loop = c .before .before .before in
-    let start = at-loop .before .before .before .before in
+    let h = turn c in
+    let v = h .before .loop in
+    let start = h .before .before .before .before .before in
     let tree = start .args .tree .now in
-    let d = c .depth-after .result in
-    let most : d ≤ 16 = rw (c .depth-after .ensures) (good-depth tree (start .pre .0) (at-loop .loop .rank) (omega (arith, at-loop .before .ranks-in .ensures))) in (
+    let d : ℕ = c .depth-after .result in
+    let is : d ≡ depthOf tree (v .rank) = c .depth-after .ensures in
+    let most : d ≤ 16 = omega (arith, is, good-depth tree (start .pre .0) (v .rank) (inside h)) in (
       omega arith,
       simp length-set (omega arith),
-      rw (at-loop .loop .inv .2, c .depth-after .ensures) (depths-more tree (at-loop .loop .rank) (start .args .depths .now) (omega (arith, at-loop .before .ranks-in .ensures, start .pre .1))),
-      shallow-more tree (at-loop .loop .depths) (at-loop .loop .rank) d (omega (arith, at-loop .before .ranks-in .ensures, start .pre .1)) (c .depth-after .ensures) most (at-loop .loop .inv .3),
+      depths-more tree (v .rank) d (start .args .depths .now) (lent h) (v .inv .2) is,
+      shallow-more tree (v .depths) (v .rank) d (place h) is most (v .inv .3),
     )
 
 same-length : tie.Need-same-length Inv-loop μ-loop
