@@ -21,8 +21,8 @@ use Rattle.message.proofs.Lists.{front-final}
 use Rattle.message.proofs.Parts.{joined-append, split, part-short, part-long}
 use Rattle.parts.specs.declared.walk.Walked.{Walked}
 use Rattle.parts.specs.declared.walk.Walk.the-variants.{Refused, Counted}
-use Rattle.reader.specs.declared.header.Head.the-variants.{Wrong, Fields}
-use Rattle.reader.specs.Places.{headAs}
+use Rattle.header.specs.declared.Head.the-variants.{Wrong, Fields}
+use Rattle.header.specs.Head.{headAs}
 use Rattle.parts.specs.Walk.{walkedAs}
 use Rattle.reader.specs.Judging.{partsFound, WalkedOver, Headed}
 

@@ -10,7 +10,7 @@ use Rattle.message.specs.declared.Refusal.the-variants.{ShortInput, WrongStart,
 use Rattle.message.specs.Answer.{refused, andThen}
 use Rattle.message.specs.Reading.{startsRight, bodyLength, partsIn, judged, readingOf}
 use Rattle.octets.proofs.Numbers.{number-at}
-use Rattle.reader.proofs.Heads.{NumberAt}
+use Rattle.header.proofs.Heads.{NumberAt}
 
 module _ (b : List ℕ) where
   pub open-short : length b < 8 → readingOf b ≡ refused ShortInput

@@ -17,7 +17,7 @@ use Rattle.reader.specs.declared.Stretch.{Stretch}
 use Rattle.reader.specs.declared.judge.Piece.{Piece}
 use Rattle.parts.proofs.Passing.{part-from}
 use Rattle.octets.proofs.Numbers.{number-at}
-use Rattle.reader.proofs.Heads.{NumberAt}
+use Rattle.header.proofs.Heads.{NumberAt}
 use Rattle.reader.specs.Judging.{partsFound, Found, HasSize, stretchAt, pieceAt}
 
 -- ---- a part at the front of bytes

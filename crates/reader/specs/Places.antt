@@ -4,7 +4,7 @@ use mathlib.Core.Bool.{Bool, cond}
 use mathlib.Core.List.{List, [], _∷_, _++_}
 use lib.ListN.{length, take, drop}
 use Rattle.message.specs.Answer.{Answer, refused, answered}
-use Rattle.message.specs.Header.{hasTopic, hasPayload, headerIn, isHeader}
+use Rattle.message.specs.Header.{hasTopic, hasPayload}
 use Rattle.message.specs.Message.{Message}
 use Rattle.message.specs.Frame.{sizeBytes, joined, routing, topicPart, frameOf}
 use Rattle.message.specs.Writing.{isEmpty}
@@ -12,8 +12,6 @@ use Rattle.reader.specs.declared.Stretch.{Stretch}
 use Rattle.reader.specs.declared.Frame.{Frame}
 use Rattle.reader.specs.declared.Reading.{Reading}
 use Rattle.reader.specs.declared.Reading.the-variants.{Refused, Accepted}
-use Rattle.reader.specs.declared.header.Head.{Head}
-use Rattle.reader.specs.declared.header.Head.the-variants.{Wrong, Fields}
 
 -- a stretch of the caller's bytes
 abbrev pub stretch : List ℕ → ℕ → ℕ → List ℕ
@@ -43,7 +41,3 @@ placesOf m =
 abbrev pub readAs : Answer Message → Reading
 readAs (refused r) = Refused r
 readAs (answered m) = Accepted (placesOf m)
-
--- the fields of a header that is right
-abbrev pub headAs : List ℕ → Head
-headAs p = cond (isHeader p) (Fields (headerIn p)) Wrong

@@ -5,8 +5,8 @@ use crate::Reading;
 use crate::Stretch;
 use crate::agree::if_set;
 use crate::agree::parts_agree;
-use crate::header::Head;
-use crate::header::read_header;
+use header::Head;
+use header::read_header;
 use message::Header;
 use message::Refusal;
 use parts::walk::Walk;
@@ -138,6 +138,7 @@ fn placed(size: usize, h: Header, routes: usize, topic: Piece, payload: Piece) -
     ensures { λ r. ⌜ r ≡ placedAs size h routes topic payload ⌝ }
 {
     let has_topic = message::has_topic(h.flags);
+    let shown = topic.len - if_set(has_topic, 1);
     Frame {
         taken: FRONT + size,
         header: h,
@@ -145,7 +146,7 @@ fn placed(size: usize, h: Header, routes: usize, topic: Piece, payload: Piece) -
         route: first_route(routes),
         topic: Stretch {
             start: if_set(has_topic, FRONT + topic.at),
-            len: topic.len - if_set(has_topic, 1),
+            len: shown,
         },
         payload: Stretch {
             start: if_set(message::has_payload(h.flags), FRONT + payload.at),

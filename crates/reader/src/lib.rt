@@ -9,7 +9,6 @@ ghost use Rattle.message.specs.Reading.{startsRight, readingOf};
 ghost use Rattle.reader.specs.Places.{readAs};
 
 mod agree;
-mod header;
 mod judge;
 
 // Bytes in front of a body: the frame's four, and the body's length.

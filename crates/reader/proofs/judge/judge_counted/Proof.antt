@@ -5,7 +5,7 @@ use mathlib.Core.Path.{_≡_, sym, ap, _∙_}
 use Rattle.octets.specs.Number.{Bytes}
 use Rattle.octets.proofs.Numbers.{bytes-of}
 use Rattle.reader.proofs.Heading.{last-within, last-wrong, head-wrong, headed, judged-rest}
-use Rattle.reader.specs.declared.header.Head.the-variants.{Fields}
+use Rattle.header.specs.declared.Head.the-variants.{Fields}
 use Rattle.reader.specs.Places.{readAs}
 use Rattle.reader.proofs.judge.judge_counted.Statement.{statement}
 use Rattle.reader.proofs.judge.judge_counted.Tie as tie

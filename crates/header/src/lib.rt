@@ -4,9 +4,9 @@ ghost use mathlib.Core.Path.{_≡_};
 ghost use Prim.Native.Nat.{_≤_};
 ghost use lib.ListN.{length};
 ghost use Rattle.message.specs.Header.{headerIn};
-ghost use Rattle.reader.specs.Places.{headAs};
+ghost use Rattle.header.specs.Head.{headAs};
 
-pub(crate) enum Head {
+pub enum Head {
     Wrong,
     Fields(Header),
 }
@@ -27,7 +27,7 @@ fn fields(p: &[u8]) -> Header
 }
 
 // The fields of a header that is right.
-pub(crate) fn read_header(p: &[u8]) -> Head
+pub fn read_header(p: &[u8]) -> Head
     ensures { λ r. ⌜ r ≡ headAs (now (p .entry)) ⌝ }
 {
     if p.len() != message::HEADER {

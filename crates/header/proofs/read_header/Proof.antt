@@ -1,4 +1,4 @@
--- `reader::header::read_header` meets its contract.
+-- `header::read_header` meets its contract.
 -- Assumes nothing.
 use borrow.Author.Needs.{needs}
 use native.Mathlib.Omega.{arith}
@@ -6,11 +6,11 @@ use mathlib.Core.Path.{_≡_, sym, ap, _∙_}
 use Prim.Native.Nat.{ℕ}
 use mathlib.Core.List.{List}
 use lib.ListN.{length, getD}
-use Rattle.reader.proofs.Heads.{head-length, head-magic, head-version, head-unknown, head-known}
-use Rattle.reader.specs.declared.header.Head.the-variants.{Fields}
+use Rattle.header.proofs.Heads.{head-length, head-magic, head-version, head-unknown, head-known}
+use Rattle.header.specs.declared.Head.the-variants.{Fields}
 use Rattle.message.specs.Header.{isKnown, headerIn}
-use Rattle.reader.proofs.header.read_header.Statement.{statement}
-use Rattle.reader.proofs.header.read_header.Tie as tie
+use Rattle.header.proofs.read_header.Statement.{statement}
+use Rattle.header.proofs.read_header.Tie as tie
 
 -- the length, the magic and the version are right, and the fields are read
 module _ (d : tie.After-is-known) where

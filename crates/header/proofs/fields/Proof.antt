@@ -1,9 +1,9 @@
--- `reader::header::fields` meets its contract.
+-- `header::fields` meets its contract.
 -- Assumes nothing.
 use borrow.Author.Needs.{needs}
-use Rattle.reader.proofs.Heads.{fields-in}
-use Rattle.reader.proofs.header.fields.Statement.{statement}
-use Rattle.reader.proofs.header.fields.Tie as tie
+use Rattle.header.proofs.Heads.{fields-in}
+use Rattle.header.proofs.fields.Statement.{statement}
+use Rattle.header.proofs.fields.Tie as tie
 
 shared-slice-read-t3 : tie.Need-shared-slice-read-t3
 shared-slice-read-t3 c = search needs
