@@ -7,10 +7,12 @@
 //! status is 1 if a case failed.
 
 mod arena;
+mod crash;
 mod draft;
 mod faults;
 mod long_lengths;
 mod messages;
+mod pages;
 mod paper;
 mod reader_bounds;
 mod reader_order;
@@ -104,6 +106,7 @@ fn main() {
         exit(2);
     }
     let weights: u64 = wanted.iter().map(|group| group.weight).sum();
+    crash::watch();
     let mut tester = Tester::new();
     println!("seed {}, {} seeded cases", options.seed, options.cases);
     for group in wanted {
