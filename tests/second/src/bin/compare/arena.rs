@@ -4,8 +4,9 @@
 
 use std::ops::Range;
 
+use second::sample::Rng;
+
 use crate::pages::{Edge, Fenced};
-use crate::rng::Rng;
 
 /// At least this many guard bytes lie around each slice.
 const GUARD: usize = 24;

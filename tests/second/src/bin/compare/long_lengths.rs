@@ -2,12 +2,12 @@
 //! all the bytes are looked at, wherever a program may have written.
 
 use second::frame::Header;
+use second::sample::Rng;
 use second::side::{LIBRARY, SECOND};
 use second::write::Message;
 
 use crate::draft::{frame_of, Draft};
 use crate::pages::Repeated;
-use crate::rng::Rng;
 use crate::tester::{hex, Tester};
 
 const ABOVE: usize = (1 << 32) + 64;
@@ -131,7 +131,8 @@ fn long_output(tester: &mut Tester, memory: &mut Repeated) {
 #[cfg(feature = "tables")]
 fn tables_above(tester: &mut Tester, bytes: &mut [u8]) {
     use crate::draft::route;
-    use crate::table_calls::{service, star};
+    use crate::table_calls::star;
+    use second::sample::service;
     type Check = fn(&second::side::Side, &[u8]) -> u32;
     let checks: [(Vec<u8>, u32, Check); 3] = [
         (star(1), 14, |side, long| {

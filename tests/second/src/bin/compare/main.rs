@@ -16,7 +16,6 @@ mod pages;
 mod paper;
 mod reader_bounds;
 mod reader_order;
-mod rng;
 mod seeded;
 #[cfg(feature = "tables")]
 mod seeded_tables;
