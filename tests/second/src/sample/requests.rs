@@ -1,7 +1,7 @@
 //! Requests for a floor, and responses to them.
 
 use super::{depth_of, floors::NAMES, route, OwnedTables, Rng};
-use crate::frame::Header;
+use crate::frame::{number_at, Header};
 use crate::write::Message;
 
 /// The body that demand 3 leaves room to grow by 32 routes.
@@ -42,6 +42,7 @@ pub struct Request {
 
 /// A request within demand 3's premises, often at their limits.
 pub fn request(rng: &mut Rng, tables: &OwnedTables) -> Request {
+    let entry = far_rank(rng, tables);
     let header = Header {
         kind: 1,
         flags: 0x09 | rng.pick(&[0x00, 0x00, 0x00, 0x04, 0x20, 0x40, 0x44, 0x64]),
@@ -60,10 +61,25 @@ pub fn request(rng: &mut Rng, tables: &OwnedTables) -> Request {
         message.header.flags |= 0x10;
     }
     if rng.once_in(2) {
+        aim(rng, tables, &mut message);
+    }
+    if rng.once_in(2) {
         add_payload(rng, &mut message, MAX_BODY);
     }
-    let entry = far_rank(rng, tables);
     Request { entry, message }
+}
+
+/// Lets a request ask for a service that some broker has, often of that broker.
+fn aim(rng: &mut Rng, tables: &OwnedTables, message: &mut OwnedMessage) {
+    let records = tables.services.len() / 32;
+    if records > 0 {
+        let record = &tables.services[32 * rng.below(records)..][..32];
+        let name = &record[5..5 + record[4] as usize];
+        message.topic = [name, rng.pick(&[&b""[..], b".run", b"."])].concat();
+        if message.header.first != u32::MAX && rng.once_in(2) {
+            message.header.first = number_at(record, 0);
+        }
+    }
 }
 
 /// A response that a service at the request's end may give: its routes at rest, its topic and its

@@ -1,6 +1,8 @@
 //! Lengths above 4 GiB: a length is a `size_t`, and nothing may cut it to 32 bits. After the calls
 //! all the bytes are looked at, wherever a program may have written.
 
+use std::io::Error;
+
 use second::frame::Header;
 use second::sample::Rng;
 use second::side::{LIBRARY, SECOND};
@@ -10,7 +12,7 @@ use crate::draft::{frame_of, Draft};
 use crate::pages::Repeated;
 use crate::tester::{hex, Tester};
 
-const ABOVE: usize = (1 << 32) + 64;
+pub const ABOVE: usize = (1 << 32) + 64;
 /// The pattern behind every input and in every output repeats after so many bytes.
 const PATTERN_LEN: usize = 1 << 24;
 /// The cases put their bytes in front of this.
@@ -18,18 +20,33 @@ const FRONT: usize = 200;
 
 pub fn run(tester: &mut Tester) {
     tester.begin_group("long-lengths");
-    // No zero, as in the other groups.
+    if let Some(mut memory) = given(tester, Repeated::new(ABOVE, pattern())) {
+        run_in(tester, &mut memory);
+    }
+    #[cfg(feature = "step")]
+    if let Some(mut memory) = given(tester, Repeated::to_be_written(ABOVE, pattern())) {
+        crate::long_steps::run(tester, &mut memory);
+    }
+    tester.end_group("");
+}
+
+/// No zero, as in the other groups.
+fn pattern() -> Vec<u8> {
     let mut pattern = Rng::new(1).bytes(PATTERN_LEN);
     pattern
         .iter_mut()
         .for_each(|byte| *byte |= (*byte == 0) as u8);
-    match Repeated::new(ABOVE, pattern) {
-        Ok(mut memory) => run_in(tester, &mut memory),
-        Err(fault) => tester.case("4 GiB of address space", 0, 0, |tester| {
+    pattern
+}
+
+/// Without the memory the group has failed.
+fn given(tester: &mut Tester, memory: Result<Repeated, Error>) -> Option<Repeated> {
+    tester.case("4 GiB of address space", 0, 0, |tester| {
+        if let Err(fault) = &memory {
             tester.require(false, || format!("the system does not give them: {fault}"));
-        }),
-    }
-    tester.end_group("");
+        }
+    });
+    memory.ok()
 }
 
 fn run_in(tester: &mut Tester, memory: &mut Repeated) {

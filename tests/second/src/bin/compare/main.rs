@@ -3,22 +3,36 @@
 //!     compare [--seed N] [--cases N] [--group NAME] [--from N]
 //!
 //! `--cases` is the number of seeded cases over all seeded groups, or in the one group that
-//! `--group` names; `--from` is the number of the first. The last line is the score; the exit
-//! status is 1 if a case failed.
+//! `--group` names; by default each group has its own number. `--from` is the number of the first.
+//! The last line is the score; the exit status is 1 if a case failed.
 
 mod arena;
 mod crash;
 mod draft;
 mod faults;
 mod long_lengths;
+#[cfg(feature = "step")]
+mod long_steps;
 mod messages;
 mod pages;
 mod paper;
+#[cfg(feature = "step")]
+mod paper_floor;
 mod reader_bounds;
 mod reader_order;
 mod seeded;
+#[cfg(feature = "step")]
+mod seeded_steps;
 #[cfg(feature = "tables")]
 mod seeded_tables;
+#[cfg(feature = "step")]
+mod step_bounds;
+#[cfg(feature = "step")]
+mod step_calls;
+#[cfg(feature = "step")]
+mod step_order;
+#[cfg(feature = "step")]
+mod step_rules;
 #[cfg(feature = "tables")]
 mod table_bounds;
 #[cfg(feature = "tables")]
@@ -34,7 +48,8 @@ use seeded::Run;
 use tester::Tester;
 
 const DEFAULT_SEED: u64 = 1;
-const DEFAULT_CASES: u64 = 1_200_000;
+/// Seeded cases for each weight of a group.
+const CASES_A_WEIGHT: u64 = 45_000;
 
 struct Group {
     name: &'static str,
@@ -74,12 +89,20 @@ fn groups() -> Vec<Group> {
         group("services", 1, seeded_tables::services),
         #[cfg(feature = "tables")]
         group("identities", 1, seeded_tables::identities),
+        #[cfg(feature = "step")]
+        group("step-rules", 0, |tester, _| step_rules::run(tester)),
+        #[cfg(feature = "step")]
+        group("step-bounds", 0, |tester, _| step_bounds::run(tester)),
+        #[cfg(feature = "step")]
+        group("step-order", 0, |tester, _| step_order::run(tester)),
+        #[cfg(feature = "step")]
+        group("steps", 3, seeded_steps::steps),
     ]
 }
 
 struct Options {
     seed: u64,
-    cases: u64,
+    cases: Option<u64>,
     from: u64,
     group: Option<String>,
 }
@@ -106,13 +129,14 @@ fn main() {
     }
     let weights: u64 = wanted.iter().map(|group| group.weight).sum();
     crash::watch();
+    let cases = options.cases.unwrap_or(CASES_A_WEIGHT * weights);
     let mut tester = Tester::new();
-    println!("seed {}, {} seeded cases", options.seed, options.cases);
+    println!("seed {}, {cases} seeded cases", options.seed);
     for group in wanted {
         let run = Run {
             seed: options.seed,
             from: options.from,
-            cases: (options.cases * group.weight).div_ceil(weights.max(1)),
+            cases: (cases * group.weight).div_ceil(weights.max(1)),
         };
         (group.run)(&mut tester, &run);
     }
@@ -124,7 +148,7 @@ fn main() {
 fn options() -> Result<Options, String> {
     let mut options = Options {
         seed: DEFAULT_SEED,
-        cases: DEFAULT_CASES,
+        cases: None,
         from: 0,
         group: None,
     };
@@ -138,7 +162,7 @@ fn options() -> Result<Options, String> {
         };
         match word.as_str() {
             "--seed" => options.seed = number()?,
-            "--cases" => options.cases = number()?,
+            "--cases" => options.cases = Some(number()?),
             "--from" => options.from = number()?,
             "--group" => options.group = Some(value),
             _ => return Err(format!("{word} is not known")),

@@ -13,6 +13,8 @@ const PAGE: usize = 4096;
 const PROT_NONE: c_int = 0;
 const PROT_READ: c_int = 1;
 const PROT_WRITE: c_int = 2;
+#[cfg(feature = "step")]
+const MAP_SHARED: c_int = 0x01;
 const MAP_PRIVATE: c_int = 0x02;
 const MAP_FIXED: c_int = 0x10;
 const MAP_ANONYMOUS: c_int = 0x20;
@@ -117,19 +119,37 @@ impl Repeated {
     /// `len` bytes or some more; the pattern is of whole pages.
     pub fn new(len: usize, pattern: Vec<u8>) -> Result<Repeated, Error> {
         let space = Space::new(len.next_multiple_of(pattern.len()))?;
-        // Safe: a new file in memory, which nobody else knows.
-        let descriptor = unsafe { memfd_create(c"pattern".as_ptr(), 0) };
-        if descriptor < 0 {
-            return Err(Error::last_os_error());
-        }
-        // Safe: the descriptor is open and ours.
-        let mut file = unsafe { File::from_raw_fd(descriptor) };
-        file.write_all(&pattern)?;
+        let file = file_with(&pattern)?;
         for from in (0..space.len).step_by(pattern.len()) {
-            let to = space.at(from, pattern.len());
-            map_privately(to, pattern.len(), &file)?;
+            map(space.at(from, pattern.len()), &pattern, &file, MAP_PRIVATE)?;
         }
         Ok(Repeated { space, pattern })
+    }
+
+    /// The same, but all copies of the pattern between the first and the last are one piece of
+    /// memory, so that all of it can be written.
+    #[cfg(feature = "step")]
+    pub fn to_be_written(len: usize, pattern: Vec<u8>) -> Result<Repeated, Error> {
+        let repeated = Repeated::new(len, pattern)?;
+        let (space, pattern) = (&repeated.space, &repeated.pattern);
+        let file = file_with(pattern)?;
+        let last = space.len - pattern.len();
+        for from in (pattern.len()..last).step_by(pattern.len()) {
+            map(space.at(from, pattern.len()), pattern, &file, MAP_SHARED)?;
+        }
+        Ok(repeated)
+    }
+
+    /// Puts the pattern back everywhere.
+    #[cfg(feature = "step")]
+    pub fn refill(&mut self) {
+        let pattern = std::mem::take(&mut self.pattern);
+        let bytes = self.bytes();
+        let last = bytes.len() - pattern.len();
+        for from in [0, pattern.len(), last] {
+            bytes[from..from + pattern.len()].copy_from_slice(&pattern);
+        }
+        self.pattern = pattern;
     }
 
     pub fn bytes(&mut self) -> &mut [u8] {
@@ -151,7 +171,7 @@ impl Repeated {
         let bytes = self.bytes();
         let mut first = None;
         for start in (0..bytes.len()).step_by(pattern.len()) {
-            let skipped = if start == 0 { front } else { 0 };
+            let skipped = front.saturating_sub(start).min(pattern.len());
             let right = &pattern[skipped..];
             let left = &mut bytes[start + skipped..start + pattern.len()];
             if left != right {
@@ -165,12 +185,36 @@ impl Repeated {
     }
 }
 
-/// Maps the file's bytes over this stretch; who writes there gets a page of his own.
-fn map_privately(to: *mut u8, len: usize, file: &File) -> Result<(), Error> {
+#[cfg(feature = "step")]
+pub fn first_not_zero(bytes: &[u8]) -> Option<usize> {
+    const ZEROS: [u8; 4096] = [0; 4096];
+    let mut chunks = bytes.chunks(ZEROS.len()).enumerate();
+    let (number, chunk) = chunks.find(|(_, chunk)| *chunk != &ZEROS[..chunk.len()])?;
+    let at = chunk.iter().position(|&byte| byte != 0)?;
+    Some(number * ZEROS.len() + at)
+}
+
+/// A file in memory, which nobody else knows.
+fn file_with(bytes: &[u8]) -> Result<File, Error> {
+    // Safe: the name is a C string.
+    let descriptor = unsafe { memfd_create(c"pattern".as_ptr(), 0) };
+    if descriptor < 0 {
+        return Err(Error::last_os_error());
+    }
+    // Safe: the descriptor is open and ours.
+    let mut file = unsafe { File::from_raw_fd(descriptor) };
+    file.write_all(bytes)?;
+    Ok(file)
+}
+
+/// Maps the file, which holds the pattern, over as many bytes. Who writes there gets a page of his
+/// own, or changes the file for all.
+fn map(to: *mut u8, pattern: &[u8], file: &File, kind: c_int) -> Result<(), Error> {
     let protection = PROT_READ | PROT_WRITE;
-    let flags = MAP_PRIVATE | MAP_FIXED | MAP_NORESERVE;
+    let flags = kind | MAP_FIXED | MAP_NORESERVE;
+    let file = file.as_raw_fd();
     // Safe: the stretch lies in a space of the caller, who lends nothing of it yet.
-    let mapped = unsafe { mmap(to.cast(), len, protection, flags, file.as_raw_fd(), 0) };
+    let mapped = unsafe { mmap(to.cast(), pattern.len(), protection, flags, file, 0) };
     if mapped as isize == -1 {
         return Err(Error::last_os_error());
     }

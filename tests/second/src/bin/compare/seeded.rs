@@ -203,7 +203,7 @@ fn damaged_case(tester: &mut Tester, rng: &mut Rng, turned: &mut Turned) {
     read_and_write_back(tester, rng, &bytes, turned);
 }
 
-fn damage(rng: &mut Rng, bytes: &mut Vec<u8>) {
+pub fn damage(rng: &mut Rng, bytes: &mut Vec<u8>) {
     let value = rng.pick(&[0, 1, 2, 4, 8, 9, 11, 20, 36, 37, 38, 45, 128, 142, 254, 255]);
     // The header, the front and everything between are hit alike.
     let at = match rng.below(3) {
