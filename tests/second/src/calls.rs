@@ -114,7 +114,7 @@ pub fn walk_call(tables: Tables, entry: u32, buffer: &mut [u8], record: &mut [u8
 }
 
 /// The step's record.
-fn step_numbers(stepped: &Stepped) -> [u32; 4] {
+pub fn step_numbers(stepped: &Stepped) -> [u32; 4] {
     let (answer, number, error) = match stepped.answer {
         Answer::Delivered(record) => (1, record as u32, 0),
         Answer::Forward(rank) => (2, rank as u32, 0),

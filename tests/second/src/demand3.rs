@@ -22,7 +22,8 @@ pub struct Rest {
 }
 
 impl Rest {
-    fn new(brokers: Vec<u32>, answer: [u32; 3], message: OwnedMessage) -> Rest {
+    /// From the brokers visited, the answer with its number and error number, and the final message.
+    pub fn new(brokers: Vec<u32>, answer: [u32; 3], message: OwnedMessage) -> Rest {
         let frame = frame_of(&message.lent());
         let links = brokers.len() - 1;
         let [answer, number, error] = answer;

@@ -137,7 +137,7 @@ fn parents(rng: &mut Rng, ranks: usize) -> Vec<u32> {
 /// A few names at random ranks, now and then a full table.
 fn services(rng: &mut Rng, ranks: usize) -> Vec<u8> {
     let full = ranks > 64 && rng.once_in(2);
-    let count = if full { 1024 } else { rng.below(2 * ranks + 2) };
+    let count = if full { 1024 } else { rng.below(ranks + 3) };
     let mut seen = HashSet::new();
     let mut table = Vec::new();
     for number in 0..count.min(1024) {

@@ -136,16 +136,13 @@ fn nodeid(rng: &mut Rng, tables: &OwnedTables) -> u32 {
     }
 }
 
-/// Any rank, more likely a deep one.
+/// Any rank, or the deepest of several.
 fn far_rank(rng: &mut Rng, tables: &OwnedTables) -> u32 {
-    let choices = [0; 3].map(|_| rng.below(tables.ranks()) as u32);
-    match rng.below(4) {
-        0 => choices[0],
-        _ => *choices
-            .iter()
-            .max_by_key(|&&rank| depth_of(&tables.tree, rank))
-            .unwrap(),
-    }
+    let choices = [0; 8].map(|_| rng.below(tables.ranks()) as u32);
+    let several = rng.pick(&[1, 1, 3, 8]);
+    let far = choices[..several].iter().copied();
+    far.max_by_key(|&rank| depth_of(&tables.tree, rank))
+        .unwrap()
 }
 
 /// At most 32 routes, the top one no broker's; brokers may stand below it.

@@ -1,4 +1,5 @@
-//! Steps on buffers of more than 4 GiB: kept to their end, or cleared to it and not beyond.
+//! Steps, and a walk, on buffers of more than 4 GiB: kept to their end, or cleared to it and not
+//! beyond.
 
 use second::floor::Tables;
 use second::sample::OwnedMessage;
@@ -8,6 +9,8 @@ use crate::draft::frame_of;
 use crate::long_lengths::ABOVE;
 use crate::pages::{first_not_zero, Repeated};
 use crate::paper_floor::{request, tables, told_request, told_response, ANY};
+#[cfg(feature = "walk")]
+use crate::step_calls::pushed;
 use crate::step_calls::Told;
 use crate::tester::{hex, Tester};
 
@@ -19,6 +22,11 @@ pub fn run(tester: &mut Tester, memory: &mut Repeated) {
             step(tester, memory, floor.lent(), *rank, message, told);
         });
     }
+    #[cfg(feature = "walk")]
+    tester.case("walk", 0, 0, |tester| {
+        memory.refill();
+        walk(tester, memory);
+    });
 }
 
 /// One for each answer and two for a forward, and one that is refused.
@@ -72,16 +80,41 @@ fn step(
     tester.require(answer == refusal && record == right, || {
         format!("{answer} for {refusal}, and {} in the record", hex(&record))
     });
-    let front = &memory.bytes()[..left.len()];
-    tester.require(front == left, || format!("{} left", hex(front)));
-    let mut kept_from = left.len();
-    if let Told::Made(..) = told {
-        let not_cleared = first_not_zero(&memory.bytes()[left.len()..ABOVE]);
-        tester.require(not_cleared.is_none(), || {
-            format!("byte {not_cleared:?} behind the frame is not cleared")
+    let cleared = matches!(told, Told::Made(..));
+    check_left(tester, memory, &left, cleared);
+}
+
+/// The frame is at the front, and behind it all is cleared, or all is as it was.
+fn check_left(tester: &mut Tester, memory: &mut Repeated, frame: &[u8], cleared: bool) {
+    let front = &memory.bytes()[..frame.len()];
+    tester.require(front == frame, || format!("{} left", hex(front)));
+    let mut kept_from = frame.len();
+    if cleared {
+        let first = first_not_zero(&memory.bytes()[frame.len()..ABOVE]);
+        tester.require(first.is_none(), || {
+            format!("byte {first:?} behind the frame is not cleared")
         });
         kept_from = ABOVE;
     }
     let changed = memory.changed_behind(kept_from);
     tester.require(changed.is_none(), || format!("byte {changed:?} is changed"));
+}
+
+/// W1.
+#[cfg(feature = "walk")]
+fn walk(tester: &mut Tester, memory: &mut Repeated) {
+    let floor = tables();
+    let request = request(ANY, 0x00, 1, b"bench.run", b"");
+    let frame = frame_of(&request.lent());
+    memory.bytes()[..frame.len()].copy_from_slice(&frame);
+    let mut record = [0; 24];
+    let buffer = &mut memory.bytes()[..ABOVE];
+    let answer = LIBRARY.walk(floor.lent(), 3, buffer, &mut record);
+    tester.count(answer);
+    let left = frame_of(&pushed(&floor, 3, &request).lent());
+    let right = [1, 0, 0, left.len() as u32, 1, 1].map(u32::to_be_bytes);
+    tester.require(answer == 0 && record[..] == right.concat(), || {
+        format!("{answer}, and {} in the record", hex(&record))
+    });
+    check_left(tester, memory, &left, true);
 }

@@ -23,8 +23,12 @@ mod reader_order;
 mod seeded;
 #[cfg(feature = "step")]
 mod seeded_steps;
+#[cfg(feature = "walk")]
+mod seeded_strays;
 #[cfg(feature = "tables")]
 mod seeded_tables;
+#[cfg(feature = "walk")]
+mod seeded_walks;
 #[cfg(feature = "step")]
 mod step_bounds;
 #[cfg(feature = "step")]
@@ -38,6 +42,14 @@ mod table_bounds;
 #[cfg(feature = "tables")]
 mod table_calls;
 mod tester;
+#[cfg(feature = "walk")]
+mod walk_bounds;
+#[cfg(feature = "walk")]
+mod walk_calls;
+#[cfg(feature = "walk")]
+mod walk_paper;
+#[cfg(feature = "walk")]
+mod walk_runs;
 mod writer_bounds;
 mod writer_order;
 
@@ -63,6 +75,19 @@ fn group(name: &'static str, weight: u64, run: fn(&mut Tester, &Run)) -> Group {
 }
 
 fn groups() -> Vec<Group> {
+    let all = [
+        frame_groups(),
+        #[cfg(feature = "tables")]
+        table_groups(),
+        #[cfg(feature = "step")]
+        step_groups(),
+        #[cfg(feature = "walk")]
+        walk_groups(),
+    ];
+    all.into_iter().flatten().collect()
+}
+
+fn frame_groups() -> Vec<Group> {
     vec![
         group("paper", 0, |tester, _| paper::run(tester)),
         group("reader-bounds", 0, |tester, _| reader_bounds::run(tester)),
@@ -73,30 +98,39 @@ fn groups() -> Vec<Group> {
         group("structured", 8, seeded::structured),
         group("damaged", 8, seeded::damaged),
         group("random", 8, seeded::random),
-        #[cfg(feature = "tables")]
-        group("tree-bounds", 0, |tester, _| table_bounds::trees(tester)),
-        #[cfg(feature = "tables")]
-        group("service-bounds", 0, |tester, _| {
-            table_bounds::services(tester)
-        }),
-        #[cfg(feature = "tables")]
-        group("identity-bounds", 0, |tester, _| {
-            table_bounds::identities(tester)
-        }),
-        #[cfg(feature = "tables")]
+    ]
+}
+
+#[cfg(feature = "tables")]
+fn table_groups() -> Vec<Group> {
+    use table_bounds::{identities, services, trees};
+    vec![
+        group("tree-bounds", 0, |tester, _| trees(tester)),
+        group("service-bounds", 0, |tester, _| services(tester)),
+        group("identity-bounds", 0, |tester, _| identities(tester)),
         group("trees", 1, seeded_tables::trees),
-        #[cfg(feature = "tables")]
         group("services", 1, seeded_tables::services),
-        #[cfg(feature = "tables")]
         group("identities", 1, seeded_tables::identities),
-        #[cfg(feature = "step")]
+    ]
+}
+
+#[cfg(feature = "step")]
+fn step_groups() -> Vec<Group> {
+    vec![
         group("step-rules", 0, |tester, _| step_rules::run(tester)),
-        #[cfg(feature = "step")]
         group("step-bounds", 0, |tester, _| step_bounds::run(tester)),
-        #[cfg(feature = "step")]
         group("step-order", 0, |tester, _| step_order::run(tester)),
-        #[cfg(feature = "step")]
         group("steps", 3, seeded_steps::steps),
+    ]
+}
+
+#[cfg(feature = "walk")]
+fn walk_groups() -> Vec<Group> {
+    vec![
+        group("walk-paper", 0, |tester, _| walk_paper::run(tester)),
+        group("walk-bounds", 0, |tester, _| walk_bounds::run(tester)),
+        group("walks", 5, seeded_walks::walks),
+        group("stray-walks", 1, seeded_strays::strays),
     ]
 }
 

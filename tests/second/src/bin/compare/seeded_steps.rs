@@ -111,7 +111,7 @@ fn behind(rng: &mut Rng, frame_len: usize) -> usize {
 }
 
 /// A request of any size: up to 64 routes, a body of up to 32,768 bytes, any top route.
-fn grown_request(rng: &mut Rng, tables: &OwnedTables) -> OwnedMessage {
+pub fn grown_request(rng: &mut Rng, tables: &OwnedTables) -> OwnedMessage {
     let mut message = request(rng, tables).message;
     if rng.once_in(64) {
         message.header.first = NEVER_ON_THE_WIRE;
@@ -150,7 +150,7 @@ fn any_route(rng: &mut Rng, tables: &OwnedTables) -> Vec<u8> {
 }
 
 /// A response whose top route is mostly a neighbour's.
-fn response(rng: &mut Rng, tables: &OwnedTables, rank: u32) -> OwnedMessage {
+pub fn response(rng: &mut Rng, tables: &OwnedTables, rank: u32) -> OwnedMessage {
     let mut message = request(rng, tables).message;
     message.header.kind = 2;
     message.topic = topic(rng);
@@ -170,7 +170,7 @@ fn response(rng: &mut Rng, tables: &OwnedTables, rank: u32) -> OwnedMessage {
     message
 }
 
-fn parent(tables: &OwnedTables, rank: u32) -> u32 {
+pub fn parent(tables: &OwnedTables, rank: u32) -> u32 {
     number_at(&tables.tree, 4 * rank as usize)
 }
 
@@ -260,7 +260,7 @@ fn damaged_step(
 }
 
 /// A byte changed, a record twice, or a wrong length.
-fn damage_table(rng: &mut Rng, table: &mut Vec<u8>, width: usize) {
+pub fn damage_table(rng: &mut Rng, table: &mut Vec<u8>, width: usize) {
     let records = table.len() / width;
     match rng.below(4) {
         _ if records == 0 => table.push(0),

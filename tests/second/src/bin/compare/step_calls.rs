@@ -129,7 +129,10 @@ impl Tester {
     fn step_is_whole(&mut self, answer: &StepAnswer) {
         let [kind, number, error, frame_len] = answer.numbers;
         let left = &self.arena.after[0][answer.buffer.clone()];
-        let told_len = 8 + number_at(left, 4);
+        let told_len = match left.len() {
+            0..8 => 0,
+            _ => 8 + number_at(left, 4),
+        };
         let behind = left.get(frame_len as usize..).unwrap_or(&[]);
         let cleared = !matches!(kind, 2 | 3) || behind.iter().all(|&byte| byte == 0);
         let numbers_fit = match kind {

@@ -305,11 +305,25 @@ impl Tester {
         written: [&[Range<usize>]; 2],
         call: impl Fn() -> Call,
     ) {
+        let allowed = [0, 1].map(|side| match refusals[side] {
+            0 => written[side],
+            _ => &[],
+        });
+        self.judge_all(refusals, expect, allowed, call);
+    }
+
+    /// The same where a refusal may have changed something too.
+    pub fn judge_all(
+        &mut self,
+        refusals: [u32; 2],
+        expect: Expect,
+        allowed: [&[Range<usize>]; 2],
+        call: impl Fn() -> Call,
+    ) {
         let mut faults = std::mem::take(&mut self.fence_faults);
         for (side, &refusal) in refusals.iter().enumerate() {
             let name = SIDES[side].name;
-            let allowed = if refusal == 0 { written[side] } else { &[] };
-            if let Some(at) = self.arena.stray_write(side, allowed) {
+            if let Some(at) = self.arena.stray_write(side, allowed[side]) {
                 faults.push(format!("{name} changed {}", place(&call(), at)));
             }
             match expect {
