@@ -82,8 +82,8 @@ fn aim(rng: &mut Rng, tables: &OwnedTables, message: &mut OwnedMessage) {
     }
 }
 
-/// A response that a service at the request's end may give: its routes at rest, its topic and its
-/// matchtag; all else is free.
+/// A response that the broker at the request's end may send: it has the routes at rest, mostly the
+/// request's topic and matchtag, and all else is free.
 pub fn response(rng: &mut Rng, request: &OwnedMessage, routes: Vec<u8>) -> OwnedMessage {
     let header = Header {
         kind: 2,
@@ -99,6 +99,10 @@ pub fn response(rng: &mut Rng, request: &OwnedMessage, routes: Vec<u8>) -> Owned
         topic: request.topic.clone(),
         payload: Vec::new(),
     };
+    if rng.once_in(4) {
+        message.topic = topic(rng);
+        message.header.second = rng.next() as u32;
+    }
     if rng.once_in(2) {
         add_payload(rng, &mut message, 32_768);
     }

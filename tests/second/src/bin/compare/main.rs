@@ -47,6 +47,8 @@ mod walk_bounds;
 #[cfg(feature = "walk")]
 mod walk_calls;
 #[cfg(feature = "walk")]
+mod walk_limits;
+#[cfg(feature = "walk")]
 mod walk_paper;
 #[cfg(feature = "walk")]
 mod walk_runs;
@@ -129,6 +131,7 @@ fn walk_groups() -> Vec<Group> {
     vec![
         group("walk-paper", 0, |tester, _| walk_paper::run(tester)),
         group("walk-bounds", 0, |tester, _| walk_bounds::run(tester)),
+        group("walk-limits", 0, |tester, _| walk_limits::run(tester)),
         group("walks", 5, seeded_walks::walks),
         group("stray-walks", 1, seeded_strays::strays),
     ]

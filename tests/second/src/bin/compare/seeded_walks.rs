@@ -1,8 +1,8 @@
 //! Demand 3 on seeded floors: a request's walk and its response's walk home, each by steps and by
 //! the walk call, against the path that is worked out apart from both.
 
-use second::demand3::{frame_of, request_rest, response_rest};
-use second::sample::{floor, request, response, OwnedMessage, Rng};
+use second::demand3::{frame_of, request_rest, response_rest, Rest};
+use second::sample::{floor, request, response, OwnedMessage, OwnedTables, Request, Rng};
 
 use crate::pages::Edge;
 use crate::seeded::Run;
@@ -31,7 +31,12 @@ pub fn walks(tester: &mut Tester, run: &Run) {
     for number in run.from..run.from + run.cases {
         let mut rng = Rng::for_case(run.seed, "walks", number);
         tester.case("case", number, run.seed, |tester| {
-            there_and_home(tester, &mut rng, &mut ground, &mut count)
+            let ranks = size(&mut rng);
+            let tables = floor(&mut rng, ranks);
+            let request = request(&mut rng, &tables);
+            let there = there_and_home(tester, &mut rng, &mut ground, &tables, &request);
+            count.ends[there.numbers[0] as usize] += 1;
+            count.links[there.numbers[5] as usize] += 1;
         });
     }
     let [_, delivered, _, replied, silenced] = count.ends;
@@ -54,23 +59,24 @@ fn size(rng: &mut Rng) -> usize {
     }
 }
 
-fn there_and_home(tester: &mut Tester, rng: &mut Rng, ground: &mut Ground, count: &mut Count) {
-    let ranks = size(rng);
-    let tables = floor(rng, ranks);
-    let request = request(rng, &tables);
+/// A request's walk, and home its error reply or a response, or both.
+pub fn there_and_home(
+    tester: &mut Tester,
+    rng: &mut Rng,
+    ground: &mut Ground,
+    tables: &OwnedTables,
+    request: &Request,
+) -> Rest {
     let there = request_rest(&tables.lent(), request.entry, &request.message);
     let buffer = lent_buffer(rng, &request.message);
     let mut start = Start {
-        tables: &tables,
+        tables,
         rank: request.entry,
         buffer: &buffer,
         edge: rng.pick(&[Edge::End, Edge::End, Edge::Start]),
     };
     ground.walk_as(tester, &start, &there);
-    let [answer, .., last, links] = there.numbers;
-    count.ends[answer as usize] += 1;
-    count.links[links as usize] += 1;
-
+    let [answer, .., last, _] = there.numbers;
     start.rank = last;
     if answer == 3 {
         // The error reply that lies there now.
@@ -90,10 +96,11 @@ fn there_and_home(tester: &mut Tester, rng: &mut Rng, ground: &mut Ground, count
         start.buffer = &buffer;
         ground.walk_as(tester, &start, &home);
     }
+    there
 }
 
 /// A frame with rubbish behind it, or zeros, in a buffer that holds every frame.
-pub fn lent_buffer(rng: &mut Rng, message: &OwnedMessage) -> Vec<u8> {
+fn lent_buffer(rng: &mut Rng, message: &OwnedMessage) -> Vec<u8> {
     let mut buffer = frame_of(&message.lent());
     buffer.resize(
         ROOM + rng.pick(&[0, 0, 0, 1, 38, 1000]),

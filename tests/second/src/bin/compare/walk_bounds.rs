@@ -251,7 +251,7 @@ fn to_and_fro(tester: &mut Tester) {
 }
 
 /// Chains of 16 below rank 0: 1 to 16, and 17 to 32.
-fn forked(ranks: usize) -> OwnedTables {
+pub fn forked(ranks: usize) -> OwnedTables {
     let mut parents: Vec<u32> = (0..33u32).map(|rank| rank.wrapping_sub(1)).collect();
     parents[17] = 0;
     parents.resize(ranks, 0);
@@ -265,7 +265,7 @@ fn forked(ranks: usize) -> OwnedTables {
     }
 }
 
-fn across(up: u32, down: u32) -> Vec<u32> {
+pub fn across(up: u32, down: u32) -> Vec<u32> {
     (0..=up).rev().chain(17..17 + down).collect()
 }
 
@@ -310,7 +310,7 @@ fn longest_body(tester: &mut Tester, tables: &OwnedTables, up: u32, down: u32) {
     check(tester, label, (tables, up), &message, &told);
 }
 
-/// Demand 3 at all its limits: 1,024 ranks, depth 16 both ways, 32 routes, a body of 31,552.
+/// All limits at once: 1,024 ranks, depth 16 both ways, 32 routes, a body of 31,552.
 fn full_floor(tester: &mut Tester) {
     let tables = forked(1024);
     let payload = vec![0x5E; 31_552 - (32 * 38 + 1 + 7 + 5 + 21)];

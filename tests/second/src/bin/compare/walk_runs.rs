@@ -43,6 +43,21 @@ pub struct Start<'a> {
     pub edge: Edge,
 }
 
+impl Start<'_> {
+    /// For a failure's report.
+    fn shown(&self) -> String {
+        let tables = self.tables;
+        format!(
+            "\n    rank {}\n    tree {}\n    services {}\n    identities {}\n    buffer before {}",
+            self.rank,
+            hex(&tables.tree),
+            hex(&tables.services),
+            hex(&tables.identities),
+            hex(self.buffer)
+        )
+    }
+}
+
 impl Ground {
     pub fn new() -> Ground {
         let fenced = || Fenced::new(ROOM).expect("the system gives no pages to fence");
@@ -95,7 +110,10 @@ impl Ground {
             let other = second_step(&floor, rank, first, &mut self.second_buffer, record.len());
             tester.count(run.refusal);
             tester.require(*record == other && *buffer == self.second_buffer, || {
-                format!("the second program steps otherwise: {run:?}")
+                format!(
+                    "the second program steps otherwise: {run:?}{}",
+                    start.shown()
+                )
             });
         }
         let right = Run {
@@ -103,10 +121,10 @@ impl Ground {
             refusal: 0,
             numbers: numbers_of(rest),
         };
-        tester.require(run == right, || format!("steps {run:?} for {right:?}"));
-        let whole = rest.is_in(start.buffer, buffer);
-        tester.require(whole, || format!("steps left {}", hex(buffer)));
-        tables_stay(tester, tables, start.tables);
+        tester.require(run == right, || {
+            format!("steps {run:?} for {right:?}{}", start.shown())
+        });
+        check_left(tester, start, rest, tables, buffer);
     }
 
     fn by_walk(&mut self, tester: &mut Tester, start: &Start, rest: &Rest) {
@@ -131,13 +149,17 @@ impl Ground {
         let mut right = rest.numbers.map(u32::to_be_bytes).concat();
         right.resize(len, TAIL);
         tester.require(refusals == [0; 2] && record == right, || {
-            format!("the walk answered {refusals:?} and {}", hex(record))
+            let record = hex(record);
+            format!(
+                "the walk answered {refusals:?} and {record}{}",
+                start.shown()
+            )
         });
-        let whole = rest.is_in(start.buffer, buffer);
-        tester.require(whole, || format!("the walk left {}", hex(buffer)));
+        check_left(tester, start, rest, tables, buffer);
         let same = record == &other[..len] && buffer == self.second_buffer;
-        tester.require(same, || "the second program walked otherwise".to_string());
-        tables_stay(tester, tables, start.tables);
+        tester.require(same, || {
+            format!("the second program walked otherwise{}", start.shown())
+        });
     }
 }
 
@@ -172,11 +194,16 @@ fn lend_tables<'a>(fences: &'a mut [Fenced; 3], start: &Start) -> Tables<'a> {
     }
 }
 
-fn tables_stay(tester: &mut Tester, tables: Tables, right: &OwnedTables) {
+/// All bytes of the buffer are what they must be, and those of the tables what they were.
+fn check_left(tester: &mut Tester, start: &Start, rest: &Rest, tables: Tables, buffer: &[u8]) {
+    tester.require(rest.is_in(start.buffer, buffer), || {
+        format!("{} left{}", hex(buffer), start.shown())
+    });
+    let right = start.tables;
     let same = tables.tree == right.tree
         && tables.services == right.services
         && tables.identities == right.identities;
-    tester.require(same, || "a table is changed".to_string());
+    tester.require(same, || format!("a table is changed{}", start.shown()));
 }
 
 fn numbers(record: &[u8]) -> [u32; 4] {
