@@ -3,14 +3,19 @@
 
 use std::slice::{from_raw_parts, from_raw_parts_mut};
 
+use crate::floor::{Floor, Tables};
 use crate::frame::{Header, Refusal};
 use crate::read::Reading;
+use crate::step::{step, Answer, Stepped};
+use crate::walk::{walk, Stopped, Walked};
 use crate::write::Message;
 use crate::{read, tables, write};
 
 pub const READ_RECORD_LEN: usize = 52;
 pub const WRITE_RECORD_LEN: usize = 4;
 pub const TREE_RECORD_LEN: usize = 4;
+pub const STEP_RECORD_LEN: usize = 16;
+pub const WALK_RECORD_LEN: usize = 24;
 
 #[inline]
 pub fn read_call(bytes: &[u8], record: &mut [u8]) -> u32 {
@@ -59,6 +64,65 @@ pub fn check_services_call(tree: &[u8], services: &[u8]) -> u32 {
 
 pub fn check_identities_call(tree: &[u8], identities: &[u8]) -> u32 {
     number_of(tables::check_identities(tree, identities))
+}
+
+/// Any `from_client` but 0 is yes.
+pub fn step_call(
+    tables: Tables,
+    rank: u32,
+    from_client: u32,
+    buffer: &mut [u8],
+    record: &mut [u8],
+) -> u32 {
+    let Some(record) = record.get_mut(..STEP_RECORD_LEN) else {
+        return Refusal::OutputTooShort as u32;
+    };
+    let stepped = Floor::new(tables).and_then(|floor| step(&floor, rank, from_client != 0, buffer));
+    match stepped {
+        Ok(stepped) => {
+            put_numbers(record, &step_numbers(&stepped));
+            0
+        }
+        Err(refusal) => refusal as u32,
+    }
+}
+
+/// The one call whose refusal is told in its record too.
+pub fn walk_call(tables: Tables, entry: u32, buffer: &mut [u8], record: &mut [u8]) -> u32 {
+    let Some(record) = record.get_mut(..WALK_RECORD_LEN) else {
+        return Refusal::OutputTooShort as u32;
+    };
+    match walk(tables, entry, buffer) {
+        Ok(Walked {
+            stepped,
+            rank,
+            links,
+        }) => {
+            let [answer, number, error, frame_len] = step_numbers(&stepped);
+            put_numbers(record, &[answer, number, error, frame_len, rank, links]);
+            0
+        }
+        Err(Stopped {
+            refusal,
+            rank,
+            links,
+        }) => {
+            put_numbers(record, &[0, 0, 0, 0, rank, links]);
+            refusal as u32
+        }
+    }
+}
+
+/// The step's record.
+pub fn step_numbers(stepped: &Stepped) -> [u32; 4] {
+    let (answer, number, error) = match stepped.answer {
+        Answer::Delivered(record) => (1, record as u32, 0),
+        Answer::Forward(rank) => (2, rank as u32, 0),
+        Answer::ErrorReply(error) => (3, 0, error),
+        Answer::Silenced(error) => (4, 0, error),
+        Answer::Home => (5, 0, 0),
+    };
+    [answer, number, error, stepped.frame_len as u32]
 }
 
 fn number_of(result: Result<(), Refusal>) -> u32 {
@@ -199,4 +263,56 @@ pub unsafe extern "C" fn second_check_identities(
         from_raw_parts(tree, tree_len),
         from_raw_parts(identities, identities_len),
     )
+}
+
+/// # Safety
+/// Each pointer with its length is a slice that lives through the call and overlaps no other.
+#[inline(never)]
+pub unsafe extern "C" fn second_step(
+    tree: *const u8,
+    tree_len: usize,
+    services: *const u8,
+    services_len: usize,
+    identities: *const u8,
+    identities_len: usize,
+    rank: u32,
+    from_client: u32,
+    buffer: *mut u8,
+    buffer_len: usize,
+    record: *mut u8,
+    record_len: usize,
+) -> u32 {
+    let tables = Tables {
+        tree: from_raw_parts(tree, tree_len),
+        services: from_raw_parts(services, services_len),
+        identities: from_raw_parts(identities, identities_len),
+    };
+    let buffer = from_raw_parts_mut(buffer, buffer_len);
+    let record = from_raw_parts_mut(record, record_len);
+    step_call(tables, rank, from_client, buffer, record)
+}
+
+/// # Safety
+/// Each pointer with its length is a slice that lives through the call and overlaps no other.
+#[inline(never)]
+pub unsafe extern "C" fn second_walk(
+    tree: *const u8,
+    tree_len: usize,
+    services: *const u8,
+    services_len: usize,
+    identities: *const u8,
+    identities_len: usize,
+    rank: u32,
+    buffer: *mut u8,
+    buffer_len: usize,
+    record: *mut u8,
+    record_len: usize,
+) -> u32 {
+    let tables = Tables {
+        tree: from_raw_parts(tree, tree_len),
+        services: from_raw_parts(services, services_len),
+        identities: from_raw_parts(identities, identities_len),
+    };
+    let buffer = from_raw_parts_mut(buffer, buffer_len);
+    walk_call(tables, rank, buffer, from_raw_parts_mut(record, record_len))
 }

@@ -24,9 +24,14 @@ pub const CONTROL: u8 = 8;
 
 pub const FLAG_TOPIC: u8 = 0x01;
 pub const FLAG_PAYLOAD: u8 = 0x02;
+pub const FLAG_NORESPONSE: u8 = 0x04;
 pub const FLAG_ROUTE: u8 = 0x08;
+pub const FLAG_UPSTREAM: u8 = 0x10;
+pub const FLAG_STREAMING: u8 = 0x40;
 pub const FLAG_REFUSED: u8 = 0x80;
 
+/// A request for the nearest broker that has the service.
+pub const NODEID_ANY: u32 = 4_294_967_295;
 /// Never on the wire.
 pub const NODEID_UPSTREAM: u32 = 4_294_967_294;
 
@@ -45,9 +50,13 @@ pub enum Refusal {
     WrongTopic = 9,
     WrongField = 10,
     OutputTooShort = 11,
+    CannotGrow = 12,
     WrongTree = 14,
     WrongServices = 15,
     WrongIdentities = 16,
+    WrongRank = 17,
+    NotRouted = 18,
+    NoNeighbour = 19,
 }
 
 /// The header's fields. What `first` and `second` mean depends on the type.

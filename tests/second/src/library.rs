@@ -53,3 +53,38 @@ extern "C" {
         identities_len: usize,
     ) -> u32;
 }
+
+#[cfg(feature = "step")]
+extern "C" {
+    pub fn lampreycoil_step(
+        tree: *const u8,
+        tree_len: usize,
+        services: *const u8,
+        services_len: usize,
+        identities: *const u8,
+        identities_len: usize,
+        rank: u32,
+        from_client: u32,
+        buffer: *mut u8,
+        buffer_len: usize,
+        record: *mut u8,
+        record_len: usize,
+    ) -> u32;
+}
+
+#[cfg(feature = "walk")]
+extern "C" {
+    pub fn lampreycoil_walk(
+        tree: *const u8,
+        tree_len: usize,
+        services: *const u8,
+        services_len: usize,
+        identities: *const u8,
+        identities_len: usize,
+        rank: u32,
+        buffer: *mut u8,
+        buffer_len: usize,
+        record: *mut u8,
+        record_len: usize,
+    ) -> u32;
+}

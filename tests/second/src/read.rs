@@ -10,11 +10,11 @@ pub struct Stretch {
 }
 
 impl Stretch {
-    fn end(self) -> usize {
+    pub fn end(self) -> usize {
         self.start + self.len
     }
 
-    fn of(self, frame: &[u8]) -> &[u8] {
+    pub fn of(self, frame: &[u8]) -> &[u8] {
         &frame[self.start..self.end()]
     }
 }

@@ -1,5 +1,7 @@
 //! Both programs behind one type, so that a test or a measurement treats them alike.
 
+#[cfg(feature = "step")]
+use crate::floor::Tables;
 use crate::write::Message;
 use crate::{calls, library};
 
@@ -14,6 +16,20 @@ type WriteCall = unsafe extern "C" fn(
 type TreeCall = unsafe extern "C" fn(*const u8, usize, *mut u8, usize, *mut u8, usize) -> u32;
 #[cfg(feature = "tables")]
 type TableCall = unsafe extern "C" fn(*const u8, usize, *const u8, usize) -> u32;
+#[cfg(feature = "step")]
+#[rustfmt::skip]
+type StepCall = unsafe extern "C" fn(
+    *const u8, usize, *const u8, usize, *const u8, usize,
+    u32, u32,
+    *mut u8, usize, *mut u8, usize,
+) -> u32;
+#[cfg(feature = "walk")]
+#[rustfmt::skip]
+type WalkCall = unsafe extern "C" fn(
+    *const u8, usize, *const u8, usize, *const u8, usize,
+    u32,
+    *mut u8, usize, *mut u8, usize,
+) -> u32;
 
 /// One of the two programs.
 #[derive(Clone, Copy)]
@@ -27,6 +43,10 @@ pub struct Side {
     check_services: TableCall,
     #[cfg(feature = "tables")]
     check_identities: TableCall,
+    #[cfg(feature = "step")]
+    step: StepCall,
+    #[cfg(feature = "walk")]
+    walk: WalkCall,
 }
 
 pub const LIBRARY: Side = Side {
@@ -39,6 +59,10 @@ pub const LIBRARY: Side = Side {
     check_services: library::lampreycoil_check_services,
     #[cfg(feature = "tables")]
     check_identities: library::lampreycoil_check_identities,
+    #[cfg(feature = "step")]
+    step: library::lampreycoil_step,
+    #[cfg(feature = "walk")]
+    walk: library::lampreycoil_walk,
 };
 
 pub const SECOND: Side = Side {
@@ -51,6 +75,10 @@ pub const SECOND: Side = Side {
     check_services: calls::second_check_services,
     #[cfg(feature = "tables")]
     check_identities: calls::second_check_identities,
+    #[cfg(feature = "step")]
+    step: calls::second_step,
+    #[cfg(feature = "walk")]
+    walk: calls::second_walk,
 };
 
 impl Side {
@@ -123,6 +151,54 @@ impl Side {
                 tree.len(),
                 identities.as_ptr(),
                 identities.len(),
+            )
+        }
+    }
+
+    #[cfg(feature = "step")]
+    pub fn step(
+        &self,
+        tables: Tables,
+        rank: u32,
+        from_client: u32,
+        buffer: &mut [u8],
+        record: &mut [u8],
+    ) -> u32 {
+        // Safe: all slices live through the call; buffer and record are lent to it alone.
+        unsafe {
+            (self.step)(
+                tables.tree.as_ptr(),
+                tables.tree.len(),
+                tables.services.as_ptr(),
+                tables.services.len(),
+                tables.identities.as_ptr(),
+                tables.identities.len(),
+                rank,
+                from_client,
+                buffer.as_mut_ptr(),
+                buffer.len(),
+                record.as_mut_ptr(),
+                record.len(),
+            )
+        }
+    }
+
+    #[cfg(feature = "walk")]
+    pub fn walk(&self, tables: Tables, rank: u32, buffer: &mut [u8], record: &mut [u8]) -> u32 {
+        // Safe: all slices live through the call; buffer and record are lent to it alone.
+        unsafe {
+            (self.walk)(
+                tables.tree.as_ptr(),
+                tables.tree.len(),
+                tables.services.as_ptr(),
+                tables.services.len(),
+                tables.identities.as_ptr(),
+                tables.identities.len(),
+                rank,
+                buffer.as_mut_ptr(),
+                buffer.len(),
+                record.as_mut_ptr(),
+                record.len(),
             )
         }
     }

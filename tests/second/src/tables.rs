@@ -9,7 +9,8 @@ pub const MAX_DEPTH: u8 = 16;
 pub const MAX_SERVICES: usize = 1_024;
 pub const SERVICE_LEN: usize = 32;
 /// Rank and name length stand in front of a service's name.
-const NAME_AT: usize = 5;
+pub const NAME_AT: usize = 5;
+pub const MAX_NAME: usize = SERVICE_LEN - NAME_AT;
 /// Rank 0 has no parent.
 pub const NO_PARENT: u32 = 4_294_967_295;
 
@@ -23,6 +24,10 @@ pub struct Tree {
 }
 
 impl Tree {
+    pub fn ranks(&self) -> usize {
+        self.ranks
+    }
+
     pub fn depths(&self) -> &[u8] {
         &self.depths[..self.ranks]
     }
@@ -76,7 +81,11 @@ pub fn check_tree(tree: &[u8], depths: &mut [u8]) -> Result<usize, Refusal> {
 }
 
 pub fn check_services(tree: &[u8], services: &[u8]) -> Result<(), Refusal> {
-    let ranks = Tree::new(tree)?.ranks;
+    services_fit(services, Tree::new(tree)?.ranks)
+}
+
+/// Whether these are right services in a tree of so many ranks.
+pub fn services_fit(services: &[u8], ranks: usize) -> Result<(), Refusal> {
     let records = services.chunks_exact(SERVICE_LEN);
     if !records.remainder().is_empty() || records.len() > MAX_SERVICES {
         return Err(Refusal::WrongServices);
@@ -93,7 +102,7 @@ pub fn check_services(tree: &[u8], services: &[u8]) -> Result<(), Refusal> {
 
 fn is_service(record: &[u8], ranks: usize) -> bool {
     let name_len = record[4] as usize;
-    if number_at(record, 0) as usize >= ranks || !(1..=27).contains(&name_len) {
+    if number_at(record, 0) as usize >= ranks || !(1..=MAX_NAME).contains(&name_len) {
         return false;
     }
     let (name, padding) = record[NAME_AT..].split_at(name_len);
@@ -101,7 +110,11 @@ fn is_service(record: &[u8], ranks: usize) -> bool {
 }
 
 pub fn check_identities(tree: &[u8], identities: &[u8]) -> Result<(), Refusal> {
-    let ranks = Tree::new(tree)?.ranks;
+    identities_fit(identities, Tree::new(tree)?.ranks)
+}
+
+/// Whether these are right identities in a tree of so many ranks.
+pub fn identities_fit(identities: &[u8], ranks: usize) -> Result<(), Refusal> {
     if identities.len() != ranks * ROUTE_LEN {
         return Err(Refusal::WrongIdentities);
     }

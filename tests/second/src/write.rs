@@ -97,7 +97,12 @@ fn put_parts(mut rest: &mut [u8], message: &Message) {
         rest = put_size(rest, message.payload.len());
         rest = put(rest, message.payload);
     }
-    rest = put_size(rest, HEADER_LEN);
+    put_header(rest, header);
+}
+
+/// The header's part, with its size.
+pub(crate) fn put_header(out: &mut [u8], header: &Header) {
+    let mut rest = put_size(out, HEADER_LEN);
     rest = put(
         rest,
         &[HEADER_MAGIC, HEADER_VERSION, header.kind, header.flags],

@@ -1,13 +1,19 @@
 //! Memory for one call: every lent slice lies between guard bytes, and all that a call may write
-//! is filled with a pattern first. Both programs get an exact copy.
+//! is filled with a pattern first. Both programs get an exact copy. The slices can be had once more
+//! with each against a page that faults when it is touched.
 
 use std::ops::Range;
 
-use crate::rng::Rng;
+use second::sample::Rng;
+
+use crate::pages::{Edge, Fenced};
 
 /// At least this many guard bytes lie around each slice.
 const GUARD: usize = 24;
 const PATTERN_LEN: usize = 1 << 16;
+/// No call lends more slices than this, and none of them is longer.
+const FENCES: usize = 5;
+const FENCED_LEN: usize = 1 << 17;
 
 pub struct Arena {
     pattern: Vec<u8>,
@@ -16,6 +22,7 @@ pub struct Arena {
     pub before: Vec<u8>,
     /// As each of them leaves it.
     pub after: [Vec<u8>; 2],
+    fences: [Fenced; FENCES],
 }
 
 impl Arena {
@@ -30,6 +37,9 @@ impl Arena {
             at: 0,
             before: Vec::new(),
             after: [Vec::new(), Vec::new()],
+            fences: std::array::from_fn(|_| {
+                Fenced::new(FENCED_LEN).expect("the system gives no pages to fence")
+            }),
         }
     }
 
@@ -69,6 +79,28 @@ impl Arena {
         for after in &mut self.after {
             after.clone_from(&self.before);
         }
+    }
+
+    /// Makes the library's call once more, each slice at an edge of its own pages: a call that reads
+    /// or writes beyond that edge ends the process. Tells the answer, and whether all the slices
+    /// are left as they are between guard bytes.
+    pub fn on_fenced<const N: usize>(
+        &mut self,
+        lent: [&Range<usize>; N],
+        edge: Edge,
+        call: impl FnOnce([&mut [u8]; N]) -> u32,
+    ) -> (u32, bool) {
+        let mut fences = self.fences.iter_mut();
+        let mut slices = lent.map(|range| {
+            let slice = fences.next().unwrap().lend(range.len(), edge);
+            slice.copy_from_slice(&self.before[range.clone()]);
+            slice
+        });
+        let answer = call(slices.each_mut().map(|slice| &mut **slice));
+        let library = &self.after[0];
+        let mut pairs = lent.into_iter().zip(&slices);
+        let same = pairs.all(|(range, slice)| library[range.clone()] == **slice);
+        (answer, same)
     }
 
     /// The guards' lengths vary, and so do the slices' addresses.

@@ -1,5 +1,5 @@
-//! What the reader's and the writer's order of refusals share: faults that are put into something
-//! right, and a count of the numbers that met.
+//! What the orders of refusals share: faults that are put into something right, and a count of the
+//! numbers that met.
 
 use crate::tester::Tester;
 
@@ -26,11 +26,19 @@ pub fn fault<Stage, Base, Attempt>(
     }
 }
 
-/// Every two of the numbers must have met in some frame.
-pub fn covered(tester: &mut Tester, pairs: &[[bool; 12]; 12], numbers: &[usize]) -> String {
+/// Every two of the numbers must have met in some case, but for those that never can.
+pub fn covered<const N: usize>(
+    tester: &mut Tester,
+    pairs: &[[bool; N]; N],
+    numbers: &[usize],
+    never: &[[usize; 2]],
+) -> String {
     let mut met = 0;
     for &low in numbers {
         for &high in numbers.iter().filter(|&&high| high > low) {
+            if never.contains(&[low, high]) {
+                continue;
+            }
             tester.case("two numbers met", low as u64, high as u64, |tester| {
                 tester.require(pairs[low][high], || "no case has both".to_string());
             });

@@ -1,35 +1,71 @@
-//! Lengths above 4 GiB: a length is a `size_t`, and nothing may cut it to 32 bits.
+//! Lengths above 4 GiB: a length is a `size_t`, and nothing may cut it to 32 bits. After the calls
+//! all the bytes are looked at, wherever a program may have written.
 
-use std::alloc::{alloc_zeroed, dealloc, Layout};
-use std::slice::from_raw_parts_mut;
+use std::io::Error;
 
 use second::frame::Header;
+use second::sample::Rng;
 use second::side::{LIBRARY, SECOND};
 use second::write::Message;
 
-use crate::draft::Draft;
-use crate::tester::Tester;
+use crate::draft::{frame_of, Draft};
+use crate::pages::Repeated;
+use crate::tester::{hex, Tester};
 
-const ABOVE: usize = (1 << 32) + 64;
+pub const ABOVE: usize = (1 << 32) + 64;
+/// The pattern behind every input and in every output repeats after so many bytes.
+const PATTERN_LEN: usize = 1 << 24;
+/// The cases put their bytes in front of this.
+const FRONT: usize = 200;
 
 pub fn run(tester: &mut Tester) {
     tester.begin_group("long-lengths");
-    let layout = Layout::from_size_align(ABOVE, 1).unwrap();
-    // Zeroed pages that nobody touches cost nothing, unless an alignment has the allocator clear
-    // them by hand. A system may still refuse so much.
-    let memory = unsafe { alloc_zeroed(layout) };
-    if memory.is_null() {
-        tester.end_group("left out: the system gives no 4 GiB of address space");
-        return;
+    if let Some(mut memory) = given(tester, Repeated::new(ABOVE, pattern())) {
+        run_in(tester, &mut memory);
     }
-    let bytes = unsafe { from_raw_parts_mut(memory, ABOVE) };
-    read_above(tester, bytes);
-    write_above(tester, bytes);
-    long_output(tester, bytes);
-    #[cfg(feature = "tables")]
-    tables_above(tester, bytes);
-    unsafe { dealloc(memory, layout) };
+    #[cfg(feature = "step")]
+    if let Some(mut memory) = given(tester, Repeated::to_be_written(ABOVE, pattern())) {
+        crate::long_steps::run(tester, &mut memory);
+    }
     tester.end_group("");
+}
+
+/// No zero, as in the other groups.
+fn pattern() -> Vec<u8> {
+    let mut pattern = Rng::new(1).bytes(PATTERN_LEN);
+    pattern
+        .iter_mut()
+        .for_each(|byte| *byte |= (*byte == 0) as u8);
+    pattern
+}
+
+/// Without the memory the group has failed.
+fn given(tester: &mut Tester, memory: Result<Repeated, Error>) -> Option<Repeated> {
+    tester.case("4 GiB of address space", 0, 0, |tester| {
+        if let Err(fault) = &memory {
+            tester.require(false, || format!("the system does not give them: {fault}"));
+        }
+    });
+    memory.ok()
+}
+
+fn run_in(tester: &mut Tester, memory: &mut Repeated) {
+    read_above(tester, memory.bytes());
+    unchanged(tester, memory, "read");
+    write_above(tester, memory.bytes());
+    unchanged(tester, memory, "write");
+    long_output(tester, memory);
+    #[cfg(feature = "tables")]
+    tables_above(tester, memory.bytes());
+    unchanged(tester, memory, "all");
+}
+
+/// No byte behind the front is other than it was.
+fn unchanged(tester: &mut Tester, memory: &mut Repeated, what: &'static str) {
+    tester.case(what, ABOVE as u64, 1, |tester| {
+        let changed = memory.changed_behind(FRONT);
+        tester.require(changed.is_none(), || format!("byte {changed:?} is changed"));
+    });
 }
 
 /// A good frame at the front of more than 4 GiB is read as that frame.
@@ -53,11 +89,11 @@ fn read_above(tester: &mut Tester, bytes: &mut [u8]) {
 
 /// A payload of 4 GiB and a few bytes is too long, and so are routes and a topic.
 fn write_above(tester: &mut Tester, bytes: &mut [u8]) {
-    bytes[..200].fill(0);
+    bytes[..FRONT].fill(0);
     let mut small = vec![0; 100];
     for (place, refusal) in [(0, 8), (1, 9), (2, 3)] {
         let part = |which: usize, short: &'static [u8]| match which == place {
-            true => &bytes[..],
+            true => &bytes[..ABOVE],
             false => short,
         };
         let message = Message {
@@ -77,32 +113,43 @@ fn write_above(tester: &mut Tester, bytes: &mut [u8]) {
     }
 }
 
-/// An output of that length is only long.
-fn long_output(tester: &mut Tester, bytes: &mut [u8]) {
+/// An output of that length is only long: behind the frame every byte stays.
+fn long_output(tester: &mut Tester, memory: &mut Repeated) {
     let message = Message {
         header: header(),
         routes: b"",
         topic: b"log",
         payload: b"p",
     };
-    tester.case("long output", ABOVE as u64, 0, |tester| {
-        let left = [LIBRARY, SECOND].map(|side| {
-            bytes[..200].fill(0);
-            let answer = side.write(&message, bytes, &mut [0; 4]);
-            (answer, bytes[..200].to_vec())
+    let frame = frame_of(&message);
+    for side in [LIBRARY, SECOND] {
+        memory.restore(FRONT);
+        tester.case("long output", ABOVE as u64, 0, |tester| {
+            let mut record = [0; 4];
+            let answer = side.write(&message, &mut memory.bytes()[..ABOVE], &mut record);
+            tester.count(answer);
+            let told = u32::from_be_bytes(record) as usize;
+            tester.require(answer == 0 && told == frame.len(), || {
+                format!("{} answered {answer} and a frame of {told}", side.name)
+            });
+            let left = &memory.bytes()[..frame.len()];
+            tester.require(left == frame, || {
+                format!("{} wrote {}", side.name, hex(left))
+            });
+            let changed = memory.changed_behind(frame.len());
+            tester.require(changed.is_none(), || {
+                format!("{} changed byte {changed:?}", side.name)
+            });
         });
-        tester.count(left[0].0);
-        tester.require(left[0].0 == 0 && left[0] == left[1], || {
-            format!("the answers were {} and {}", left[0].0, left[1].0)
-        });
-    });
+    }
 }
 
 /// Tables whose lengths, cut to 32 bits, would be those of the right table at their front.
 #[cfg(feature = "tables")]
 fn tables_above(tester: &mut Tester, bytes: &mut [u8]) {
     use crate::draft::route;
-    use crate::table_calls::{service, star};
+    use crate::table_calls::star;
+    use second::sample::service;
     type Check = fn(&second::side::Side, &[u8]) -> u32;
     let checks: [(Vec<u8>, u32, Check); 3] = [
         (star(1), 14, |side, long| {

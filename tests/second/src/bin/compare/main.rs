@@ -3,26 +3,55 @@
 //!     compare [--seed N] [--cases N] [--group NAME] [--from N]
 //!
 //! `--cases` is the number of seeded cases over all seeded groups, or in the one group that
-//! `--group` names; `--from` is the number of the first. The last line is the score; the exit
-//! status is 1 if a case failed.
+//! `--group` names; by default each group has its own number. `--from` is the number of the first.
+//! The last line is the score; the exit status is 1 if a case failed.
 
 mod arena;
+mod crash;
 mod draft;
 mod faults;
 mod long_lengths;
+#[cfg(feature = "step")]
+mod long_steps;
 mod messages;
+mod pages;
 mod paper;
+#[cfg(feature = "step")]
+mod paper_floor;
 mod reader_bounds;
 mod reader_order;
-mod rng;
 mod seeded;
+#[cfg(feature = "step")]
+mod seeded_steps;
+#[cfg(feature = "walk")]
+mod seeded_strays;
 #[cfg(feature = "tables")]
 mod seeded_tables;
+#[cfg(feature = "walk")]
+mod seeded_walks;
+#[cfg(feature = "step")]
+mod step_bounds;
+#[cfg(feature = "step")]
+mod step_calls;
+#[cfg(feature = "step")]
+mod step_order;
+#[cfg(feature = "step")]
+mod step_rules;
 #[cfg(feature = "tables")]
 mod table_bounds;
 #[cfg(feature = "tables")]
 mod table_calls;
 mod tester;
+#[cfg(feature = "walk")]
+mod walk_bounds;
+#[cfg(feature = "walk")]
+mod walk_calls;
+#[cfg(feature = "walk")]
+mod walk_limits;
+#[cfg(feature = "walk")]
+mod walk_paper;
+#[cfg(feature = "walk")]
+mod walk_runs;
 mod writer_bounds;
 mod writer_order;
 
@@ -33,7 +62,8 @@ use seeded::Run;
 use tester::Tester;
 
 const DEFAULT_SEED: u64 = 1;
-const DEFAULT_CASES: u64 = 1_200_000;
+/// Seeded cases for each weight of a group.
+const CASES_A_WEIGHT: u64 = 45_000;
 
 struct Group {
     name: &'static str,
@@ -47,6 +77,19 @@ fn group(name: &'static str, weight: u64, run: fn(&mut Tester, &Run)) -> Group {
 }
 
 fn groups() -> Vec<Group> {
+    let all = [
+        frame_groups(),
+        #[cfg(feature = "tables")]
+        table_groups(),
+        #[cfg(feature = "step")]
+        step_groups(),
+        #[cfg(feature = "walk")]
+        walk_groups(),
+    ];
+    all.into_iter().flatten().collect()
+}
+
+fn frame_groups() -> Vec<Group> {
     vec![
         group("paper", 0, |tester, _| paper::run(tester)),
         group("reader-bounds", 0, |tester, _| reader_bounds::run(tester)),
@@ -57,28 +100,46 @@ fn groups() -> Vec<Group> {
         group("structured", 8, seeded::structured),
         group("damaged", 8, seeded::damaged),
         group("random", 8, seeded::random),
-        #[cfg(feature = "tables")]
-        group("tree-bounds", 0, |tester, _| table_bounds::trees(tester)),
-        #[cfg(feature = "tables")]
-        group("service-bounds", 0, |tester, _| {
-            table_bounds::services(tester)
-        }),
-        #[cfg(feature = "tables")]
-        group("identity-bounds", 0, |tester, _| {
-            table_bounds::identities(tester)
-        }),
-        #[cfg(feature = "tables")]
+    ]
+}
+
+#[cfg(feature = "tables")]
+fn table_groups() -> Vec<Group> {
+    use table_bounds::{identities, services, trees};
+    vec![
+        group("tree-bounds", 0, |tester, _| trees(tester)),
+        group("service-bounds", 0, |tester, _| services(tester)),
+        group("identity-bounds", 0, |tester, _| identities(tester)),
         group("trees", 1, seeded_tables::trees),
-        #[cfg(feature = "tables")]
         group("services", 1, seeded_tables::services),
-        #[cfg(feature = "tables")]
         group("identities", 1, seeded_tables::identities),
+    ]
+}
+
+#[cfg(feature = "step")]
+fn step_groups() -> Vec<Group> {
+    vec![
+        group("step-rules", 0, |tester, _| step_rules::run(tester)),
+        group("step-bounds", 0, |tester, _| step_bounds::run(tester)),
+        group("step-order", 0, |tester, _| step_order::run(tester)),
+        group("steps", 3, seeded_steps::steps),
+    ]
+}
+
+#[cfg(feature = "walk")]
+fn walk_groups() -> Vec<Group> {
+    vec![
+        group("walk-paper", 0, |tester, _| walk_paper::run(tester)),
+        group("walk-bounds", 0, |tester, _| walk_bounds::run(tester)),
+        group("walk-limits", 0, |tester, _| walk_limits::run(tester)),
+        group("walks", 5, seeded_walks::walks),
+        group("stray-walks", 1, seeded_strays::strays),
     ]
 }
 
 struct Options {
     seed: u64,
-    cases: u64,
+    cases: Option<u64>,
     from: u64,
     group: Option<String>,
 }
@@ -104,13 +165,15 @@ fn main() {
         exit(2);
     }
     let weights: u64 = wanted.iter().map(|group| group.weight).sum();
+    crash::watch();
+    let cases = options.cases.unwrap_or(CASES_A_WEIGHT * weights);
     let mut tester = Tester::new();
-    println!("seed {}, {} seeded cases", options.seed, options.cases);
+    println!("seed {}, {cases} seeded cases", options.seed);
     for group in wanted {
         let run = Run {
             seed: options.seed,
             from: options.from,
-            cases: (options.cases * group.weight).div_ceil(weights.max(1)),
+            cases: (cases * group.weight).div_ceil(weights.max(1)),
         };
         (group.run)(&mut tester, &run);
     }
@@ -122,7 +185,7 @@ fn main() {
 fn options() -> Result<Options, String> {
     let mut options = Options {
         seed: DEFAULT_SEED,
-        cases: DEFAULT_CASES,
+        cases: None,
         from: 0,
         group: None,
     };
@@ -136,7 +199,7 @@ fn options() -> Result<Options, String> {
         };
         match word.as_str() {
             "--seed" => options.seed = number()?,
-            "--cases" => options.cases = number()?,
+            "--cases" => options.cases = Some(number()?),
             "--from" => options.from = number()?,
             "--group" => options.group = Some(value),
             _ => return Err(format!("{word} is not known")),

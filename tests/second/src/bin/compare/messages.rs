@@ -1,39 +1,19 @@
 //! Random messages, mostly right ones, in the shapes that matter.
 
 use second::frame::Header;
-use second::write::Message;
+use second::sample::{route, OwnedMessage, Rng};
 
-use crate::rng::Rng;
-
-pub struct Owned {
-    pub header: Header,
-    pub routes: Vec<u8>,
-    pub topic: Vec<u8>,
-    pub payload: Vec<u8>,
-}
-
-impl Owned {
-    pub fn lent(&self) -> Message<'_> {
-        Message {
-            header: self.header,
-            routes: &self.routes,
-            topic: &self.topic,
-            payload: &self.payload,
-        }
-    }
-
-    /// A bound on its frame's length.
-    pub fn frame_len_at_most(&self) -> usize {
-        let routes = self.routes.len() / 37 * 38 + 1;
-        8 + routes + self.topic.len() + 6 + self.payload.len() + 5 + 21
-    }
+/// A bound on a message's frame.
+pub fn frame_len_at_most(message: &OwnedMessage) -> usize {
+    let routes = message.routes.len() / 37 * 38 + 1;
+    8 + routes + message.topic.len() + 6 + message.payload.len() + 5 + 21
 }
 
 /// A message that the writer takes.
-pub fn right(rng: &mut Rng) -> Owned {
+pub fn right(rng: &mut Rng) -> OwnedMessage {
     let kind = rng.pick(&[1, 1, 1, 2, 2, 4, 4, 8]);
     let mut flags = rng.pick(&[0x00, 0x00, 0x04, 0x10, 0x20, 0x40, 0x74]);
-    let mut message = Owned {
+    let mut message = OwnedMessage {
         header: Header {
             kind,
             flags: 0,
@@ -69,7 +49,7 @@ pub fn right(rng: &mut Rng) -> Owned {
 }
 
 /// Breaks one rule of the writer, or another thing that is no rule.
-pub fn spoil(rng: &mut Rng, message: &mut Owned) {
+pub fn spoil(rng: &mut Rng, message: &mut OwnedMessage) {
     let header = &mut message.header;
     match rng.below(9) {
         0 => header.kind = rng.byte(),
@@ -137,17 +117,4 @@ fn route_count(rng: &mut Rng) -> usize {
         2..=9 => 0,
         _ => rng.between(1, 4),
     }
-}
-
-pub fn route(rng: &mut Rng) -> Vec<u8> {
-    let mut route: Vec<u8> = rng
-        .bytes(37)
-        .iter()
-        .map(|byte| b"0123456789abcdef"[(byte % 16) as usize])
-        .collect();
-    for at in [8, 13, 18, 23] {
-        route[at] = b'-';
-    }
-    route[36] = 0;
-    route
 }

@@ -54,7 +54,7 @@ pub fn run(tester: &mut Tester) {
         }
     }
     let numbers: Vec<usize> = (1..=11).collect();
-    let remark = covered(tester, &pairs, &numbers);
+    let remark = covered(tester, &pairs, &numbers, &[]);
     tester.end_group(&remark);
 }
 

@@ -2,10 +2,10 @@
 //! the library accepts is turned round: what was read is written, what was written is read.
 
 use second::frame::Header;
+use second::sample::{route, OwnedMessage, Rng};
 
 use crate::draft::{frame_of, frame_with, header, push_part, MAGIC};
-use crate::messages::{right, route, spoil, Owned};
-use crate::rng::Rng;
+use crate::messages::{frame_len_at_most, right, spoil};
 use crate::tester::{hex, Expect, ReadAnswer, ReadCase, Tester, WriteAnswer, WriteCase};
 
 /// Which seeded cases are run.
@@ -59,7 +59,7 @@ fn structured_case(tester: &mut Tester, rng: &mut Rng, turned: &mut Turned) {
     if spoiled {
         spoil(rng, &mut message);
     }
-    let room = message.frame_len_at_most();
+    let room = frame_len_at_most(&message);
     let out_len = match rng.below(16) {
         0 => rng.below(room),
         1 => room.saturating_sub(rng.below(16)),
@@ -90,7 +90,7 @@ fn structured_case(tester: &mut Tester, rng: &mut Rng, turned: &mut Turned) {
 fn read_back(
     tester: &mut Tester,
     rng: &mut Rng,
-    message: &Owned,
+    message: &OwnedMessage,
     answer: &WriteAnswer,
     turned: &mut Turned,
 ) {
@@ -104,7 +104,7 @@ fn read_back(
 }
 
 /// What was read is what was written.
-fn same_message(tester: &mut Tester, message: &Owned, bytes: &[u8], read: &ReadAnswer) {
+fn same_message(tester: &mut Tester, message: &OwnedMessage, bytes: &[u8], read: &ReadAnswer) {
     let same = message_in(bytes, read).is_some_and(|seen| {
         seen.header == message.header
             && seen.routes == message.routes
@@ -121,14 +121,14 @@ fn same_message(tester: &mut Tester, message: &Owned, bytes: &[u8], read: &ReadA
 }
 
 /// The message that a read's record points at.
-fn message_in(bytes: &[u8], read: &ReadAnswer) -> Option<Owned> {
+fn message_in(bytes: &[u8], read: &ReadAnswer) -> Option<OwnedMessage> {
     let record = read.record;
     let place = |start: u32, len: u32| bytes.get(start as usize..(start + len) as usize);
     let mut routes = Vec::new();
     for number in 0..record[7] {
         routes.extend_from_slice(place(record[8] + 38 * number, 37)?);
     }
-    Some(Owned {
+    Some(OwnedMessage {
         header: Header {
             kind: record[1] as u8,
             flags: record[2] as u8,
@@ -203,7 +203,7 @@ fn damaged_case(tester: &mut Tester, rng: &mut Rng, turned: &mut Turned) {
     read_and_write_back(tester, rng, &bytes, turned);
 }
 
-fn damage(rng: &mut Rng, bytes: &mut Vec<u8>) {
+pub fn damage(rng: &mut Rng, bytes: &mut Vec<u8>) {
     let value = rng.pick(&[0, 1, 2, 4, 8, 9, 11, 20, 36, 37, 38, 45, 128, 142, 254, 255]);
     // The header, the front and everything between are hit alike.
     let at = match rng.below(3) {

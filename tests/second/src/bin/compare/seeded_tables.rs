@@ -1,11 +1,9 @@
 //! Seeded tables, right ones and damaged ones, each with the answer that the paper gives.
 
-use crate::messages::route;
-use crate::rng::Rng;
+use second::sample::{route, service, tree_of, Rng};
+
 use crate::seeded::Run;
-use crate::table_calls::{
-    identities_expected, service, services_expected, star, tree_of, TreeCase, NO_PARENT,
-};
+use crate::table_calls::{identities_expected, services_expected, star, TreeCase, NO_PARENT};
 use crate::tester::{Expect, Tester};
 
 pub fn trees(tester: &mut Tester, run: &Run) {

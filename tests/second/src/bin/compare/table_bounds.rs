@@ -1,7 +1,9 @@
 //! Every boundary of the tables, each with the answer that the paper gives.
 
+use second::sample::{service, tree_of};
+
 use crate::draft::{fits_route, routes};
-use crate::table_calls::{service, star, tree_of, TreeCase, NO_PARENT};
+use crate::table_calls::{star, TreeCase, NO_PARENT};
 use crate::tester::{Expect, Tester};
 
 /// Parents none,0,0,1,1,2,2, as the paper has them.

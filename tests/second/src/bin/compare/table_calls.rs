@@ -164,25 +164,9 @@ pub fn identities_expected(tree: &[u8], identities: &[u8]) -> u32 {
     }
 }
 
-pub fn tree_of(parents: &[u32]) -> Vec<u8> {
-    parents
-        .iter()
-        .flat_map(|parent| parent.to_be_bytes())
-        .collect()
-}
-
 /// All ranks are children of rank 0.
 pub fn star(ranks: usize) -> Vec<u8> {
     let mut tree = vec![0; 4 * ranks];
     tree[..4].fill(255);
     tree
-}
-
-/// A service record as the paper lays it out; the name may be wrong.
-pub fn service(rank: u32, name: &[u8]) -> Vec<u8> {
-    let mut record = rank.to_be_bytes().to_vec();
-    record.push(name.len() as u8);
-    record.extend_from_slice(name);
-    record.resize(32, 0);
-    record
 }

@@ -9,6 +9,8 @@ use second::side::{Side, LIBRARY, SECOND};
 use second::write::Message;
 
 use crate::arena::Arena;
+use crate::crash;
+use crate::pages::Edge;
 
 /// So many failures are shown whole; the others are only counted.
 const SHOWN: usize = 10;
@@ -98,6 +100,8 @@ pub struct Tester {
     label: (&'static str, u64, u64),
     hint: String,
     case_failed: bool,
+    /// What the library did otherwise with its slices against a page that faults.
+    fence_faults: Vec<String>,
 }
 
 impl Tester {
@@ -111,10 +115,12 @@ impl Tester {
             label: ("", 0, 0),
             hint: String::new(),
             case_failed: false,
+            fence_faults: Vec::new(),
         }
     }
 
     pub fn begin_group(&mut self, name: &'static str) {
+        crash::set_group(name);
         self.tally = Tally {
             name,
             ..Tally::default()
@@ -153,6 +159,7 @@ impl Tester {
     /// Runs one case, which is passed if nothing in it fails.
     pub fn case(&mut self, what: &'static str, a: u64, b: u64, run: impl FnOnce(&mut Tester)) {
         self.label = (what, a, b);
+        crash::set_case(what, a, b);
         self.case_failed = false;
         self.arena.set_place(a, b);
         run(self);
@@ -252,17 +259,28 @@ impl Tester {
         }
     }
 
-    /// Calls each program on its copy of the slices.
+    /// Calls each program on its copy of the slices, and the library on fenced ones as well.
     pub fn on_both<const N: usize>(
         &mut self,
         lent: [&Range<usize>; N],
         call: impl Fn(&Side, [&mut [u8]; N]) -> u32,
     ) -> [u32; 2] {
-        [0, 1].map(|number: usize| {
+        let refusals = [0, 1].map(|number: usize| {
             let arena = &mut self.arena.after[number];
             let slices = arena.get_disjoint_mut(lent.map(Range::clone)).unwrap();
             call(&SIDES[number], slices)
-        })
+        });
+        for edge in [Edge::End, Edge::Start] {
+            let again = |slices: [&mut [u8]; N]| call(&LIBRARY, slices);
+            let (refusal, same) = self.arena.on_fenced(lent, edge, again);
+            if refusal != refusals[0] || !same {
+                self.fence_faults.push(format!(
+                    "with slices at the {edge:?} of their pages the library answered {refusal} \
+                     or left other bytes"
+                ));
+            }
+        }
+        refusals
     }
 
     /// Counts an answer of the library that was not got by `judge`.
@@ -287,11 +305,25 @@ impl Tester {
         written: [&[Range<usize>]; 2],
         call: impl Fn() -> Call,
     ) {
-        let mut faults = Vec::new();
+        let allowed = [0, 1].map(|side| match refusals[side] {
+            0 => written[side],
+            _ => &[],
+        });
+        self.judge_all(refusals, expect, allowed, call);
+    }
+
+    /// The same where a refusal may have changed something too.
+    pub fn judge_all(
+        &mut self,
+        refusals: [u32; 2],
+        expect: Expect,
+        allowed: [&[Range<usize>]; 2],
+        call: impl Fn() -> Call,
+    ) {
+        let mut faults = std::mem::take(&mut self.fence_faults);
         for (side, &refusal) in refusals.iter().enumerate() {
             let name = SIDES[side].name;
-            let allowed = if refusal == 0 { written[side] } else { &[] };
-            if let Some(at) = self.arena.stray_write(side, allowed) {
+            if let Some(at) = self.arena.stray_write(side, allowed[side]) {
                 faults.push(format!("{name} changed {}", place(&call(), at)));
             }
             match expect {

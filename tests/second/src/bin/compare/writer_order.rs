@@ -60,7 +60,7 @@ pub fn run(tester: &mut Tester) {
             }
         }
     }
-    let remark = covered(tester, &pairs, &[3, 6, 7, 8, 9, 10, 11]);
+    let remark = covered(tester, &pairs, &[3, 6, 7, 8, 9, 10, 11], &[]);
     tester.end_group(&remark);
 }
 

@@ -1,0 +1,76 @@
+//! Measures the library against the second program: same input, same shape of call, one run.
+//! Prints ratios, library time over second time, as a markdown table.
+//!
+//!     bench [--services FILE] [--identities FILE] [PART...]
+//!
+//! The parts are frames, tables, steps and walks; without any, all are measured. The files hold
+//! tables of 1,024 records that were made to be slow, as for instance all in one chain of a hash.
+
+#[cfg(feature = "step")]
+mod buffers;
+#[cfg(feature = "tables")]
+mod floors;
+mod frames;
+#[cfg(feature = "step")]
+mod steps;
+#[cfg(feature = "tables")]
+mod tables;
+mod turns;
+#[cfg(feature = "walk")]
+mod walks;
+
+use std::env;
+
+#[cfg(feature = "tables")]
+use second::sample::OwnedTables;
+
+use turns::{print_head, ROUNDS};
+
+fn main() {
+    let words: Vec<String> = env::args().skip(1).collect();
+    #[cfg(feature = "tables")]
+    let (words, hostile) = hostile_tables(words);
+    let wanted = |part: &str| words.is_empty() || words.iter().any(|word| word == part);
+    println!("Buffers are warmed and not cleared before a call. Times in nanoseconds a call;");
+    println!("a ratio is the library's time over the other's: the median over {ROUNDS} rounds in");
+    println!("which both took turns, and that of the least times, which are the ones shown.");
+    println!();
+    print_head();
+    if wanted("frames") {
+        frames::measure();
+    }
+    #[cfg(feature = "step")]
+    if wanted("steps") {
+        steps::measure(hostile.as_ref());
+    }
+    #[cfg(feature = "walk")]
+    if wanted("walks") {
+        walks::measure();
+    }
+    #[cfg(feature = "tables")]
+    if wanted("tables") {
+        tables::measure(hostile.as_ref());
+    }
+}
+
+/// The tables that the arguments name, beside right ones, and the other arguments.
+#[cfg(feature = "tables")]
+fn hostile_tables(words: Vec<String>) -> (Vec<String>, Option<OwnedTables>) {
+    let mut tables = floors::binary(1024);
+    let (mut parts, mut given) = (Vec::new(), false);
+    let mut words = words.into_iter();
+    while let Some(word) = words.next() {
+        let table = match word.as_str() {
+            "--services" => &mut tables.services,
+            "--identities" => &mut tables.identities,
+            _ => {
+                parts.push(word);
+                continue;
+            }
+        };
+        let file = words.next().expect("a file behind the option");
+        *table = std::fs::read(&file).unwrap_or_else(|fault| panic!("{file}: {fault}"));
+        given = true;
+    }
+    (parts, given.then_some(tables))
+}
