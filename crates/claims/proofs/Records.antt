@@ -15,7 +15,7 @@ use Rattle.message.specs.declared.Header.{Header}
 use Rattle.message.specs.Header.{isType, isKnown}
 use Rattle.message.specs.Message.{Message, FieldsFit}
 use Rattle.message.specs.Frame.{frameOf}
-use Rattle.message.proofs.Answers.{and-left, and-right, true-false}
+use Rattle.octets.proofs.Truth.{and-left, and-right, true-false}
 use Rattle.message.proofs.Lists.{Each, each-at}
 use Rattle.message.proofs.Forms.{routes-few}
 use Rattle.reader.specs.Places.{placesOf}

@@ -11,7 +11,7 @@ use lib.Seq.{drop-at}
 use Rattle.octets.specs.Number.{four}
 use Rattle.message.specs.declared.Refusal.the-variants.{WrongTree}
 use Rattle.message.specs.Answer.{Answer, refused, answered, writtenOver}
-use Rattle.records.proofs.Truth.{outcome}
+use Rattle.octets.proofs.Truth.{outcome}
 use Rattle.tree.specs.Tree.{ranksIn}
 use Rattle.tree.specs.Depths.{Depths, Accepted, treeGood, depthsOf}
 use Rattle.tree.proofs.Checking.{CheckIsRight, check-is-right, into-wrong, into-right}

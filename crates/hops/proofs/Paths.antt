@@ -9,7 +9,7 @@ use Prim.Native.Nat.{ℕ, zero, suc, _+_, _-_, _<_, _≤_}
 use native.Mathlib.Omega.{arith}
 use borrow.Author.Tests.{eqb-true, eqb-false, ltb-true, ltb-false}
 use lib.Dec.{eqb, ltb}
-use Rattle.records.proofs.Truth.{outcome}
+use Rattle.octets.proofs.Truth.{outcome}
 use Rattle.tree.specs.Tree.{ranksIn, parentOf}
 use Rattle.tree.specs.Depths.{depthOf, treeGood}
 use Rattle.hops.specs.Towards.{isNeighbour, hop, towards, above, afterHops}

@@ -15,7 +15,7 @@ use Rattle.records.specs.Below.{allBelow, noneTwice}
 use Rattle.records.specs.Bytes.{sameBytes}
 use Rattle.records.specs.Records.{distinct}
 use Rattle.records.specs.Search.{firstFrom}
-use Rattle.records.proofs.Truth.{left, right, right-fails}
+use Rattle.octets.proofs.Truth.{and-left as left, and-right as right, and-right-fails as right-fails}
 use Rattle.records.proofs.Below.{all-at, all-fails, once}
 use Rattle.records.proofs.Bytes.{same-refl, same-equal}
 use Rattle.records.proofs.Search.{first-passes, none-passes, first-only}

@@ -12,7 +12,7 @@ use Rattle.records.specs.Bytes.{sameBytes}
 use Rattle.records.specs.Search.{firstFrom}
 use Rattle.records.specs.declared.Found.the-variants.{At, Nothing}
 use mathlib.Core.Logic.{⊎-elim}
-use Rattle.records.proofs.Truth.{outcome, left, right, both, right-fails}
+use Rattle.octets.proofs.Truth.{outcome, and-left as left, and-right as right, and-both as both, and-right-fails as right-fails}
 use Rattle.records.proofs.Below.{once}
 use Rattle.records.proofs.Records.{length-record}
 use Rattle.records.proofs.Search.{first-passes, none-passes, first-only, first-agree}

@@ -11,7 +11,7 @@ use lib.ListN.{length}
 use Rattle.form.specs.Forms.{Place, routePlaces, stands, matches, isRoute, isTopic, noZero}
 use Rattle.message.specs.Writing.{allRoutes, routesGood}
 use Rattle.message.specs.Reading.{front, final, isTopicPart}
-use Rattle.message.proofs.Answers.{true-false, and-left, and-right}
+use Rattle.octets.proofs.Truth.{true-false, and-left, and-right}
 use Rattle.message.proofs.Lists.{Each, front-snoc, final-snoc, front-final}
 
 matches-length : (ps : List Place) (xs : List ℕ) → matches ps xs ≡ true → length xs ≡ length ps

@@ -16,7 +16,8 @@ use Rattle.message.specs.Message.{Message}
 use Rattle.message.specs.Frame.{frameStart, bodyOf, frameOf}
 use Rattle.message.specs.Reading.{partsIn, judged, startsRight, bodyLength, readingOf}
 use Rattle.message.proofs.Headers.{four-places}
-use Rattle.message.proofs.Answers.{and-left, and-right, passed, pass}
+use Rattle.octets.proofs.Truth.{and-left, and-right}
+use Rattle.message.proofs.Answers.{passed, pass}
 
 -- the bytes of a body's frame
 abbrev pub framed : List ℕ → List ℕ

@@ -14,7 +14,7 @@ use Rattle.octets.proofs.Numbers.{number-four, four-number, number-lt, bytes-dr
 use Rattle.message.specs.declared.Header.{Header}
 use Rattle.message.specs.Header.{headerBytes, headerIn, isHeader, isKnown}
 use Rattle.message.specs.Message.{FieldsFit}
-use Rattle.message.proofs.Answers.{and-left, and-right}
+use Rattle.octets.proofs.Truth.{and-left, and-right}
 
 -- the fields read from their bytes are the fields
 pub header-in : (h : Header) → FieldsFit h → headerIn (headerBytes h) ≡ h

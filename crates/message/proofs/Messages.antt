@@ -18,7 +18,8 @@ use Rattle.message.specs.Frame.{partsOf, bodyOf, frameOf}
 use Rattle.message.specs.Writing.{isEmpty, partsGivenFit, routesGood, writing}
 use Rattle.form.specs.Count.{one}
 use Rattle.message.specs.Reading.{front, final, beforeEmpty, routesIn, topicPlace, payloadPlace, partsAgree, isTopicPart, messageIn, judgedAs, judged}
-use Rattle.message.proofs.Answers.{and-left, and-right, and-not, and-not-false, passed, answered-same}
+use Rattle.octets.proofs.Truth.{and-left, and-right, and-not, and-not-false}
+use Rattle.message.proofs.Answers.{passed, answered-same}
 use Rattle.message.proofs.Lists.{front-snoc, final-snoc, front-final}
 use Rattle.message.proofs.Forms.{routes-few, routes-each, routes-filled, topic-part, topic-parted, topic-form}
 use Rattle.message.proofs.Places.{before, before-length, before-topic, before-payload, before-routes, before-all, kept, kept-given, before-kept}

@@ -15,7 +15,8 @@ use Rattle.message.specs.declared.Refusal.the-variants.{WrongSize}
 use Rattle.message.specs.Answer.{answered, refuseIf}
 use Rattle.message.specs.Frame.{sizeBytes, partBytes, joined}
 use Rattle.message.specs.Reading.{cutPart, firstPart, partsIn}
-use Rattle.message.proofs.Answers.{passed, pass, both, answered-same, not-answered, or-left, or-right, or-neither}
+use Rattle.octets.proofs.Truth.{or-left, or-right, or-neither}
+use Rattle.message.proofs.Answers.{passed, pass, both, answered-same, not-answered}
 use Rattle.message.proofs.Lists.{Each, bytes-front, bytes-back}
 
 -- a part whose length has a size of four bytes: a longer one could not be written

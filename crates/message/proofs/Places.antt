@@ -13,7 +13,7 @@ use Rattle.message.specs.Frame.{partIf, groupIf}
 use Rattle.message.specs.Writing.{isEmpty}
 use Rattle.form.specs.Count.{one}
 use Rattle.message.specs.Reading.{beforeEmpty}
-use Rattle.message.proofs.Answers.{true-false}
+use Rattle.octets.proofs.Truth.{true-false}
 use Rattle.message.proofs.Lists.{Each, before-empty, before-split}
 
 -- the parts behind the routing group

@@ -3,3 +3,4 @@ pub mod Numbers
 pub mod Buffers
 pub mod Laying
 pub mod Rows
+pub mod Truth

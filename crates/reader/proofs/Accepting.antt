@@ -17,7 +17,7 @@ use Rattle.message.specs.Message.{Message}
 use Rattle.message.specs.Frame.{sizeBytes, partBytes, joined, partIf, routing, topicPart, bodyOf, frameOf, partsOf}
 use Rattle.message.specs.Writing.{isEmpty}
 use Rattle.message.specs.Reading.{front, final, beforeEmpty, routesIn, isTopicPart, messageIn, judgedAs, judged}
-use Rattle.message.proofs.Answers.{and-not}
+use Rattle.octets.proofs.Truth.{and-not}
 use Rattle.message.proofs.Lists.{bytes-part}
 use Rattle.message.proofs.Forms.{topic-parted}
 use Rattle.message.proofs.Parts.{split, joined-append}

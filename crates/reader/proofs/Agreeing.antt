@@ -15,7 +15,7 @@ use Rattle.form.specs.Count.{one}
 use Rattle.message.specs.Header.{hasTopic, hasPayload, hasRoute, partsFit}
 use Rattle.message.specs.Writing.{allRoutes, routesGood}
 use Rattle.message.specs.Reading.{front, final, beforeEmpty, routesIn, topicPlace, payloadPlace, partsAgree}
-use Rattle.message.proofs.Answers.{and-right}
+use Rattle.octets.proofs.Truth.{and-right}
 use Rattle.message.proofs.Lists.{front-final}
 use Rattle.octets.specs.Number.{Bytes}
 use Rattle.message.proofs.Parts.{split}

@@ -11,7 +11,7 @@ use lib.Dec.{eqb}
 use lib.ListN.{length, getD, take}
 use Rattle.octets.specs.Number.{number, Bytes}
 use Rattle.octets.proofs.Numbers.{bytes-at, number-at}
-use Rattle.message.proofs.Answers.{true-false}
+use Rattle.octets.proofs.Truth.{true-false}
 use Rattle.message.proofs.Frames.{start-four}
 use Rattle.form.specs.Forms.{isTopic}
 use Rattle.message.specs.Reading.{isTopicPart, startsRight}

@@ -16,7 +16,7 @@ use Rattle.message.specs.Writing.{isEmpty}
 use Rattle.message.proofs.Lists.{Each, each-at, each-take}
 use Rattle.message.proofs.Forms.{routes-each}
 use Rattle.message.proofs.Messages.{Written, written, Given, given-fit}
-use Rattle.message.proofs.Answers.{true-false, outcome}
+use Rattle.octets.proofs.Truth.{true-false, outcome}
 use Rattle.reader.proofs.Sorting.{routes-joined}
 use Rattle.message.proofs.RoundTrip.{WrittenBack}
 use Rattle.reader.specs.Places.{stretch, dataAt, placesOf}

@@ -16,7 +16,7 @@ use Rattle.message.specs.Frame.{partBytes, joined, partIf, groupIf}
 use Rattle.message.specs.Writing.{routesGood}
 use Rattle.form.specs.Count.{one}
 use Rattle.message.specs.Reading.{front, final, beforeEmpty, routesIn, topicPlace, payloadPlace, partsAgree, isTopicPart, messageIn, judgedAs}
-use Rattle.message.proofs.Answers.{and-right}
+use Rattle.octets.proofs.Truth.{and-right}
 use Rattle.message.proofs.Lists.{Each, front-final}
 use Rattle.message.proofs.Headers.{header-tested}
 use Rattle.message.proofs.Forms.{routes-each, routes-few}

@@ -9,7 +9,7 @@ use native.Mathlib.Omega.{arith}
 use Rattle.records.specs.Below.{allBelow, noneTwice}
 use lib.Dec.{ltb}
 use borrow.Author.Tests.{ltb-true, ltb-false, not-true}
-use Rattle.records.proofs.Truth.{outcome, clash, left, right, both, left-fails, right-fails}
+use Rattle.octets.proofs.Truth.{outcome, clash, and-left as left, and-right as right, and-both as both, and-left-fails as left-fails, and-right-fails as right-fails}
 
 module _ (p : ℕ → Bool) where
   pub all-none : allBelow 0 p ≡ true

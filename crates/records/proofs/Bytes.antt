@@ -10,7 +10,7 @@ use lib.Dec.{eqb}
 use lib.ListN.{length, getD, drop}
 use lib.Seq.{drop-cons, drop-length}
 use Rattle.records.specs.Bytes.{sameBytes}
-use Rattle.records.proofs.Truth.{left, right}
+use Rattle.octets.proofs.Truth.{and-left as left, and-right as right}
 
 pub same-cons : (x y : ℕ) (xs ys : List ℕ) → sameBytes (x ∷ xs) (y ∷ ys) ≡ (eqb x y && sameBytes xs ys)
 unfolding sameBytes

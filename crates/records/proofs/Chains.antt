@@ -17,7 +17,7 @@ use Rattle.records.specs.Records.{recordAt}
 use Rattle.records.specs.Chains.{hashFrom, hashOf, hashAt, lastBelow, Linked, fresh}
 use Rattle.records.proofs.Bytes.{same-equal}
 use Rattle.records.specs.Below.{allBelow, noneTwice}
-use Rattle.records.proofs.Truth.{outcome, both}
+use Rattle.octets.proofs.Truth.{outcome, and-both as both}
 use Rattle.records.proofs.Below.{all-none, all-more, all-of, all-fails}
 
 -- a turn of the hash

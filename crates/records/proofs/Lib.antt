@@ -1,5 +1,4 @@
 -- Laws about what the tables share, for the proofs of this crate and of the crates above.
-pub mod Truth
 pub mod Below
 pub mod Bytes
 pub mod Records

@@ -12,7 +12,7 @@ use Rattle.records.specs.Below.{noneTwice}
 use Rattle.records.specs.Bytes.{sameBytes}
 use Rattle.records.specs.Records.{recordAt, distinct}
 use Rattle.records.specs.Chains.{fresh}
-use Rattle.records.proofs.Truth.{right-fails}
+use Rattle.octets.proofs.Truth.{and-right-fails as right-fails}
 use Rattle.records.proofs.Below.{all-fails}
 
 -- a record below the count ends within the table

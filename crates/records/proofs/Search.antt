@@ -9,7 +9,7 @@ use native.Mathlib.Omega.{arith}
 use Rattle.records.specs.declared.Found.{Found}
 use Rattle.records.specs.declared.Found.the-variants.{At, Nothing}
 use Rattle.records.specs.Search.{firstFrom, firstOf}
-use Rattle.records.proofs.Truth.{outcome, clash}
+use Rattle.octets.proofs.Truth.{outcome, clash}
 
 module _ (p : ℕ → Bool) where
   -- ---- a turn of a loop that searches n numbers, at i

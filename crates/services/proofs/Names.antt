@@ -8,7 +8,7 @@ use borrow.Author.Tests.{eq-eqb, ne-eqb, eqb-true}
 use lib.Dec.{eqb}
 use lib.ListN.{length, getD, drop, replicate}
 use lib.Seq.{drop-cons, drop-length}
-use Rattle.records.proofs.Truth.{left, right}
+use Rattle.octets.proofs.Truth.{and-left as left, and-right as right}
 use Rattle.services.specs.Services.{isName, isPadding}
 
 module _ (s : List ℕ) (i : ℕ) (h : i < length s) where

@@ -16,7 +16,7 @@ use Rattle.message.specs.Answer.{refused, answered}
 use Rattle.records.specs.Below.{allBelow, noneTwice}
 use Rattle.records.specs.Bytes.{sameBytes}
 use Rattle.records.specs.Records.{distinct}
-use Rattle.records.proofs.Truth.{outcome, left, right, both, left-fails, right-fails, clash}
+use Rattle.octets.proofs.Truth.{outcome, and-left as left, and-right as right, and-both as both, and-left-fails as left-fails, and-right-fails as right-fails, clash}
 use Rattle.records.proofs.Below.{all-at, all-fails, none-agree}
 use Rattle.records.proofs.Bytes.{same-refl, same-equal}
 use Rattle.records.proofs.Records.{length-record, distinct-rest}

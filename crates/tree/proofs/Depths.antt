@@ -12,7 +12,7 @@ use lib.Dec.{eqb, leb, ltb}
 use lib.ListN.{length, getD, set}
 use lib.Seq.{getD-set-same, getD-set-other}
 use Rattle.records.specs.Below.{allBelow}
-use Rattle.records.proofs.Truth.{outcome, left, right, both, left-fails, right-fails}
+use Rattle.octets.proofs.Truth.{outcome, and-left as left, and-right as right, and-both as both, and-left-fails as left-fails, and-right-fails as right-fails}
 use Rattle.records.proofs.Below.{all-at, all-of, all-fails}
 use Rattle.tree.specs.Tree.{noRank, ranksIn, wholeTree, parentOf}
 use Rattle.tree.specs.Depths.{Depths, Accepted, climbs, depthOf, treeGood}

@@ -8,7 +8,7 @@ use lib.Dec.{eqb, leb}
 use lib.ListN.{length, getD}
 use Rattle.octets.specs.Number.{number}
 use Rattle.octets.proofs.Numbers.{number-at}
-use Rattle.records.proofs.Truth.{left, right, right-fails}
+use Rattle.octets.proofs.Truth.{and-left as left, and-right as right, and-right-fails as right-fails}
 use Rattle.tree.specs.Tree.{noRank, ranksIn, wholeTree, parentOf}
 
 pub ranks-are : (tree : List ℕ) → ranksIn tree ≡ length tree / 4

@@ -8,7 +8,7 @@ use borrow.Author.Tests.{not-true, not-false}
 use Rattle.form.specs.Forms.{isRoute}
 use Rattle.records.specs.Below.{allBelow}
 use Rattle.records.specs.Records.{distinct}
-use Rattle.records.proofs.Truth.{both}
+use Rattle.octets.proofs.Truth.{and-both as both}
 use Rattle.records.proofs.Below.{all-none, all-more}
 use Rattle.tree.specs.Tree.{ranksIn}
 use Rattle.identities.specs.Identities.{identityAt}

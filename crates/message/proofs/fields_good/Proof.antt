@@ -3,7 +3,7 @@
 use native.Mathlib.Omega.{arith}
 use mathlib.Core.Path.{sym}
 use borrow.Author.Tests.{eq-eqb, lt-ltb, eqb-true, ltb-true}
-use Rattle.message.proofs.Answers.{same-test}
+use Rattle.octets.proofs.Truth.{same-test}
 use Rattle.message.proofs.Fields.{request-fields, event-good, event-unused, free-fields}
 use Rattle.message.proofs.fields_good.Statement.{statement}
 use Rattle.message.proofs.fields_good.Tie as tie

@@ -4,7 +4,7 @@ use borrow.Author.Needs.{needs}
 use native.Mathlib.Omega.{arith}
 use mathlib.Core.Path.{sym, _∙_}
 use borrow.Author.Tests.{lt-ltb, le-leb, ltb-true, leb-true}
-use Rattle.message.proofs.Answers.{same-test}
+use Rattle.octets.proofs.Truth.{same-test}
 use Rattle.message.proofs.Fields.{known-in, known-flags, unknown-type}
 use Rattle.message.proofs.is_known.Statement.{statement}
 use Rattle.message.proofs.is_known.Tie as tie

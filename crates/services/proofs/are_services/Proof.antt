@@ -7,7 +7,7 @@ use native.Mathlib.Omega.{arith}
 use borrow.Author.Tests.{not-true, not-false}
 use Rattle.octets.proofs.Numbers.{bytes-of}
 use Rattle.records.specs.Below.{allBelow}
-use Rattle.records.proofs.Truth.{both}
+use Rattle.octets.proofs.Truth.{and-both as both}
 use Rattle.records.proofs.Below.{all-none, all-more}
 use Rattle.records.proofs.Records.{length-record}
 use Rattle.tree.specs.Tree.{ranksIn}
