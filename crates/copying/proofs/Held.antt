@@ -14,8 +14,8 @@ copy-more src dst i hs hd =
     rw (add-one, drop-cons dst i 0 hd, set-at (take i src) (getD dst i 0) (drop (suc i) dst) (getD src i 0) i (length-take-le i src (omega arith)), take-suc src i 0 hs, append-snoc)
 
 -- a turn of a copy into an array of one's own: the bytes in front of i are those of the source, whatever was there
-pub held-more : (src held : List ℕ) (i : ℕ) → i < length src → i < length held → take i held ≡ take i src → take (i + 1) (set held i (getD src i 0)) ≡ take (i + 1) src
-held-more src held i hs hh e = rw (add-one, take-suc-set held i (getD src i 0) hh, take-suc src i 0 hs, e)
+pub held-more : (src held : List ℕ) (i k : ℕ) → i < length src → i < length held → k ≡ i → take i held ≡ take i src → take (i + 1) (set held i (getD src k 0)) ≡ take (i + 1) src
+held-more src held i k hs hh own e = rw (own, add-one, take-suc-set held i (getD src i 0) hh, take-suc src i 0 hs, e)
 
 -- what the array then holds at a place of the source
 pub held-at : (src held : List ℕ) (j : ℕ) → j < length src → take (length src) held ≡ take (length src) src → getD held j 0 ≡ getD src j 0

@@ -41,7 +41,7 @@ loop-less c = omega arith
 loop-again : tie.Need-loop-again Inv-loop μ-loop Inv-loop2 μ-loop2
 loop-again c = let v = c .before .before .loop in
     let src = c .before .before .before .args .src .now in
-    (omega arith, simp length-set (v .inv .1), held-more src (v .held) (v .i) (omega arith) (omega arith) (v .inv .2))
+    (omega arith, simp length-set (v .inv .1), held-more src (v .held) (v .i) _ (omega arith) (omega arith) (omega arith) (v .inv .2))
 
 loop2-holds : tie.Need-loop2-holds Inv-loop μ-loop Inv-loop2 μ-loop2
 loop2-holds c = (omega arith, refl, refl)

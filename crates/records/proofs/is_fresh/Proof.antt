@@ -17,7 +17,7 @@ abbrev μ-loop : tie.MeasureT-loop
 loop-holds : tie.Need-loop-holds Inv-loop μ-loop
 loop-holds c =
     let args = c .before .args in
-    among-start (args .width) (args .table .now) (args .i) (args .start) (c .before .pre .3)
+    among-start (args .width) (args .table .now) (args .i) _ (omega (arith, c .before .pre .3))
 
 sub-j : tie.Need-sub-j Inv-loop μ-loop
 sub-j c = omega arith
