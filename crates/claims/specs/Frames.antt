@@ -12,7 +12,8 @@ use Rattle.message.specs.Header.{hasTopic, hasPayload}
 use Rattle.message.specs.Message.{Message}
 use Rattle.message.specs.Frame.{frameOf}
 use Rattle.message.specs.Reading.{readingOf}
-use Rattle.message.specs.Writing.{routeLength, givenMessage}
+use Rattle.form.specs.Forms.{routeLength}
+use Rattle.message.specs.Writing.{givenMessage}
 use Rattle.reader.specs.Places.{stretch}
 use Rattle.lampreycoil.specs.Calls.{Reads, Writes, readRecord, countRecord}
 use Rattle.claims.specs.Records.{numberIn, routePart, taken, fieldsIn, routesAt, topicAt, payloadAt, handedOn}

@@ -5,7 +5,8 @@ use lib.ListN.{drop}
 use Rattle.octets.specs.Number.{number}
 use Rattle.message.specs.declared.Header.{Header}
 use Rattle.message.specs.Message.{Message}
-use Rattle.message.specs.Writing.{routeLength, givenMessage}
+use Rattle.form.specs.Forms.{routeLength}
+use Rattle.message.specs.Writing.{givenMessage}
 use Rattle.reader.specs.Places.{stretch}
 use Rattle.lampreycoil.specs.Calls.{headerOf}
 

@@ -19,7 +19,7 @@ use Rattle.message.specs.Frame.{bodyOf, frameOf}
 use Rattle.message.specs.Writing.{partsGivenFit, routesGood, cut, writingInto, givenMessage}
 use Rattle.draft.specs.declared.Written.the-variants.{Refused, Frame}
 use Rattle.draft.specs.Written.{writtenAs}
-use Rattle.draft.specs.Private.{measured}
+use Rattle.draft.specs.Working.{measured}
 use Rattle.draft.proofs.Cuts.{good-whole}
 use Rattle.draft.proofs.Judging.{order-is, topic-short}
 

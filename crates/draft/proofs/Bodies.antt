@@ -13,7 +13,7 @@ use Rattle.message.specs.Header.{hasTopic, hasPayload, hasRoute, headerBytes}
 use Rattle.message.specs.Message.{Message}
 use Rattle.message.specs.Frame.{partBytes, joined, partIf, groupIf, partsOf, bodyOf, frameOf}
 use Rattle.message.specs.Writing.{cut, givenMessage}
-use Rattle.draft.specs.Private.{groupLength, partLength}
+use Rattle.draft.specs.Working.{groupLength, partLength}
 use Rattle.draft.proofs.Parts.{part-takes, group-takes, part-most, group-most}
 
 -- r, t and p say which flags are set

@@ -21,7 +21,7 @@ use Rattle.message.specs.Frame.{bodyOf, frameOf}
 use Rattle.message.specs.Writing.{isEmpty, partsGivenFit, routesGood, cut, writing, writingInto, givenMessage}
 use Rattle.draft.specs.declared.Written.the-variants.{Refused, Frame}
 use Rattle.draft.specs.Written.{writtenAs}
-use Rattle.draft.specs.Private.{measured}
+use Rattle.draft.specs.Working.{measured}
 use Rattle.form.proofs.Topics.{topic-long}
 use Rattle.draft.proofs.Cuts.{cut-empty}
 use Rattle.draft.proofs.Bodies.{payload-shorter}

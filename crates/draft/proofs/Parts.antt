@@ -13,7 +13,7 @@ use Rattle.message.proofs.Parts.{joined-append}
 use Rattle.octets.specs.Number.{four}
 use Rattle.message.specs.Frame.{sizeBytes, partBytes, joined, partIf, groupIf}
 use Rattle.message.specs.Writing.{cut}
-use Rattle.draft.specs.Private.{groupLength, partLength}
+use Rattle.draft.specs.Working.{groupLength, partLength}
 use Rattle.draft.proofs.Cuts.{cut-length}
 
 pub size-one : (n : ℕ) → n < 255 → sizeBytes n ≡ n ∷ []

@@ -1,3 +1,3 @@
--- To be believed: Written, which the public promises cite. Private serves the code's proofs alone: only private functions promise it.
+-- To be believed: Written, which the public promises cite. Working serves the code's proofs alone: only private functions promise it.
 pub mod Written
-pub mod Private
+pub mod Working

@@ -8,7 +8,7 @@ ghost use Rattle.message.specs.Writing.{isEmpty, partsGivenFit, routesGood, cut
 use message::Header;
 
 // How many bytes the most routes have.
-const MOST_ROUTES: usize = message::MOST_ROUTES * message::ROUTE;
+const MOST_ROUTES: usize = message::MOST_ROUTES * form::ROUTE;
 
 // Whether a part may be given: it is empty, or its flag is set.
 fn may_be_given(flag: bool, part: &[u8]) -> bool
@@ -44,15 +44,15 @@ pub(crate) fn routes_good(routes: &[u8]) -> bool
     if MOST_ROUTES < routes.len() {
         return false;
     }
-    if routes.len() % message::ROUTE != 0 {
+    if routes.len() % form::ROUTE != 0 {
         return false;
     }
     let mut i = 0;
     while i < routes.len() {
-        if !form::is_route(&routes[i..i + message::ROUTE]) {
+        if !form::is_route(&routes[i..i + form::ROUTE]) {
             return false;
         }
-        i += message::ROUTE;
+        i += form::ROUTE;
     }
     true
 }

@@ -4,7 +4,7 @@ ghost use Prim.Native.Nat.{_≤_, _%_};
 ghost use lib.ListN.{length};
 ghost use Rattle.message.specs.Frame.{bodyOf};
 ghost use Rattle.message.specs.Writing.{givenMessage};
-ghost use Rattle.draft.specs.Private.{partLength, groupLength};
+ghost use Rattle.draft.specs.Working.{partLength, groupLength};
 use message::Header;
 
 // How many bytes the header takes with its size.
@@ -16,7 +16,7 @@ fn group_length(given: bool, n: usize) -> usize
     ensures { λ r. ⌜ r ≡ groupLength given n ⌝ }
 {
     if given {
-        n / message::ROUTE * message::ROUTE_PART + 1
+        n / form::ROUTE * message::ROUTE_PART + 1
     } else {
         0
     }

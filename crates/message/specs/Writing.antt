@@ -8,7 +8,7 @@ use Rattle.message.specs.declared.Header.{Header}
 use Rattle.message.specs.declared.Refusal.the-variants.{LongBody, WrongHeader, WrongParts, WrongRoute, WrongTopic, WrongField, ShortOutput}
 use Rattle.message.specs.Answer.{Answer, answered, refuseIf, andThen}
 use Rattle.message.specs.Header.{hasTopic, hasPayload, hasRoute, isKnown, partsFit, fieldsGood}
-use Rattle.form.specs.Forms.{isRoute, isTopic}
+use Rattle.form.specs.Forms.{routeLength, isRoute, isTopic}
 use Rattle.message.specs.Message.{Message}
 use Rattle.message.specs.Frame.{mostBody, bodyOf, frameOf}
 
@@ -44,10 +44,6 @@ writing m =
 -- the same into an output of so many bytes: 11 comes last
 unfoldable pub writingInto : ℕ → Message → Answer (List ℕ)
 writingInto room m = andThen (writing m) (λ frame. refuseIf (ltb room (length frame)) ShortOutput (answered frame))
-
--- "36 characters .. then a zero byte"
-abbrev pub routeLength : ℕ
-routeLength = 37
 
 -- "routes of 37 bytes each": the given bytes cut into routes, the last of which may be short and is then not of the form
 abbrev pub cutRoutes : ℕ → List ℕ → List (List ℕ)

@@ -3,8 +3,8 @@ ghost use mathlib.Core.Path.{_≡_};
 ghost use Rattle.message.specs.Refusals.{numberOf};
 ghost use Rattle.message.specs.Header.{hasTopic, hasPayload, hasRoute, isType, isKnown, partsFit, fieldsGood};
 
-// The numbers of "A frame" that more than one crate uses: the header's first two bytes, its length without and with its size byte, FF EE 00 12 as one number, a route's
-// length without and with its size byte, and the most routes and the most bytes that a body has.
+// The numbers of "A frame" that more than one crate uses: the header's first two bytes, its length without and with its size byte, FF EE 00 12
+// as one number, a route's length with its size byte, and the most routes and the most bytes that a body has.
 pub const MAGIC: u8 = 142;
 
 pub const VERSION: u8 = 1;
@@ -14,8 +14,6 @@ pub const HEADER: usize = 20;
 pub const HEADER_PART: usize = 21;
 
 pub const START: u32 = 4293787666;
-
-pub const ROUTE: usize = 37;
 
 pub const ROUTE_PART: usize = 38;
 

@@ -19,7 +19,7 @@ use Rattle.message.proofs.Parts.{first-split}
 use Rattle.parts.specs.declared.size.Size.the-variants.{Wrong, Data}
 use Rattle.parts.specs.declared.walk.Walk.the-variants.{Refused, Counted}
 use Rattle.parts.specs.Walk.{sizeAt, walkedAs}
-use Rattle.parts.specs.Private.{nextEmpty}
+use Rattle.parts.specs.Working.{nextEmpty}
 use Rattle.parts.proofs.Sizes.{CutBy, part-wrong, part-cut}
 
 -- what is left behind a place, as a part of a slice has it

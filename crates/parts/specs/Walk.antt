@@ -9,7 +9,6 @@ use Rattle.parts.specs.declared.size.Size.{Size}
 use Rattle.parts.specs.declared.size.Size.the-variants.{Wrong, Data}
 use Rattle.parts.specs.declared.walk.Walk.{Walk}
 use Rattle.parts.specs.declared.walk.Walk.the-variants.{Refused, Counted}
-pub use Rattle.parts.specs.Private.{nextEmpty}
 
 -- a part that was cut: its data starts behind its size
 abbrev pub sizedAs : Answer (List ℕ × List ℕ) → Size

@@ -6,7 +6,7 @@ ghost use mathlib.Core.Path.{_≡_};
 ghost use Prim.Native.Nat.{_<_, _≤_};
 ghost use Rattle.message.specs.Reading.{partsIn};
 ghost use Rattle.parts.specs.Walk.{walkedAs};
-ghost use Rattle.parts.specs.Private.{nextEmpty};
+ghost use Rattle.parts.specs.Working.{nextEmpty};
 
 // The most parts that a body has: 64 routes, the delimiter, the topic, the payload and the header.
 const MOST: usize = 68;

@@ -21,7 +21,7 @@ use Rattle.octets.specs.Number.{Bytes}
 use Rattle.message.proofs.Parts.{split}
 use Rattle.message.proofs.Headers.{header-tested}
 use Rattle.parts.specs.declared.walk.Walked.{Walked}
-use Rattle.parts.specs.Walk.{nextEmpty}
+use Rattle.parts.specs.Working.{nextEmpty}
 use Rattle.reader.specs.Judging.{partsFound, partsWanted, Headed, Sorted}
 use Rattle.parts.proofs.Passing.{empty-snoc, before-few}
 

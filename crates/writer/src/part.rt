@@ -23,8 +23,8 @@ fn write_routes(out: &mut [u8], routes: &[u8]) -> usize
     let mut at = 0;
     let mut i = 0;
     while i < routes.len() {
-        at += write_part(&mut out[at..], &routes[i..i + message::ROUTE]);
-        i += message::ROUTE;
+        at += write_part(&mut out[at..], &routes[i..i + form::ROUTE]);
+        i += form::ROUTE;
     }
     at
 }

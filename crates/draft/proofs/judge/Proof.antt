@@ -7,7 +7,7 @@ use Prim.Native.Nat.{ℕ}
 use borrow.Author.Tests.{not-false}
 use Rattle.message.specs.Answer.{Answer}
 use Rattle.message.specs.Writing.{writingInto, givenMessage}
-use Rattle.draft.specs.Private.{measured}
+use Rattle.draft.specs.Working.{measured}
 use Rattle.draft.proofs.Judging.{Order, order-is, told-header, told-parts, told-route, told-topic, told-field, told-rest}
 use borrow.Author.Needs.{needs}
 use Rattle.draft.proofs.judge.Statement.{statement}
