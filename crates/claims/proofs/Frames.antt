@@ -18,8 +18,8 @@ use Rattle.message.specs.Writing.{cut, givenMessage}
 use Rattle.message.proofs.Forms.{routes-each}
 use Rattle.message.proofs.Messages.{write}
 use Rattle.message.proofs.RoundTrip.{write-back, read-back}
-use Rattle.reader.specs.Places.{placesOf}
-use Rattle.reader.proofs.Holding.{Begins, begins-read, begins-written, topic-told, payload-told, topic-absent, payload-absent, route-told, frame-length}
+use Rattle.body.specs.Places.{placesOf}
+use Rattle.body.proofs.Holding.{Begins, begins-read, begins-written, topic-told, payload-told, topic-absent, payload-absent, route-told, frame-length}
 use Rattle.rows.specs.Rows.{readRow}
 use Rattle.lampreycoil.specs.Calls.{returned, recorded, wrote, Reads, Writes}
 use Rattle.lampreycoil.proofs.ReadCalls.{ReadDone, read-done, read-on}

@@ -18,8 +18,8 @@ use Rattle.message.specs.Frame.{frameOf}
 use Rattle.octets.proofs.Truth.{and-left, and-right, true-false}
 use Rattle.message.proofs.Lists.{Each, each-at}
 use Rattle.message.proofs.Forms.{routes-few}
-use Rattle.reader.specs.Places.{placesOf}
-use Rattle.reader.proofs.Holding.{Begins, frame-length, topic-within, payload-within, route-most}
+use Rattle.body.specs.Places.{placesOf}
+use Rattle.body.proofs.Holding.{Begins, frame-length, topic-within, payload-within, route-most}
 use Rattle.rows.specs.Rows.{readRow}
 use Rattle.claims.specs.Records.{numberIn}
 

@@ -10,7 +10,7 @@ use lib.Seq.{take-at, drop-at}
 use Rattle.message.specs.Writing.{cutRoutes, cut}
 use Rattle.message.proofs.Lists.{Each}
 use Rattle.draft.proofs.Cuts.{cut-more}
-use Rattle.reader.specs.Places.{stretch}
+use Rattle.body.specs.Places.{stretch}
 use Rattle.claims.specs.Records.{routesFrom}
 
 -- end to end

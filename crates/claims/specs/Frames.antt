@@ -14,7 +14,7 @@ use Rattle.message.specs.Frame.{frameOf}
 use Rattle.message.specs.Reading.{readingOf}
 use Rattle.form.specs.Forms.{routeLength}
 use Rattle.message.specs.Writing.{givenMessage}
-use Rattle.reader.specs.Places.{stretch}
+use Rattle.body.specs.Places.{stretch}
 use Rattle.lampreycoil.specs.Calls.{Reads, Writes, readRecord, countRecord}
 use Rattle.claims.specs.Records.{numberIn, routePart, taken, fieldsIn, routesAt, topicAt, payloadAt, handedOn}
 

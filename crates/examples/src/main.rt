@@ -1,8 +1,8 @@
 // Runs the bytes that paper 01 gives to be reproduced, and prints them.
+use body::Frame;
+use body::Reading;
 use draft::Written;
 use message::Header;
-use reader::Frame;
-use reader::Reading;
 
 mod print;
 

@@ -1,10 +1,10 @@
 // Printing: bytes in hexadecimal, numbers, and what the reader answered.
+use body::Frame;
+use body::Reading;
+use body::Stretch;
 use libc::STDOUT_FILENO;
 use message::Header;
 use message::Refusal;
-use reader::Frame;
-use reader::Reading;
-use reader::Stretch;
 
 pub(crate) fn text(s: &[u8]) {
     io::write_all(STDOUT_FILENO, s);

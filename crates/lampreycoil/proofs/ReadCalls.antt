@@ -11,9 +11,9 @@ use Rattle.message.specs.declared.Refusal.the-variants.{ShortOutput}
 use Rattle.message.specs.Answer.{Answer, refused, answered, andThen}
 use Rattle.message.specs.Message.{Message}
 use Rattle.message.specs.Reading.{readingOf}
-use Rattle.reader.specs.declared.Frame.{Frame}
-use Rattle.reader.specs.declared.Reading.the-variants.{Refused, Accepted}
-use Rattle.reader.specs.Places.{readAs, placesOf}
+use Rattle.body.specs.declared.Frame.{Frame}
+use Rattle.body.specs.declared.Reading.the-variants.{Refused, Accepted}
+use Rattle.body.specs.Places.{readAs, placesOf}
 use Rattle.rows.specs.Rows.{readRow}
 use Rattle.message.proofs.Answers.{passed, both}
 use Rattle.lampreycoil.specs.Calls.{returned, readCall}

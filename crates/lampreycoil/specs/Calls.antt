@@ -16,7 +16,7 @@ use Rattle.message.specs.Reading.{readingOf}
 use Rattle.message.specs.Writing.{writingInto}
 use Rattle.tree.specs.Checking.{depthsInto}
 use Rattle.rows.specs.Rows.{readRow}
-use Rattle.reader.specs.Places.{placesOf}
+use Rattle.body.specs.Places.{placesOf}
 
 -- ---- what a call tells of its answer
 

@@ -1,9 +1,9 @@
 // The library that a C program links. Every call takes numbers and byte slices, returns 0 or the refusal's number, and lists its
 // answer as a row of four-byte numbers in a lent slice. include/lampreycoil.h declares them for C.
+use body::Reading;
 use draft::Written;
 use message::Header;
 use message::Refusal;
-use reader::Reading;
 ghost use Rattle.lampreycoil.specs.Calls.{Reads, headerOf, Writes};
 ghost use Rattle.message.specs.Writing.{givenMessage};
 

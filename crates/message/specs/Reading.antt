@@ -1,5 +1,5 @@
 -- What the reader makes of bytes. "Reader's order: 1 for the 8 bytes, 2, 3, 1 for the body, then 4 and 5 as the parts come (5 before that
--- part's size is read), then 6 to 10." The body is a list of parts here; where they lie in the caller's bytes is said in the reader's specs/Places.antt. Assumes nothing.
+-- part's size is read), then 6 to 10." The body is a list of parts here; where they lie in the caller's bytes is said in the crate body's specs/Places.antt. Assumes nothing.
 use Prim.Native.Nat.{ℕ, zero, suc, _+_, _-_}
 use mathlib.Core.Bool.{Bool, cond, not, _&&_, _||_}
 use mathlib.Core.List.{List, [], _∷_}

@@ -1,11 +1,3 @@
--- Laws about this crate's definitions.
-pub mod Heads
-pub mod Stretches
-pub mod Routing
-pub mod Cursors
-pub mod Sorting
-pub mod Accepting
-pub mod Heading
-pub mod Agreeing
+-- Laws on the eight bytes in front of a body.
+pub mod Starts
 pub mod Opening
-pub mod Holding

@@ -1,40 +1,12 @@
 // The reader: says where the parts of a framed message lie in the caller's bytes, or why there is no message. It copies nothing.
-use judge::judge;
-use message::Header;
+use body::FRONT;
+use body::Reading;
 use message::Refusal;
 ghost use mathlib.Core.Path.{_≡_};
 ghost use Prim.Native.Nat.{_≤_};
 ghost use lib.ListN.{length};
 ghost use Rattle.message.specs.Reading.{startsRight, readingOf};
-ghost use Rattle.reader.specs.Places.{readAs};
-
-mod agree;
-mod judge;
-
-// Bytes in front of a body: the frame's four, and the body's length.
-const FRONT: usize = 8;
-
-// Where bytes lie, counted from the frame's front. Both are 0 where the part is absent.
-pub struct Stretch {
-    pub start: usize,
-    pub len: usize,
-}
-
-// A message in the caller's bytes: how many bytes its frame took, the header's fields, how many routes there are, where the first
-// one's data starts (0 without routes; they lie 38 bytes apart), the topic without its zero byte, and the payload.
-pub struct Frame {
-    pub taken: usize,
-    pub header: Header,
-    pub routes: usize,
-    pub route: usize,
-    pub topic: Stretch,
-    pub payload: Stretch,
-}
-
-pub enum Reading {
-    Refused(Refusal),
-    Accepted(Frame),
-}
+ghost use Rattle.body.specs.Places.{readAs};
 
 // Whether a frame's four bytes stand in front. They are compared as one number, FF EE 00 12.
 fn starts_right(bytes: &[u8]) -> bool
@@ -60,7 +32,8 @@ pub fn read(bytes: &[u8]) -> Reading
         return Reading::Refused(Refusal::LongBody);
     }
     if bytes.len() < end {
-        return Reading::Refused(Refusal::ShortInput);
+        Reading::Refused(Refusal::ShortInput)
+    } else {
+        body::read_body(&bytes[FRONT..end])
     }
-    judge(&bytes[FRONT..end])
 }

@@ -1,5 +1,5 @@
 // The records that a C program gets: an answer as a row of numbers, four bytes each.
-use reader::Frame;
+use body::Frame;
 ghost use mathlib.Core.Path.{_≡_};
 ghost use Rattle.octets.specs.Number.{rowBytes};
 ghost use Rattle.octets.specs.Laid.{laidIfRoom};

@@ -7,11 +7,11 @@ use borrow.Author.Tests.{not-true, not-false}
 use Prim.Native.Nat.{ℕ, _+_, _-_, _≤_}
 use mathlib.Core.Bool.{true}
 use mathlib.Core.List.{List}
-use lib.ListN.{length, take, drop}
-use Rattle.message.specs.Reading.{startsRight, partsIn, judged}
-use Rattle.message.specs.Answer.{andThen}
+use lib.ListN.{length, take, drop, length-take}
+use Rattle.message.specs.Reading.{startsRight}
 use Rattle.reader.proofs.Opening.{open-short, open-start, open-long, open-cut, open-body}
-use Rattle.reader.specs.Places.{readAs}
+use Rattle.body.specs.Places.{readAs, bodyReading}
+use Rattle.body.proofs.Judged.{body-short}
 use Rattle.reader.proofs.read.Statement.{statement}
 use Rattle.reader.proofs.read.Tie as tie
 
@@ -67,23 +67,25 @@ returns-4 : tie.Need-returns-4
 returns-4 c = let p = c .before .before in
     sym (ap readAs (open-cut _ (long p) (start p) _ (p .number-of .ensures) (omega (arith, c .before .if3 .left)) (omega (arith, c .if4 .taken))))
 
-sub-judge : tie.Need-sub-judge
-sub-judge c = search needs
+sub-read-body : tie.Need-sub-read-body
+sub-read-body c = search needs
 
-part-judge-start : tie.Need-part-judge-start
-part-judge-start c = search needs
+part-read-body-start : tie.Need-part-read-body-start
+part-read-body-start c = search needs
 
-part-judge-end : tie.Need-part-judge-end
-part-judge-end c = search needs
+part-read-body-end : tie.Need-part-read-body-end
+part-read-body-end c = search needs
 
-judge-requires : tie.Need-judge-requires
-judge-requires c κs = search needs
+read-body-requires : tie.Need-read-body-requires
+read-body-requires c κs = search needs
 
 returns-5 : tie.Need-returns-5
 returns-5 c = let p = c .before .before .before .before in
     let n = p .number-of .result in
     let size : 8 + n - 8 ≡ n = omega arith in
-    c .judge .ensures ∙ ap (λ (k : ℕ). readAs (andThen (partsIn 68 (take k (drop 8 (bytes p)))) judged)) size
+    let body = take n (drop 8 (bytes p)) in
+    let short : length body ≤ 32768 = omega (arith, length-take n (drop 8 (bytes p)), c .before .before .before .if3 .left) in
+    c .read-body .ensures ∙ ap (λ (k : ℕ). readAs (bodyReading (take k (drop 8 (bytes p))))) size ∙ ap readAs (body-short body short)
     ∙ sym (ap readAs (open-body _ (long p) (start p) n (p .number-of .ensures) (omega (arith, c .before .before .before .if3 .left)) (omega (arith, c .before .before .if4 .left))))
 
 pub read-spec : {M : Type 1} → statement M
@@ -101,9 +103,9 @@ read-spec =
     cast-size
     add-end
     returns-3
+    sub-read-body
+    part-read-body-start
+    part-read-body-end
+    read-body-requires
     returns-4
-    sub-judge
-    part-judge-start
-    part-judge-end
-    judge-requires
     returns-5)

@@ -2,7 +2,7 @@
 -- Assumes nothing.
 use borrow.Author.Needs.{needs}
 use Rattle.octets.proofs.Numbers.{bytes-of}
-use Rattle.reader.proofs.Heads.{start-tested}
+use Rattle.reader.proofs.Starts.{start-tested}
 use Rattle.reader.proofs.starts_right.Statement.{statement}
 use Rattle.reader.proofs.starts_right.Tie as tie
 

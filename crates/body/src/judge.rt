@@ -1,0 +1,223 @@
+// What the parts of a body are: the header first, then 7 to 10 in the paper's order.
+use crate::FRONT;
+use crate::Frame;
+use crate::Reading;
+use crate::Stretch;
+use crate::agree::if_set;
+use crate::agree::parts_agree;
+use header::Head;
+use header::read_header;
+use message::Header;
+use message::Refusal;
+use parts::walk::Walk;
+use parts::walk::Walked;
+use parts::walk::count_parts;
+ghost use mathlib.Core.Path.{_≡_};
+ghost use mathlib.Core.Bool.{true};
+ghost use Prim.Native.Nat.{_<_, _≤_};
+ghost use lib.ListN.{length, take, drop};
+ghost use Rattle.message.specs.Answer.{andThen};
+ghost use Rattle.message.specs.Writing.{allRoutes};
+ghost use Rattle.message.specs.Reading.{partsIn, front, judged, judgedAs, isTopicPart};
+ghost use Rattle.body.specs.Places.{readAs};
+ghost use Rattle.body.specs.Judging.{partsFound, Found, HasSize, stretchAt, firstRoute, pieceIf, Within, topicWrong, Placeable, placedAs, WalkedOver, Headed, Sorted};
+
+// The size byte of a route's part.
+const ROUTE_SIZE: u8 = 37;
+// Where the data of a first route starts: behind the bytes in front of the body, and its size byte.
+const FIRST_ROUTE: usize = 9;
+
+// Where a part's data lies in the body, and where the next part begins.
+struct Piece {
+    at: usize,
+    len: usize,
+    next: usize,
+}
+
+// The data of the part that begins s, whose size is known to be right.
+fn stretch_at(s: &[u8]) -> Stretch
+    requires { ⌜ HasSize (now s) ⌝ }
+    ensures { λ r. ⌜ r ≡ stretchAt (now (s .entry)) ⌝ }
+{
+    let short = octets::wide(s[0]) as usize;
+    if short < 255 {
+        return Stretch {
+            start: 1,
+            len: short,
+        };
+    }
+    Stretch {
+        start: 5,
+        len: octets::number_of(s[1], s[2], s[3], s[4]) as usize,
+    }
+}
+
+// Where the part that begins at a place of the body lies, if its flag is set.
+fn piece_if(body: &[u8], flag: bool, at: usize) -> Piece
+    requires { ⌜ (at ≤ length (now body)) × (length (now body) ≤ 32768) ⌝ }
+    requires { ⌜ Found (drop at (now body)) ⌝ }
+    requires { ⌜ (flag ≡ true → 0 < length (drop at (now body))) ⌝ }
+    ensures { λ r. ⌜ r ≡ pieceIf flag at (partsFound (drop at (now (body .entry)))) ⌝ }
+{
+    if flag {
+        let part = stretch_at(&body[at..]);
+        let data = at + part.start;
+        Piece {
+            at: data,
+            len: part.len,
+            next: data + part.len,
+        }
+    } else {
+        Piece {
+            at: 0,
+            len: 0,
+            next: at,
+        }
+    }
+}
+
+// Whether a part holds a topic with its zero byte.
+fn is_topic_part(p: &[u8]) -> bool
+    ensures { λ r. ⌜ r ≡ isTopicPart (now (p .entry)) ⌝ }
+{
+    if p.len() == 0 {
+        return false;
+    }
+    let end = p.len() - 1;
+    if p[end] != 0 {
+        return false;
+    }
+    form::is_topic(&p[..end])
+}
+
+// Whether the first so many parts are routes. Those in front of a part that is looked at have 38 bytes each.
+fn are_routes(body: &[u8], routes: usize) -> bool
+    requires { ⌜ Found (now body) ⌝ }
+    requires { ⌜ (length (now body) ≤ 32768) × (routes ≤ length (partsFound (now body))) ⌝ }
+    ensures { λ r. ⌜ r ≡ allRoutes (take routes (partsFound (now (body .entry)))) ⌝ }
+{
+    let mut i = 0;
+    let mut at = 0;
+    while i < routes {
+        if body[at] != ROUTE_SIZE {
+            return false;
+        }
+        if !form::is_route(&body[at + 1..at + message::ROUTE_PART]) {
+            return false;
+        }
+        at += message::ROUTE_PART;
+        i += 1;
+    }
+    true
+}
+
+// Where the first route's data starts.
+fn first_route(routes: usize) -> usize
+    ensures { λ r. ⌜ r ≡ firstRoute routes ⌝ }
+{
+    if routes == 0 { 0 } else { FIRST_ROUTE }
+}
+
+// 9: whether there is to be a topic, and the part is none.
+fn topic_wrong(body: &[u8], flags: u8, topic: Piece) -> bool
+    requires { ⌜ Within flags topic (length (now body)) ⌝ }
+    ensures { λ r. ⌜ r ≡ topicWrong flags topic (now (body .entry)) ⌝ }
+{
+    let from = topic.at;
+    let to = topic.next;
+    if message::has_topic(flags) {
+        !is_topic_part(&body[from..to])
+    } else {
+        false
+    }
+}
+
+// The answer, counted from the frame's front: the body lies behind its first eight bytes.
+fn placed(size: usize, h: Header, routes: usize, topic: Piece, payload: Piece) -> Frame
+    requires { ⌜ Placeable size h topic payload ⌝ }
+    ensures { λ r. ⌜ r ≡ placedAs size h routes topic payload ⌝ }
+{
+    let has_topic = message::has_topic(h.flags);
+    let shown = topic.len - if_set(has_topic, 1);
+    Frame {
+        taken: FRONT + size,
+        header: h,
+        routes,
+        route: first_route(routes),
+        topic: Stretch {
+            start: if_set(has_topic, FRONT + topic.at),
+            len: shown,
+        },
+        payload: Stretch {
+            start: if_set(message::has_payload(h.flags), FRONT + payload.at),
+            len: payload.len,
+        },
+    }
+}
+
+// 9 and 10, and then the message: the parts are as many as they should be, and the routes are right.
+fn judge_rest(body: &[u8], h: Header, routes: usize) -> Reading
+    requires { ⌜ Sorted (now body) h routes ⌝ }
+    ensures { λ r. ⌜ r ≡ readAs (judgedAs h (front (partsFound (now (body .entry))))) ⌝ }
+{
+    let at = message::ROUTE_PART * routes + if_set(message::has_route(h.flags), 1);
+    let topic = piece_if(body, message::has_topic(h.flags), at);
+    let wrong = topic_wrong(body, h.flags, topic);
+    let good = message::fields_good(h);
+    if wrong {
+        return Reading::Refused(Refusal::WrongTopic);
+    }
+    if good {
+        let payload = piece_if(body, message::has_payload(h.flags), topic.next);
+        Reading::Accepted(placed(body.len(), h, routes, topic, payload))
+    } else {
+        Reading::Refused(Refusal::WrongField)
+    }
+}
+
+// 7 and 8: whether the parts are those that type and flags ask for, and then the routes, which are the parts in front of the delimiter.
+fn judge_parts(body: &[u8], w: Walked, h: Header) -> Reading
+    requires { ⌜ Headed (now body) w h ⌝ }
+    ensures { λ r. ⌜ r ≡ readAs (judgedAs h (front (partsFound (now (body .entry))))) ⌝ }
+{
+    let routes = if_set(message::has_route(h.flags), w.empty);
+    let agree = parts_agree(h, w.count, routes);
+    if !agree {
+        return Reading::Refused(Refusal::WrongParts);
+    }
+    if message::MOST_ROUTES < routes {
+        return Reading::Refused(Refusal::WrongRoute);
+    }
+    if are_routes(body, routes) {
+        judge_rest(body, h, routes)
+    } else {
+        Reading::Refused(Refusal::WrongRoute)
+    }
+}
+
+// 6, and then the rest: the header is the last of the parts that the walk counted.
+fn judge_counted(body: &[u8], w: Walked) -> Reading
+    requires { ⌜ (length (now body) ≤ 32768) × WalkedOver (now body) w ⌝ }
+    ensures { λ r. ⌜ r ≡ readAs (andThen (partsIn 68 (now (body .entry))) judged) ⌝ }
+{
+    let last = w.last;
+    if body.len() - last != message::HEADER_PART {
+        return Reading::Refused(Refusal::WrongHeader);
+    }
+    let start = last + 1;
+    match read_header(&body[start..]) {
+        Head::Wrong => Reading::Refused(Refusal::WrongHeader),
+        Head::Fields(h) => judge_parts(body, w, h),
+    }
+}
+
+// Reads a body: its parts, the header, which is the last of them, and the rest.
+pub(crate) fn judge(body: &[u8]) -> Reading
+    requires { ⌜ length (now body) ≤ 32768 ⌝ }
+    ensures { λ r. ⌜ r ≡ readAs (andThen (partsIn 68 (now (body .entry))) judged) ⌝ }
+{
+    match count_parts(body) {
+        Walk::Refused(r) => Reading::Refused(r),
+        Walk::Counted(w) => judge_counted(body, w),
+    }
+}
