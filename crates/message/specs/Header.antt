@@ -15,8 +15,17 @@ hasTopic flags = eqb (flags % 2) 1
 abbrev pub hasPayload : ℕ → Bool
 hasPayload flags = eqb (flags / 2 % 2) 1
 
+abbrev pub noResponse : ℕ → Bool
+noResponse flags = eqb (flags / 4 % 2) 1
+
 abbrev pub hasRoute : ℕ → Bool
 hasRoute flags = eqb (flags / 8 % 2) 1
+
+abbrev pub isUpstream : ℕ → Bool
+isUpstream flags = eqb (flags / 16 % 2) 1
+
+abbrev pub isStreaming : ℕ → Bool
+isStreaming flags = eqb (flags / 64 % 2) 1
 
 -- "1 request, 2 response, 4 event, 8 control"
 abbrev pub isType : ℕ → Bool

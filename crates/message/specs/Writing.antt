@@ -26,9 +26,13 @@ abbrev pub allRoutes : List (List ℕ) → Bool
 allRoutes [] = true
 allRoutes (r ∷ rs) = isRoute r && allRoutes rs
 
+-- "At most 64."
+abbrev pub mostRoutes : ℕ
+mostRoutes = 64
+
 -- 8: each route "of the form", "At most 64"
 unfoldable pub routesGood : List (List ℕ) → Bool
-routesGood rs = leb (length rs) 64 && allRoutes rs
+routesGood rs = leb (length rs) mostRoutes && allRoutes rs
 
 -- the frame of a message, or why it has none: 6 (type and flag 80 only), 7, 8, 9, 10, 3
 unfoldable pub writing : Message → Answer (List ℕ)

@@ -1,7 +1,7 @@
 // A Flux message: the fields of its header, the forms of its parts, and why a call can say no.
 ghost use mathlib.Core.Path.{_≡_};
 ghost use Rattle.message.specs.Refusals.{numberOf};
-ghost use Rattle.message.specs.Header.{hasTopic, hasPayload, hasRoute, isType, isKnown, partsFit, fieldsGood};
+ghost use Rattle.message.specs.Header.{hasTopic, hasPayload, noResponse, hasRoute, isUpstream, isStreaming, isType, isKnown, partsFit, fieldsGood};
 
 // The numbers of "A frame" that more than one crate uses: the header's first two bytes, its length without and with its size byte, FF EE 00 12
 // as one number, a route's length with its size byte, and the most routes and the most bytes that a body has.
@@ -99,6 +99,25 @@ pub fn has_route(flags: u8) -> bool
     ensures { λ r. ⌜ r ≡ hasRoute flags ⌝ }
 {
     flags / 8 % 2 == 1
+}
+
+// Whether nobody is to reply with an error, whether the request goes upstream, and whether responses stream: flags 04, 10 and 40.
+pub fn no_response(flags: u8) -> bool
+    ensures { λ r. ⌜ r ≡ noResponse flags ⌝ }
+{
+    flags / 4 % 2 == 1
+}
+
+pub fn is_upstream(flags: u8) -> bool
+    ensures { λ r. ⌜ r ≡ isUpstream flags ⌝ }
+{
+    flags / 16 % 2 == 1
+}
+
+pub fn is_streaming(flags: u8) -> bool
+    ensures { λ r. ⌜ r ≡ isStreaming flags ⌝ }
+{
+    flags / 64 % 2 == 1
 }
 
 // Whether there is such a type.

@@ -1,0 +1,2 @@
+-- What the clauses of this crate's functions cite.
+pub mod Moved

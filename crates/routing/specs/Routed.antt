@@ -1,0 +1,64 @@
+-- One broker's step on a message. "Answers: 1 delivered, with the record's number, counted from 0; 2 forward, with the rank; 3 error reply made, with
+-- the error number; 4 silenced (an error was due, noresponse set), with that number; 5 home." Assumes nothing.
+use Prim.Native.Nat.{ℕ}
+use mathlib.Core.Bool.{Bool, cond}
+use mathlib.Core.List.{List}
+use lib.Dec.{eqb}
+use Rattle.message.specs.declared.Refusal.the-variants.{NoForwarding, NotRouted, NoNeighbour}
+use Rattle.message.specs.Answer.{Answer, refused, answered, refuseIf}
+use Rattle.message.specs.Header.{noResponse}
+use Rattle.message.specs.Message.{Message}
+use Rattle.identities.specs.Identities.{identityAt}
+use Rattle.routing.specs.declared.Way.{Way}
+use Rattle.routing.specs.declared.Way.the-variants.{Deliver, Forward, Fail}
+use Rattle.routing.specs.declared.Back.{Back}
+use Rattle.routing.specs.declared.Back.the-variants.{Home, To, Stray}
+use Rattle.routing.specs.Requests.{requestWay}
+use Rattle.routing.specs.Responses.{responseWay}
+use Rattle.routing.specs.Messages.{pushed, popped, errorReply, tooLarge}
+
+-- "Given the tables, .."
+pub record Tables : Type 0 where
+  pub tree : List ℕ
+  pub services : List ℕ
+  pub identities : List ℕ
+
+-- ".. the broker's rank, whether the message came from a local client": and the userid and rolemask that an error reply carries
+pub record Broker : Type 0 where
+  pub rank : ℕ
+  pub fromClient : Bool
+  pub userid : ℕ
+  pub rolemask : ℕ
+
+pub data Outcome : Type 0 where
+  delivered : ℕ → Outcome
+  forwarded : ℕ → Message → Outcome
+  replied : ℕ → Message → Outcome
+  silenced : ℕ → Outcome
+  home : Outcome
+
+-- an error that is due: a reply, or silence where noresponse is set
+abbrev pub failed : Broker → ℕ → Message → Outcome
+failed b errnum m = cond (noResponse (m .header .flags)) (silenced errnum) (replied errnum (errorReply (b .userid) (b .rolemask) errnum m))
+
+-- 12, or the message that goes to the next broker
+abbrev pub forwardedIf : ℕ → Message → Answer Outcome
+forwardedIf next m = refuseIf (tooLarge m) NoForwarding (answered (forwarded next m))
+
+abbrev pub requested : Tables → Broker → Message → Way → Answer Outcome
+requested t b m (Deliver number) = answered (delivered number)
+requested t b m (Forward next) = forwardedIf next (pushed (identityAt (t .identities) (b .rank)) m)
+requested t b m (Fail errnum) = answered (failed b errnum m)
+
+-- 19 where the response's top route is a broker that is no neighbour
+abbrev pub responded : Message → Back → Answer Outcome
+responded m Home = answered home
+responded m (To broker) = answered (forwarded broker (popped m))
+responded m Stray = refused NoNeighbour
+
+-- a request, a response, or 18: "step or walk given an event or control"
+unfoldable pub routed : Tables → Broker → Message → Answer Outcome
+routed t b m =
+    cond (eqb (m .header .kind) 1) (requested t b m (requestWay (t .tree) (t .services) (b .rank) (b .fromClient) (m .header) (m .topic)))
+    (cond (eqb (m .header .kind) 2) (responded m (responseWay (t .tree) (t .identities) (b .rank) (m .routes)))
+    (refused NotRouted))
