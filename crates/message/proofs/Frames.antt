@@ -13,15 +13,11 @@ use Rattle.octets.specs.Number.{four, Bytes}
 use Rattle.octets.proofs.Numbers.{number-four, four-number, bytes-drop}
 use Rattle.message.specs.Answer.{answered, andThen}
 use Rattle.message.specs.Message.{Message}
-use Rattle.message.specs.Frame.{frameStart, bodyOf, frameOf}
+use Rattle.message.specs.Frame.{frameStart, framed, bodyOf, frameOf}
 use Rattle.message.specs.Reading.{partsIn, judged, startsRight, bodyLength, readingOf}
 use Rattle.message.proofs.Headers.{four-places}
 use Rattle.octets.proofs.Truth.{and-left, and-right}
 use Rattle.message.proofs.Answers.{passed, pass}
-
--- the bytes of a body's frame
-abbrev pub framed : List ℕ → List ℕ
-framed body = frameStart ++ (four (length body) ++ body)
 
 -- ---- a frame read
 

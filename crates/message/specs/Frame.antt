@@ -56,5 +56,8 @@ unfoldable pub bodyOf : Message → List ℕ
 bodyOf m = joined (partsOf m)
 
 -- "FF EE 00 12, then a 4-byte body length, then the body"
+abbrev pub framed : List ℕ → List ℕ
+framed body = frameStart ++ (four (length body) ++ body)
+
 unfoldable pub frameOf : Message → List ℕ
-frameOf m = frameStart ++ (four (length (bodyOf m)) ++ bodyOf m)
+frameOf m = framed (bodyOf m)

@@ -1,0 +1,2 @@
+-- A frame changed in its buffer.
+pub mod Renewed

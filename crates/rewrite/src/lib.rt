@@ -1,0 +1,18 @@
+// A frame changed where it lies: a part put in front of its body, bytes taken from there, or the end of its body replaced by a header. Behind the
+// new frame everything is cleared, to the end of the buffer.
+use body::FRONT;
+use message::Header;
+ghost use mathlib.Core.Path.{_≡_};
+ghost use Prim.Native.Nat.{_+_, _≤_, _<_};
+ghost use lib.ListN.{length};
+ghost use Rattle.rewrite.specs.Renewed.{bodyIn, renewed, withPart, withoutFront, withHeader};
+
+// The eight bytes in front of a body that is in its place, and zeros behind it.
+fn renew(buffer: &mut [u8], size: usize)
+    requires { ⌜ (8 + size ≤ length (now buffer)) × (size < 4294967296) ⌝ }
+    ensures { λ _. ⌜ now (buffer .exit) ≡ renewed (bodyIn size (now (buffer .entry))) (now (buffer .entry)) ⌝ }
+{
+    octets::put_row(buffer, &[message::START as usize, size]);
+    let end = FRONT + size;
+    moving::clear(&mut buffer[end..]);
+}
