@@ -1,19 +1,26 @@
 -- Laws on a frame that is written anew around a body in its place.
 -- Assumes nothing.
 use mathlib.Core.Path.{_≡_, refl, sym, ap, ap₂, _∙_}
-use Prim.Native.Nat.{ℕ, _+_, _-_, _≤_}
+use Prim.Native.Nat.{ℕ, _+_, _-_, _<_, _≤_}
 use native.Mathlib.Omega.{arith}
-use mathlib.Core.List.{List, [], _∷_, _++_, append-nil}
-use lib.ListN.{length, take, drop, replicate, length-drop, length-append, drop-of-length-le}
-use lib.Seq.{length-take-le, take-append-add}
+use mathlib.Core.List.{List, [], _∷_, _++_, append-nil, append-assoc}
+use borrow.Author.Tests.{le-leb, lt-ltb, lt-leb, le-ltb}
+use lib.Dec.{leb, ltb}
+use Rattle.octets.proofs.Truth.{and-right-fails}
+use lib.ListN.{length, take, drop, replicate, length-drop, length-append, drop-of-length-le, take-append-drop}
+use lib.Seq.{length-take-le, take-append-add, take-at, drop-at}
 use borrow.Rule.Slice.PartAt.{part-to-end}
 use borrow.Rule.Slice.PartMut.{midOf, putMid}
 use Rattle.octets.specs.Number.{four, rowBytes}
 use Rattle.octets.specs.Laid.{laid, laidIfRoom}
 use Rattle.octets.proofs.Buffers.{laid-room, length-laid}
-use Rattle.message.specs.Frame.{frameStart, framed}
-use Rattle.moving.specs.Moved.{zeros}
-use Rattle.rewrite.specs.Renewed.{cleared, bodyIn, renewed}
+use Rattle.octets.specs.Lays.{Lays}
+use Rattle.octets.proofs.Laying.{lays-leaf, lays-length}
+use Rattle.message.specs.Frame.{frameStart, partBytes, framed}
+use Rattle.message.proofs.Parts.{part-short}
+use Rattle.moving.specs.Moved.{zeros, movedIfRoom}
+use Rattle.moving.proofs.Moving.{moved-room}
+use Rattle.rewrite.specs.Renewed.{bodyIn, renewed, withPart}
 
 module _ (b : List ℕ) (size : ℕ) (fits : 8 + size ≤ length b) where
   abbrev front : List ℕ
@@ -36,3 +43,77 @@ module _ (b : List ℕ) (size : ℕ) (fits : 8 + size ≤ length b) where
       let left : length (midOf at (length b₁ - at) b₁) ≡ length b - length (framed (bodyIn size b)) = ap length (part-to-end b₁ at) ∙ length-drop at b₁ ∙ omega (arith, long, body-long) in
       ap₂ (λ (x y : List ℕ). x ++ y) before
       (ap₂ (λ (x y : List ℕ). x ++ y) (z ∙ ap (λ (n : ℕ). replicate n 0) left) behind ∙ append-nil (replicate (length b - length (framed (bodyIn size b))) 0))
+
+-- the front of a buffer is laid there already
+lays-front : (k : ℕ) (b : List ℕ) → k ≤ length b → Lays (take k b) b b k
+lays-front k b h =
+    let long : length (take k b) ≡ k = length-take-le k b h in
+    record { told = sym long; bytes = sym (ap (λ (n : ℕ). take k b ++ drop n b) long ∙ take-append-drop k b) }
+
+-- only the length of the buffer matters to what is cleared
+renewed-as : (body c b : List ℕ) → length c ≡ length b → renewed body c ≡ renewed body b
+renewed-as body c b e = ap (λ (n : ℕ). framed body ++ replicate (n - length (framed body)) 0) e
+
+-- ---- a part in front of the body
+
+module _ (b part : List ℕ) (size : ℕ) (short : length part < 255) (few : size ≤ 32768) (fits : 8 + (1 + length part + size) ≤ length b) where
+  abbrev at : ℕ
+  at = 8 + 1 + length part
+
+  part-long : length (partBytes part) ≡ 1 + length part
+  part-long = ap length (part-short part short) ∙ omega arith
+
+  module _ {b₁ : List ℕ} (e₁ : b₁ ≡ movedIfRoom 8 at size b) where
+    rest : List ℕ
+    rest = drop (at + size) b
+
+    one : b₁ ≡ (take at b ++ bodyIn size b) ++ rest
+    unfolding rest
+    one = e₁ ∙ moved-room 8 at size b few (omega arith) (omega arith)
+
+    front-long : length (take at b) ≡ at
+    front-long = length-take-le at b (omega arith)
+
+    pub moved-long : length b₁ ≡ length b
+    unfolding rest
+    moved-long = ap length one ∙ simp length-append (omega (arith, front-long, body-long b size (omega arith), length-drop (at + size) b))
+
+    behind-part : drop at b₁ ≡ bodyIn size b ++ rest
+    behind-part = ap (drop at) (one ∙ append-assoc (take at b) (bodyIn size b) rest) ∙ drop-at (take at b) (bodyIn size b ++ rest) at front-long
+
+    module _ {last : List ℕ} (e₂ : last ≡ laidIfRoom (partBytes part) (midOf 8 (length b₁ - 8) b₁)) where
+      lays : Lays (take 8 b₁ ++ partBytes part) b₁ (putMid 8 (length b₁ - 8) b₁ last) (8 + length (partBytes part))
+      lays = lays-leaf (lays-front 8 b₁ (omega (arith, moved-long))) (partBytes part) (omega (arith, length-append (take 8 b₁) (partBytes part), part-long, moved-long, length-take-le 8 b₁ (omega (arith, moved-long)))) e₂
+
+      two : putMid 8 (length b₁ - 8) b₁ last ≡ take 8 b₁ ++ (partBytes part ++ (bodyIn size b ++ rest))
+      two =
+          let w = take 8 b₁ ++ partBytes part in
+          let long : length w ≡ at = omega (arith, length-append (take 8 b₁) (partBytes part), part-long, length-take-le 8 b₁ (omega (arith, moved-long))) in
+          lays .bytes ∙ ap (λ (n : ℕ). w ++ drop n b₁) long ∙ ap (λ (l : List ℕ). w ++ l) behind-part ∙ append-assoc (take 8 b₁) (partBytes part) (bodyIn size b ++ rest)
+
+      pub put-long : length (putMid 8 (length b₁ - 8) b₁ last) ≡ length b
+      put-long = lays-length lays (omega (arith, length-append (take 8 b₁) (partBytes part), part-long, moved-long, length-take-le 8 b₁ (omega (arith, moved-long)))) ∙ moved-long
+
+      in-place : bodyIn (1 + length part + size) (putMid 8 (length b₁ - 8) b₁ last) ≡ partBytes part ++ bodyIn size b
+      in-place =
+          let eight : length (take 8 b₁) ≡ 8 = length-take-le 8 b₁ (omega (arith, moved-long)) in
+          ap (λ (l : List ℕ). take (1 + length part + size) (drop 8 l)) two
+          ∙ ap (take (1 + length part + size)) (drop-at (take 8 b₁) (partBytes part ++ (bodyIn size b ++ rest)) 8 eight)
+          ∙ ap (λ (n : ℕ). take (n + size) (partBytes part ++ (bodyIn size b ++ rest))) (sym part-long)
+          ∙ take-append-add (partBytes part) (bodyIn size b ++ rest) size
+          ∙ ap (λ (l : List ℕ). partBytes part ++ l) (take-at (bodyIn size b) rest size (body-long b size (omega arith)))
+
+      pub part-put : {b₃ : List ℕ} → b₃ ≡ renewed (bodyIn (1 + length part + size) (putMid 8 (length b₁ - 8) b₁ last)) (putMid 8 (length b₁ - 8) b₁ last) → b₃ ≡ withPart part size b
+      part-put e₃ =
+          e₃ ∙ ap (λ (l : List ℕ). renewed l (putMid 8 (length b₁ - 8) b₁ last)) in-place ∙ renewed-as (partBytes part ++ bodyIn size b) (putMid 8 (length b₁ - 8) b₁ last) b put-long
+          ∙ sym (rw (lt-ltb (length part) 255 short, le-leb size 32768 few, le-leb (9 + length part + size) (length b) (omega arith)))
+
+module _ (b part : List ℕ) (size : ℕ) where
+  pub part-large : 255 ≤ length part → withPart part size b ≡ b
+  part-large h = rw (le-ltb (length part) 255 h)
+
+  pub part-many : 32768 < size → withPart part size b ≡ b
+  part-many h = rw (lt-leb size 32768 h, and-right-fails (ltb (length part) 255) refl)
+
+  pub part-tight : length b < 9 + length part + size → withPart part size b ≡ b
+  part-tight h = rw (lt-leb (9 + length part + size) (length b) h, and-right-fails (leb size 32768) refl, and-right-fails (ltb (length part) 255) refl)

@@ -3,7 +3,7 @@
 use Prim.Native.Nat.{ℕ, _+_, _-_}
 use mathlib.Core.Bool.{Bool, cond, _&&_}
 use mathlib.Core.List.{List, _++_}
-use lib.Dec.{leb}
+use lib.Dec.{leb, ltb}
 use lib.ListN.{length, take, drop, replicate}
 use Rattle.message.specs.declared.Header.{Header}
 use Rattle.message.specs.Header.{headerBytes}
@@ -21,10 +21,10 @@ bodyIn size buffer = take size (drop 8 buffer)
 abbrev pub renewed : List ℕ → List ℕ → List ℕ
 renewed body buffer = cleared (framed body) buffer
 
--- a part in front of the body
+-- a part of less than 255 bytes in front of the body
 abbrev pub withPart : List ℕ → ℕ → List ℕ → List ℕ
 withPart part size buffer =
-    cond (leb size mostBody && leb (8 + (length (partBytes part) + size)) (length buffer)) (renewed (partBytes part ++ bodyIn size buffer) buffer) buffer
+    cond (ltb (length part) 255 && (leb size mostBody && leb (9 + length part + size) (length buffer))) (renewed (partBytes part ++ bodyIn size buffer) buffer) buffer
 
 -- the body without its first so many bytes
 abbrev pub withoutFront : ℕ → ℕ → List ℕ → List ℕ

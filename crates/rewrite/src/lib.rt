@@ -16,3 +16,21 @@ fn renew(buffer: &mut [u8], size: usize)
     let end = FRONT + size;
     moving::clear(&mut buffer[end..]);
 }
+
+// Puts a part of less than 255 bytes in front of a body of so many bytes, if there is room for it.
+pub fn put_part(buffer: &mut [u8], size: usize, part: &[u8])
+    ensures { λ _. ⌜ now (buffer .exit) ≡ withPart (now (part .entry)) size (now (buffer .entry)) ⌝ }
+{
+    let n = part.len();
+    if n < 255 {
+        if size <= message::MOST_BODY {
+            let grown = 1 + n + size;
+            if FRONT + grown <= buffer.len() {
+                let at = FRONT + 1 + n;
+                moving::move_within(buffer, FRONT, at, size);
+                parts::write::write_part(&mut buffer[FRONT..], part);
+                renew(buffer, grown);
+            }
+        }
+    }
+}
