@@ -8,7 +8,7 @@ use borrow.Author.Tests.{le-leb, lt-ltb, lt-leb, le-ltb}
 use lib.Dec.{leb, ltb}
 use Rattle.octets.proofs.Truth.{and-right-fails}
 use lib.ListN.{length, take, drop, replicate, length-drop, length-append, drop-of-length-le, take-append-drop}
-use lib.Seq.{length-take-le, take-append-add, take-at, drop-at}
+use lib.Seq.{length-take-le, take-append-add, take-at, drop-at, drop-drop, take-add}
 use borrow.Rule.Slice.PartAt.{part-to-end}
 use borrow.Rule.Slice.PartMut.{midOf, putMid}
 use Rattle.octets.specs.Number.{four, rowBytes}
@@ -20,7 +20,7 @@ use Rattle.message.specs.Frame.{frameStart, partBytes, framed}
 use Rattle.message.proofs.Parts.{part-short}
 use Rattle.moving.specs.Moved.{zeros, movedIfRoom}
 use Rattle.moving.proofs.Moving.{moved-room}
-use Rattle.rewrite.specs.Renewed.{bodyIn, renewed, withPart}
+use Rattle.rewrite.specs.Renewed.{bodyIn, renewed, withPart, withoutFront}
 
 module _ (b : List ℕ) (size : ℕ) (fits : 8 + size ≤ length b) where
   abbrev front : List ℕ
@@ -117,3 +117,49 @@ module _ (b part : List ℕ) (size : ℕ) where
 
   pub part-tight : length b < 9 + length part + size → withPart part size b ≡ b
   part-tight h = rw (lt-leb (9 + length part + size) (length b) h, and-right-fails (leb size 32768) refl, and-right-fails (ltb (length part) 255) refl)
+
+-- ---- the body without its front
+
+drop-taken : (n size : ℕ) (xs : List ℕ) → n ≤ size → size ≤ length xs → drop n (take size xs) ≡ take (size - n) (drop n xs)
+drop-taken n size xs h l =
+    let sum : n + (size - n) ≡ size = omega arith in
+    ap (λ (k : ℕ). drop n (take k xs)) (sym sum) ∙ ap (drop n) (take-add n (size - n) xs) ∙ drop-at (take n xs) (take (size - n) (drop n xs)) n (length-take-le n xs (omega arith))
+
+module _ (b : List ℕ) (n size : ℕ) (few : size ≤ 32768) (within : n ≤ size) (fits : 8 + size ≤ length b) {b₁ : List ℕ} (e₁ : b₁ ≡ movedIfRoom (8 + n) 8 (size - n) b) where
+  left-is : take (size - n) (drop (8 + n) b) ≡ drop n (bodyIn size b)
+  left-is = ap (take (size - n)) (sym (drop-drop n 8 b)) ∙ sym (drop-taken n size (drop 8 b) within (omega (arith, length-drop 8 b)))
+
+  left-long : length (take (size - n) (drop (8 + n) b)) ≡ size - n
+  left-long = length-take-le (size - n) (drop (8 + n) b) (omega (arith, length-drop (8 + n) b))
+
+  rest-of : List ℕ
+  rest-of = drop (8 + (size - n)) b
+
+  shifted : b₁ ≡ (take 8 b ++ take (size - n) (drop (8 + n) b)) ++ rest-of
+  unfolding rest-of
+  shifted = e₁ ∙ moved-room (8 + n) 8 (size - n) b (omega arith) (omega arith) (omega arith)
+
+  pub shifted-long : length b₁ ≡ length b
+  unfolding rest-of
+  shifted-long = ap length shifted ∙ simp length-append (omega (arith, left-long, length-take-le 8 b (omega arith), length-drop (8 + (size - n)) b))
+
+  kept : bodyIn (size - n) b₁ ≡ drop n (bodyIn size b)
+  kept =
+      ap (λ (l : List ℕ). take (size - n) (drop 8 l)) (shifted ∙ append-assoc (take 8 b) (take (size - n) (drop (8 + n) b)) rest-of)
+      ∙ ap (take (size - n)) (drop-at (take 8 b) (take (size - n) (drop (8 + n) b) ++ rest-of) 8 (length-take-le 8 b (omega arith)))
+      ∙ take-at (take (size - n) (drop (8 + n) b)) rest-of (size - n) left-long ∙ left-is
+
+  pub front-taken : {b₂ : List ℕ} → b₂ ≡ renewed (bodyIn (size - n) b₁) b₁ → b₂ ≡ withoutFront n size b
+  front-taken e₂ =
+      e₂ ∙ ap (λ (l : List ℕ). renewed l b₁) kept ∙ renewed-as (drop n (bodyIn size b)) b₁ b shifted-long
+      ∙ sym (rw (le-leb size 32768 few, le-leb n size within, le-leb (8 + size) (length b) fits))
+
+module _ (b : List ℕ) (n size : ℕ) where
+  pub front-many : 32768 < size → withoutFront n size b ≡ b
+  front-many h = rw (lt-leb size 32768 h)
+
+  pub front-past : size < n → withoutFront n size b ≡ b
+  front-past h = rw (lt-leb n size h, and-right-fails (leb size 32768) refl)
+
+  pub front-cut : length b < 8 + size → withoutFront n size b ≡ b
+  front-cut h = rw (lt-leb (8 + size) (length b) h, and-right-fails (leb n size) refl, and-right-fails (leb size 32768) refl)

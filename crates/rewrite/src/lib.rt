@@ -34,3 +34,18 @@ pub fn put_part(buffer: &mut [u8], size: usize, part: &[u8])
         }
     }
 }
+
+// Takes the first n bytes from a body of so many bytes.
+pub fn take_front(buffer: &mut [u8], n: usize, size: usize)
+    ensures { λ _. ⌜ now (buffer .exit) ≡ withoutFront n size (now (buffer .entry)) ⌝ }
+{
+    if size <= message::MOST_BODY {
+        if n <= size {
+            if FRONT + size <= buffer.len() {
+                let left = size - n;
+                moving::move_within(buffer, FRONT + n, FRONT, left);
+                renew(buffer, left);
+            }
+        }
+    }
+}
