@@ -3,13 +3,14 @@
 use mathlib.Core.Path.{_≡_, _∙_}
 use mathlib.Core.Bool.{true, false}
 use Prim.Native.Nat.{ℕ, _+_}
-use mathlib.Core.List.{List, [], _∷_}
+use mathlib.Core.List.{List, [], _∷_, _++_, append-nil}
 use borrow.Author.Tests.{eq-eqb, ne-eqb}
-use lib.ListN.{length, getD}
-use Rattle.octets.specs.Number.{number}
+use lib.ListN.{length, getD, replicate}
+use Rattle.octets.specs.Number.{number, rowBytes}
+use Rattle.octets.specs.Laid.{laidIfRoom}
 use Rattle.octets.proofs.Numbers.{number-at}
 use Rattle.message.specs.declared.Header.{Header}
-use Rattle.message.specs.Header.{isKnown, headerIn, isHeader}
+use Rattle.message.specs.Header.{isKnown, headerBytes, headerIn, isHeader}
 use Rattle.header.specs.declared.Head.the-variants.{Wrong, Fields}
 use Rattle.header.specs.Head.{headAs}
 
@@ -48,3 +49,10 @@ module _ (p : List ℕ) where
         pub head-known : isKnown (headerIn p) ≡ true → Fields (headerIn p) ≡ headAs p
         unfolding isHeader
         head-known e = rw (eq-eqb (length p) 20 long, eq-eqb (getD p 0 0) 142 magic, eq-eqb (getD p 1 0) 1 version, e)
+
+-- ---- a header written
+
+-- four bytes, and four numbers laid behind them
+pub header-held : (h : Header) {last : List ℕ} → last ≡ laidIfRoom (rowBytes (h .userid ∷ h .rolemask ∷ h .first ∷ h .second ∷ [])) (replicate 16 0) → 142 ∷ 1 ∷ h .kind ∷ h .flags ∷ (last ++ []) ≡ headerBytes h
+unfolding headerBytes
+header-held h e = rw (e, append-nil)

@@ -1,9 +1,11 @@
-// The header, which is a body's last part.
+// The header, which is a body's last part: read, and written.
 use message::Header;
 ghost use mathlib.Core.Path.{_≡_};
 ghost use Prim.Native.Nat.{_≤_};
 ghost use lib.ListN.{length};
-ghost use Rattle.message.specs.Header.{headerIn};
+ghost use Rattle.octets.specs.Laid.{laidIfRoom, laidCount};
+ghost use Rattle.message.specs.Header.{headerBytes, headerIn};
+ghost use Rattle.message.specs.Frame.{partBytes};
 ghost use Rattle.header.specs.Head.{headAs};
 
 pub enum Head {
@@ -45,4 +47,25 @@ pub fn read_header(p: &[u8]) -> Head
     } else {
         Head::Wrong
     }
+}
+
+// Writes a header's part to the front of out, if there is room for it, and tells how many bytes it has, or 0. The header lies in no slice: its
+// twenty bytes, of which the last sixteen are four numbers, stand in an array first.
+pub fn write_header(out: &mut [u8], header: Header) -> usize
+    ensures { λ r. ⌜ r ≡ laidCount (partBytes (headerBytes header)) (now (out .entry)) ⌝ }
+    ensures { λ _. ⌜ now (out .exit) ≡ laidIfRoom (partBytes (headerBytes header)) (now (out .entry)) ⌝ }
+{
+    let mut held = [0u8; message::HEADER];
+    held[0] = message::MAGIC;
+    held[1] = message::VERSION;
+    held[2] = header.kind;
+    held[3] = header.flags;
+    let numbers = [
+        header.userid as usize,
+        header.rolemask as usize,
+        header.first as usize,
+        header.second as usize,
+    ];
+    octets::put_row(&mut held[4..], &numbers);
+    parts::write::write_part(out, &held)
 }

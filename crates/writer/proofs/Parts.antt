@@ -34,8 +34,3 @@ pub held-front : (xs : List ℕ) {lent held : List ℕ} {n : ℕ} → Lays xs le
 held-front xs {lent} l =
     let all : length xs - 0 ≡ length xs = omega arith in
     rw (l .told, l .bytes, all) (take-at xs (drop (length xs) lent) (length xs) refl)
-
--- four bytes, and four numbers laid behind them
-pub header-held : (h : Header) {last : List ℕ} → last ≡ laidIfRoom (rowBytes (h .userid ∷ h .rolemask ∷ h .first ∷ h .second ∷ [])) (replicate 16 0) → 142 ∷ 1 ∷ h .kind ∷ h .flags ∷ (last ++ []) ≡ headerBytes h
-unfolding headerBytes
-header-held h e = rw (e, append-nil)

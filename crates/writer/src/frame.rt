@@ -21,7 +21,7 @@ fn write_body(out: &mut [u8], header: Header, routes: &[u8], topic: &[u8], paylo
         + part::write_topic(&mut out[topic_at..], message::has_topic(flags), topic);
     let header_at = payload_at
         + part::write_payload(&mut out[payload_at..], message::has_payload(flags), payload);
-    header_at + part::write_header(&mut out[header_at..], header)
+    header_at + header::write_header(&mut out[header_at..], header)
 }
 
 // The frame of n bytes: FF EE 00 12 and the body's length as two numbers, and the body.

@@ -4,11 +4,9 @@ ghost use mathlib.Core.Path.{_≡_};
 ghost use mathlib.Core.List.{_∷_, [], _++_};
 ghost use Prim.Native.Nat.{_<_, _≤_, _%_};
 ghost use lib.ListN.{length};
-ghost use Rattle.message.specs.Header.{headerBytes};
-ghost use Rattle.message.specs.Frame.{partBytes, joined, partIf, groupIf};
+ghost use Rattle.message.specs.Frame.{joined, partIf, groupIf};
 ghost use Rattle.message.specs.Writing.{cut};
 ghost use Rattle.octets.specs.Lays.{Lays};
-use message::Header;
 use parts::write::write_part;
 
 // The most bytes that a topic has, with its zero byte.
@@ -75,24 +73,4 @@ pub(crate) fn write_payload(out: &mut [u8], given: bool, payload: &[u8]) -> usiz
     ensures { λ r. ⌜ Lays (joined (partIf given (now (payload .entry)))) (now (out .entry)) (now (out .exit)) r ⌝ }
 {
     if given { write_part(out, payload) } else { 0 }
-}
-
-// The header, which lies in no slice: its twenty bytes, of which the last sixteen are four numbers, stand in an array first.
-pub(crate) fn write_header(out: &mut [u8], header: Header) -> usize
-    requires { ⌜ length (partBytes (headerBytes header)) ≤ length (now out) ⌝ }
-    ensures { λ r. ⌜ Lays (partBytes (headerBytes header)) (now (out .entry)) (now (out .exit)) r ⌝ }
-{
-    let mut held = [0u8; message::HEADER];
-    held[0] = message::MAGIC;
-    held[1] = message::VERSION;
-    held[2] = header.kind;
-    held[3] = header.flags;
-    let numbers = [
-        header.userid as usize,
-        header.rolemask as usize,
-        header.first as usize,
-        header.second as usize,
-    ];
-    octets::put_row(&mut held[4..], &numbers);
-    write_part(out, &held)
 }

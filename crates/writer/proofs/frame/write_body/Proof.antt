@@ -1,5 +1,6 @@
 -- `writer::frame::write_body` meets its contract: each part is laid behind those before it, and what the whole body has room for has room for each.
 -- Assumes nothing.
+use borrow.Author.Needs.{needs}
 use native.Mathlib.Omega.{arith}
 use native.Mathlib.Nat.{le-refl}
 use mathlib.Core.Path.{refl}
@@ -11,7 +12,7 @@ use Rattle.message.specs.Header.{headerBytes}
 use Rattle.message.specs.Frame.{partBytes, joined, partIf, groupIf}
 use Rattle.message.specs.Writing.{cut}
 use Rattle.octets.specs.Lays.{Lays}
-use Rattle.octets.proofs.Laying.{lays-more, lays-length, lays-rest, lays-within}
+use Rattle.octets.proofs.Laying.{lays-more, lays-length, lays-rest, lays-within, lays-counted}
 use Rattle.draft.proofs.Bodies.{body-parts}
 use Rattle.writer.proofs.Bodies.{Room, group-fits, topic-fits, payload-fits, header-fits}
 use Rattle.writer.proofs.frame.write_body.Statement.{statement}
@@ -135,15 +136,15 @@ part-write-header-end : tie.Need-part-write-header-end
 part-write-header-end c = le-refl _
 
 write-header-requires : tie.Need-write-header-requires
-write-header-requires c κs = let d = c .before .before .before in
-    let b = begun (d .before) in
-    lays-rest (payload-laid d) (partBytes (headerBytes (start b .args .header)))
-    (header-fits (room (start b)) (b .has-route .ensures) (titled (d .before) .before .has-topic .ensures) (d .before .has-payload .ensures))
+write-header-requires c κs = search needs
 
 returns : tie.Need-returns
 returns c = let d = c .before .before .before .before .before .before in
     let b = begun (d .before) in
-    rw (body-parts _ _ _ _ (b .has-route .ensures) (titled (d .before) .before .has-topic .ensures) (d .before .has-payload .ensures)) (lays-more (payload-laid d) (c .before .before .write-header .ensures))
+    let part = partBytes (headerBytes (start b .args .header)) in
+    let fits = lays-rest (payload-laid d) part (header-fits (room (start b)) (b .has-route .ensures) (titled (d .before) .before .has-topic .ensures) (d .before .has-payload .ensures)) in
+    let header = lays-counted fits (c .before .before .write-header .ensures .0) (c .before .before .write-header .ensures .1) in
+    rw (body-parts _ _ _ _ (b .has-route .ensures) (titled (d .before) .before .has-topic .ensures) (d .before .has-payload .ensures)) (lays-more (payload-laid d) header)
 
 same-length : tie.Need-same-length
 same-length c = lays-length (returns c) (start (begun (c .before .before .before .before .before .before .before)) .pre .1)

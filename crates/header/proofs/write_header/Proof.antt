@@ -1,15 +1,17 @@
--- `writer::part::write_header` meets its contract.
+-- `header::write_header` meets its contract.
 -- Assumes nothing.
 use native.Mathlib.Omega.{arith}
-use mathlib.Core.Path.{_≡_, ap}
-use mathlib.Core.List.{[], _∷_, _++_, append-nil}
+use mathlib.Core.Path.{_≡_, ap, _∙_}
+use Prim.Native.Nat.{ℕ}
+use mathlib.Core.List.{List, [], _∷_, _++_, append-nil}
 use lib.ListN.{length}
 use Rattle.message.specs.Header.{headerBytes}
-use Rattle.parts.proofs.Writing.{part-laid}
-use Rattle.writer.proofs.Parts.{header-held}
+use Rattle.octets.specs.Laid.{laidIfRoom, laidCount}
+use Rattle.message.specs.Frame.{partBytes}
+use Rattle.header.proofs.Heads.{header-held}
 use borrow.Author.Needs.{needs}
-use Rattle.writer.proofs.part.write_header.Statement.{statement}
-use Rattle.writer.proofs.part.write_header.Tie as tie
+use Rattle.header.proofs.write_header.Statement.{statement}
+use Rattle.header.proofs.write_header.Tie as tie
 
 -- four bytes are stored, and four numbers laid behind them
 module _ (c : tie.After-put-row) where
@@ -69,7 +71,9 @@ same-length c = search needs
 
 returns : tie.Need-returns
 returns c = let d = c .before .before .before .before .before .before in
-    part-laid (held d) (start d .pre) (c .before .before .write-part .ensures)
+    let out = start d .args .out .now in
+    let laid = c .before .before .write-part .ensures in
+    (laid .0 ∙ ap (λ (xs : List ℕ). laidCount (partBytes xs) out) (held d), laid .1 ∙ ap (λ (xs : List ℕ). laidIfRoom (partBytes xs) out) (held d))
 
 pub write-header-spec : {M : Type 1} → statement M
 write-header-spec =
