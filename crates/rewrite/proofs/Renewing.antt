@@ -16,11 +16,13 @@ use Rattle.octets.specs.Laid.{laid, laidIfRoom}
 use Rattle.octets.proofs.Buffers.{laid-room, length-laid}
 use Rattle.octets.specs.Lays.{Lays}
 use Rattle.octets.proofs.Laying.{lays-leaf, lays-length}
+use Rattle.message.specs.declared.Header.{Header}
+use Rattle.message.specs.Header.{headerBytes}
 use Rattle.message.specs.Frame.{frameStart, partBytes, framed}
 use Rattle.message.proofs.Parts.{part-short}
 use Rattle.moving.specs.Moved.{zeros, movedIfRoom}
 use Rattle.moving.proofs.Moving.{moved-room}
-use Rattle.rewrite.specs.Renewed.{bodyIn, renewed, withPart, withoutFront}
+use Rattle.rewrite.specs.Renewed.{bodyIn, renewed, withPart, withoutFront, withHeader}
 
 module _ (b : List ℕ) (size : ℕ) (fits : 8 + size ≤ length b) where
   abbrev front : List ℕ
@@ -163,3 +165,42 @@ module _ (b : List ℕ) (n size : ℕ) where
 
   pub front-cut : length b < 8 + size → withoutFront n size b ≡ b
   front-cut h = rw (lt-leb (8 + size) (length b) h, and-right-fails (leb n size) refl, and-right-fails (leb size 32768) refl)
+
+-- ---- a header behind the front of the body
+
+module _ (b : List ℕ) (h : Header) (size : ℕ) (few : size ≤ 32768) (fits : 8 + (size + 21) ≤ length b) {last : List ℕ} (e₁ : last ≡ laidIfRoom (partBytes (headerBytes h)) (midOf (8 + size) (length b - (8 + size)) b)) where
+  abbrev headed : List ℕ
+  headed = putMid (8 + size) (length b - (8 + size)) b last
+
+  header-long : length (partBytes (headerBytes h)) ≡ 21
+  unfolding headerBytes
+  header-long = refl
+
+  front-lays : Lays (take (8 + size) b ++ partBytes (headerBytes h)) b headed (8 + size + length (partBytes (headerBytes h)))
+  front-lays = lays-leaf (lays-front (8 + size) b (omega arith)) (partBytes (headerBytes h)) (omega (arith, length-append (take (8 + size) b) (partBytes (headerBytes h)), header-long, length-take-le (8 + size) b (omega arith))) e₁
+
+  headed-long : length headed ≡ length b
+  headed-long = lays-length front-lays (omega (arith, length-append (take (8 + size) b) (partBytes (headerBytes h)), header-long, length-take-le (8 + size) b (omega arith)))
+
+  headed-body : bodyIn (size + 21) headed ≡ bodyIn size b ++ partBytes (headerBytes h)
+  headed-body =
+      let part = partBytes (headerBytes h) in
+      let body = bodyIn size b in
+      let rest = drop (length (take (8 + size) b ++ part)) b in
+      let long : length (body ++ part) ≡ size + 21 = omega (arith, length-append body part, header-long, body-long b size (omega arith)) in
+      let whole : headed ≡ take 8 b ++ ((body ++ part) ++ rest) = front-lays .bytes ∙ ap (λ (l : List ℕ). (l ++ part) ++ rest) (take-add 8 size b) ∙ simp append-assoc in
+      ap (λ (l : List ℕ). take (size + 21) (drop 8 l)) whole
+      ∙ ap (take (size + 21)) (drop-at (take 8 b) ((body ++ part) ++ rest) 8 (length-take-le 8 b (omega arith)))
+      ∙ take-at (body ++ part) rest (size + 21) long
+
+  pub header-put : {b₂ : List ℕ} → b₂ ≡ renewed (bodyIn (size + 21) headed) headed → b₂ ≡ withHeader h size b
+  header-put e₂ =
+      e₂ ∙ ap (λ (l : List ℕ). renewed l headed) headed-body ∙ renewed-as (bodyIn size b ++ partBytes (headerBytes h)) headed b headed-long
+      ∙ sym (rw (le-leb size 32768 few, le-leb (8 + (size + 21)) (length b) fits))
+
+module _ (b : List ℕ) (h : Header) (size : ℕ) where
+  pub header-many : 32768 < size → withHeader h size b ≡ b
+  header-many l = rw (lt-leb size 32768 l)
+
+  pub header-tight : length b < 8 + (size + 21) → withHeader h size b ≡ b
+  header-tight l = rw (lt-leb (8 + (size + 21)) (length b) l, and-right-fails (leb size 32768) refl)

@@ -33,4 +33,4 @@ withoutFront n size buffer =
 
 -- the first so many bytes of the body, and a header behind them
 abbrev pub withHeader : Header → ℕ → List ℕ → List ℕ
-withHeader h size buffer = cond (leb (8 + size + 21) (length buffer)) (renewed (bodyIn size buffer ++ partBytes (headerBytes h)) buffer) buffer
+withHeader h size buffer = cond (leb size mostBody && leb (8 + (size + 21)) (length buffer)) (renewed (bodyIn size buffer ++ partBytes (headerBytes h)) buffer) buffer

@@ -49,3 +49,17 @@ pub fn take_front(buffer: &mut [u8], n: usize, size: usize)
         }
     }
 }
+
+// Puts a header behind the first so many bytes of a body, if there is room for it.
+pub fn put_header(buffer: &mut [u8], size: usize, header: Header)
+    ensures { λ _. ⌜ now (buffer .exit) ≡ withHeader header size (now (buffer .entry)) ⌝ }
+{
+    if size <= message::MOST_BODY {
+        let headed = size + message::HEADER_PART;
+        if FRONT + headed <= buffer.len() {
+            let at = FRONT + size;
+            header::write_header(&mut buffer[at..], header);
+            renew(buffer, headed);
+        }
+    }
+}
