@@ -3,32 +3,48 @@ use mathlib.Core.Path.{_≡_, refl, sym, ap, _∙_, subst}
 use mathlib.Core.Bool.{Bool, true, false, not}
 use mathlib.Core.List.{List}
 use mathlib.Core.Logic.{⊎-elim}
-use Prim.Native.Nat.{ℕ, zero, suc, _+_, _*_, _%_, _-_, _<_, _≤_}
+use Prim.Native.Nat.{ℕ, zero, suc, _+_, _*_, _/_, _%_, _-_, _<_, _≤_}
 use native.Mathlib.Nat.{le-of-suc-le-suc, not-suc-le-zero, eq-or-lt-of-le}
 use native.Mathlib.Numerals.{add-one}
 use native.Mathlib.Omega.{arith}
 use borrow.Author.Count.{below-more}
-use borrow.Author.Tests.{eqb-true, eqb-false, eq-eqb, ne-eqb, ltb-true, ltb-false}
+use borrow.Author.Tests.{eqb-true, eqb-false, eq-eqb, ne-eqb, lt-ltb, le-ltb, ltb-true, ltb-false}
 use lib.Dec.{eqb, ltb}
-use lib.ListN.{length, getD, drop, set, length-set}
-use lib.Seq.{drop-cons, drop-length, getD-set-same, getD-set-other}
+use lib.ListN.{length, getD, set, length-set}
+use lib.Seq.{getD-set-same, getD-set-other}
 use Rattle.records.specs.Bytes.{sameBytes}
 use Rattle.records.specs.Records.{recordAt}
-use Rattle.records.specs.Chains.{hashFrom, hashOf, hashAt, lastBelow, Linked, fresh}
+use Rattle.records.specs.Chains.{lightFirst, stirred, blocks, mixOf, hashOf, hashAt, lastBelow, Linked, fresh}
 use Rattle.records.proofs.Bytes.{same-equal}
 use Rattle.records.specs.Below.{allBelow, noneTwice}
 use Rattle.octets.proofs.Truth.{outcome, and-both as both}
 use Rattle.records.proofs.Below.{all-none, all-more, all-of, all-fails}
 
--- a turn of the hash
-pub hash-more : (h i : ℕ) (xs : List ℕ) → i < length xs → hashFrom h (drop i xs) ≡ hashFrom ((h * 31 + getD xs i 0) % 1024) (drop (i + 1) xs)
-unfolding hashFrom
-hash-more h i xs l = rw (add-one, drop-cons xs i 0 l) refl
+-- ---- the hash by its steps, in the code's order
 
--- all bytes are passed
-pub hash-done : (h : ℕ) (xs : List ℕ) → h ≡ hashFrom h (drop (length xs) xs)
-unfolding hashFrom
-hash-done h xs = rw (drop-length xs) refl
+pub stirred-is : (h a b : ℕ) (xs : List ℕ) (at : ℕ) → a ≡ lightFirst (getD xs at 0) (getD xs (at + 1) 0) (getD xs (at + 2) 0) (getD xs (at + 3) 0) → b ≡ lightFirst (getD xs (at + 4) 0) (getD xs (at + 5) 0) (getD xs (at + 6) 0) (getD xs (at + 7) 0) → (h * 2135587861 + a * 1540483477 + b) % 4294967296 ≡ stirred h xs at
+unfolding stirred
+stirred-is h a b xs at p q = rw (p, q) refl
+
+pub blocks-none : (xs : List ℕ) → blocks xs 0 ≡ 0
+unfolding blocks
+blocks-none xs = refl
+
+pub blocks-more : (xs : List ℕ) (k : ℕ) → blocks xs (k + 1) ≡ stirred (blocks xs k) xs (k * 8)
+unfolding blocks
+blocks-more xs k = rw add-one refl
+
+pub mix-short : (xs : List ℕ) → length xs < 8 → mixOf xs ≡ 0
+unfolding mixOf
+mix-short xs h = rw (lt-ltb (length xs) 8 h) refl
+
+pub mix-whole : (xs : List ℕ) → 8 ≤ length xs → mixOf xs ≡ stirred (blocks xs (length xs / 8)) xs (length xs - 8)
+unfolding mixOf
+mix-whole xs h = rw (le-ltb (length xs) 8 h) refl
+
+pub hash-is : (xs : List ℕ) → hashOf xs ≡ mixOf xs * 1540483477 % 4294967296 / 1048576
+unfolding hashOf
+hash-is xs = refl
 
 module _ (hash : ℕ → ℕ) where
   pub last-none : (h : ℕ) → lastBelow hash 0 h ≡ 0
@@ -148,29 +164,29 @@ module _ (width : ℕ) (table : List ℕ) (i : ℕ) where
 
 -- What stands in the two arrays once the records below i are in their chains, none of which is there twice.
 pub record Chained (width : ℕ) (table head next : List ℕ) (i : ℕ) : Type 0 where
-  pub heads : length head ≡ 1024
+  pub heads : length head ≡ 4096
   pub nexts : length next ≡ 1024
-  pub ends : (h : ℕ) → h < 1024 → getD head h 0 ≡ lastBelow (hashAt width table) i h
+  pub ends : (h : ℕ) → h < 4096 → getD head h 0 ≡ lastBelow (hashAt width table) i h
   pub linked : Linked (hashAt width table) next i
   pub none : noneTwice (λ i j. sameBytes (recordAt width table i) (recordAt width table j)) i ≡ true
 
 module _ (width : ℕ) (table : List ℕ) where
-  pub chained-start : (zeros : List ℕ) → length zeros ≡ 1024 → ((h : ℕ) → h < 1024 → getD zeros h 0 ≡ 0) → Chained width table zeros zeros 0
+  pub chained-start : (head next : List ℕ) → length head ≡ 4096 → length next ≡ 1024 → ((h : ℕ) → h < 4096 → getD head h 0 ≡ 0) → Chained width table head next 0
   unfolding noneTwice
-  chained-start zeros e z =
+  chained-start head next e f z =
       record {
         heads = e;
-        nexts = e;
+        nexts = f;
         ends = λ h l. z h l ∙ sym (last-none (hashAt width table) h);
         linked = λ j l. absurd (not-suc-le-zero l);
         none = all-none (fresh width table);
       }
 
   module _ (head next : List ℕ) (i h : ℕ) (s : Chained width table head next i) where
-    pub start-is : h ≡ hashAt width table i → h < 1024 → getD head h 0 ≡ lastBelow (hashAt width table) i (hashAt width table i)
+    pub start-is : h ≡ hashAt width table i → h < 4096 → getD head h 0 ≡ lastBelow (hashAt width table) i (hashAt width table i)
     start-is e l = s .ends h l ∙ rw e refl
 
-    pub chained-more : i < 1024 → h ≡ hashAt width table i → h < 1024 → fresh width table i ≡ true → Chained width table (set head h (i + 1)) (set next i (getD head h 0)) (i + 1)
+    pub chained-more : i < 1024 → h ≡ hashAt width table i → h < 4096 → fresh width table i ≡ true → Chained width table (set head h (i + 1)) (set next i (getD head h 0)) (i + 1)
     unfolding noneTwice
     chained-more li e lh f =
         record {

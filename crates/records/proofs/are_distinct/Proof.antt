@@ -11,7 +11,8 @@ use Prim.Native.Nat.{_≤_, _-_}
 use mathlib.Core.Path.{sym, _∙_}
 use native.Mathlib.Omega.{arith}
 use Rattle.records.proofs.Records.{record-fits, distinct-many, distinct-short, distinct-twice, distinct-all}
-use Rattle.records.proofs.Chains.{Chained, chained-start, chained-more, start-is}
+use Rattle.records.specs.Chains.{hashAt}
+use Rattle.records.proofs.Chains.{last-le, Chained, chained-start, chained-more, start-is}
 use Rattle.records.proofs.are_distinct.Statement.{statement}
 use Rattle.records.proofs.are_distinct.Tie as tie
 
@@ -39,7 +40,7 @@ returns-2 c =
 loop-holds : tie.Need-loop-holds Inv-loop μ-loop
 loop-holds c =
     let args = c .before .before .before .args in
-    (omega arith, chained-start (args .width) (args .table .now) (replicate 1024 0) (length-replicate {A = ℕ} 1024 0) (λ h l. getD-replicate {A = ℕ} 1024 h 0 0 l))
+    (omega arith, chained-start (args .width) (args .table .now) (replicate 4096 0) (replicate 1024 0) (length-replicate {A = ℕ} 4096 0) (length-replicate {A = ℕ} 1024 0) (λ h l. getD-replicate {A = ℕ} 4096 h 0 0 l))
 
 record-requires : tie.Need-record-requires Inv-loop μ-loop
 record-requires c κs =
@@ -55,6 +56,17 @@ mul-start c = omega (arith, c .hash .ensures .1)
 array-read-start : tie.Need-array-read-start Inv-loop μ-loop
 array-read-start c = c .hash .ensures .1
 
+cast-is-fresh : tie.Need-cast-is-fresh Inv-loop μ-loop
+cast-is-fresh c =
+    let at-loop = c .before .before .before .before in
+    let args = at-loop .before .before .before .before .args in
+    omega (
+      arith,
+      at-loop .before .before .if1 .left,
+      at-loop .loop .inv .1 .ends (c .before .hash .result) (c .before .hash .ensures .1),
+      last-le (hashAt (args .width) (args .table .now)) (at-loop .loop .i) (c .before .hash .result),
+    )
+
 is-fresh-requires : tie.Need-is-fresh-requires Inv-loop μ-loop
 is-fresh-requires c κs =
     let at-loop = c .before .before .before .before in
@@ -62,7 +74,7 @@ is-fresh-requires c κs =
       omega (arith, at-loop .before .before .if1 .left),
       record-fits (args .width) (args .n) (at-loop .loop .i) (args .table .now) (c .before .before .before .loop-test .taken) (at-loop .before .if2 .left),
       at-loop .loop .inv .1 .linked,
-      start-is (args .width) (args .table .now) (at-loop .loop .head) (at-loop .loop .next) (at-loop .loop .i) (c .before .hash .result) (at-loop .loop .inv .1) (rw (← c .before .before .record .ensures) (c .before .hash .ensures .0)) (c .before .hash .ensures .1),
+      omega (arith, start-is (args .width) (args .table .now) (at-loop .loop .head) (at-loop .loop .next) (at-loop .loop .i) (c .before .hash .result) (at-loop .loop .inv .1) (rw (← c .before .before .record .ensures) (c .before .hash .ensures .0)) (c .before .hash .ensures .1)),
     )
 
 returns-3 : tie.Need-returns-3 Inv-loop μ-loop
@@ -80,6 +92,9 @@ array-write-next c = omega (arith, c .before .before .before .before .before .be
 
 add-head : tie.Need-add-head Inv-loop μ-loop
 add-head c = omega (arith, c .before .before .before .before .before .before .before .before .if1 .left)
+
+cast-head : tie.Need-cast-head Inv-loop μ-loop
+cast-head c = omega (arith, c .before .before .before .before .before .before .before .before .if1 .left)
 
 mul-head : tie.Need-mul-head Inv-loop μ-loop
 mul-head c = omega (arith, c .before .before .before .hash .ensures .1)
@@ -126,11 +141,13 @@ are-distinct-spec =
     hash-requires
     mul-start
     array-read-start
+    cast-is-fresh
     is-fresh-requires
     returns-3
     mul-next
     array-write-next
     add-head
+    cast-head
     mul-head
     array-write-head
     add-i

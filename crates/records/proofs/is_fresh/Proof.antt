@@ -47,6 +47,12 @@ mul-at c = omega arith
 element-copy-out-at : tie.Need-element-copy-out-at Inv-loop μ-loop
 element-copy-out-at c = omega (arith, c .before .before .before .before .before .loop .inv .within, c .before .before .before .before .before .before .before .pre .0)
 
+cast-at : tie.Need-cast-at Inv-loop μ-loop
+cast-at c =
+    let at-loop = c .before .before .before .before .before .before in
+    let args = at-loop .before .before .args in
+    omega (arith, next-less (args .width) (args .table .now) (args .i) (at-loop .loop .at) (at-loop .loop .inv) (λ e. omega arith) (args .next .now) (at-loop .before .before .pre .2), at-loop .loop .inv .within, at-loop .before .before .pre .0)
+
 loop-less : tie.Need-loop-less Inv-loop μ-loop
 loop-less c =
     let at-loop = c .before .before .before .before .before .before in
@@ -79,6 +85,7 @@ is-fresh-spec =
     returns
     mul-at
     element-copy-out-at
+    cast-at
     loop-less
     loop-again
     returns-2)
