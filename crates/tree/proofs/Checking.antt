@@ -6,38 +6,22 @@ use mathlib.Core.Logic.{⊎-elim}
 use Prim.Native.Nat.{ℕ, zero, suc, _+_, _<_, _≤_}
 use native.Mathlib.Omega.{arith}
 use native.Mathlib.Nat.{le-of-suc-le-suc, eq-or-lt-of-le}
-use native.Mathlib.Numerals.{add-one}
 use borrow.Author.Tests.{lt-ltb, le-ltb}
-use lib.ListN.{length, getD, drop, set, length-append, List·getD-append}
-use lib.Seq.{drop-cons, set-at, append-snoc, getD-at}
-use Rattle.octets.specs.Laid.{laid}
+use lib.ListN.{length, getD, take, length-append, List·getD-append}
+use lib.Seq.{getD-at, getD-take, length-take-le, ext-getD}
 use Rattle.message.specs.declared.Refusal.the-variants.{WrongTree, ShortOutput}
 use Rattle.message.specs.Answer.{refused, answered}
 use Rattle.tree.specs.Tree.{ranksIn}
 use Rattle.tree.specs.Depths.{Depths, Accepted, depthOf, treeGood, depthsBelow, depthsOf}
 use Rattle.tree.proofs.Depths.{accepted-of, good-of, depths-are}
 use Rattle.tree.specs.Checking.{depthsInto}
+use Rattle.tree.specs.Working.{Shallow}
 
 module _ (tree : List ℕ) where
   pub length-depths : (n : ℕ) → length (depthsBelow tree n) ≡ n
   unfolding depthsBelow
   length-depths zero = refl
   length-depths (suc n) = rw (length-append, length-depths n) (omega arith)
-
-  -- no depth is written yet
-  pub depths-none : (out : List ℕ) → out ≡ depthsBelow tree 0 ++ drop 0 out
-  unfolding depthsBelow
-  depths-none out = refl
-
-  -- one depth more is written
-  pub depths-more : (n d : ℕ) (out : List ℕ) → n < length out → {now : List ℕ} → now ≡ depthsBelow tree n ++ drop n out → d ≡ depthOf tree n → set now n d ≡ depthsBelow tree (n + 1) ++ drop (n + 1) out
-  unfolding depthsBelow
-  depths-more n d out h e is =
-      rw (e, is, add-one, drop-cons out n 0 h, set-at (depthsBelow tree n) (getD out n 0) (drop (suc n) out) (depthOf tree n) n (length-depths n), append-snoc) refl
-
-  -- all are written
-  pub depths-all : (n : ℕ) (out : List ℕ) → n ≡ ranksIn tree → depthsBelow tree n ++ drop n out ≡ laid (depthsOf tree) out
-  depths-all n out e = rw (e, length-depths (ranksIn tree)) refl
 
   -- ---- the check by its cases
 
@@ -62,6 +46,15 @@ module _ (tree : List ℕ) where
       (λ e. rw e (getD-at (depthsBelow tree n) (depthOf tree n) [] 0 n (length-depths n)))
       (λ l. List·getD-append (depthsBelow tree n) (depthOf tree n ∷ []) 0 r (omega (arith, length-depths n)) ∙ depths-at n r l)
       (eq-or-lt-of-le (le-of-suc-le-suc h))
+
+  -- the depths that were found are the tree's
+  pub depths-found : (found : List ℕ) → ranksIn tree ≤ length found → Shallow tree found (ranksIn tree) → take (ranksIn tree) found ≡ depthsOf tree
+  depths-found found h s =
+      let long : length (take (ranksIn tree) found) ≡ ranksIn tree = length-take-le (ranksIn tree) found h in
+      ext-getD 0 (take (ranksIn tree) found) (depthsOf tree) (long ∙ sym (length-depths (ranksIn tree)))
+      (λ i l.
+      let within : i < ranksIn tree = omega arith in
+      getD-take (ranksIn tree) found i 0 within ∙ s .right i within ∙ sym (depths-at (ranksIn tree) i within))
 
 -- What the paper says of the tree check: the test holds exactly if depths can be given as its sentence has it, there is one way to give them, and the
 -- bytes written are those depths, one a rank.

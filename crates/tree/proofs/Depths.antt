@@ -12,11 +12,11 @@ use lib.Dec.{eqb, leb, ltb}
 use lib.ListN.{length, getD, set}
 use lib.Seq.{getD-set-same, getD-set-other}
 use Rattle.records.specs.Below.{allBelow}
-use Rattle.octets.proofs.Truth.{outcome, and-left as left, and-right as right, and-both as both, and-left-fails as left-fails, and-right-fails as right-fails}
+use Rattle.octets.proofs.Truth.{outcome, true-false, and-left as left, and-right as right, and-both as both, and-left-fails as left-fails, and-right-fails as right-fails}
 use Rattle.records.proofs.Below.{all-at, all-of, all-fails}
 use Rattle.tree.specs.Tree.{noRank, ranksIn, wholeTree, parentOf}
 use Rattle.tree.specs.Depths.{Depths, Accepted, climbs, depthOf, treeGood}
-use Rattle.tree.specs.Working.{Shallow}
+use Rattle.tree.specs.Working.{Shallow, Finds}
 use Rattle.tree.proofs.Tree.{parent-outside, whole-some, whole-few}
 
 module _ (tree : List ℕ) where
@@ -198,7 +198,15 @@ module _ (tree : List ℕ) where
         most = below-more (λ k. depthOf tree k ≤ 16) r (s .most) (omega arith);
       }
 
+  -- ---- the search for the depths, by its ways out
+
+  pub finds-none : (left : List ℕ) → treeGood tree ≡ false → Finds tree left false
+  finds-none left g = record { told = sym g; found = λ e. absurd (true-false (sym e)) }
+
   pub good-all : wholeTree tree ≡ true → parentOf tree 0 ≡ noRank → (depths : List ℕ) (r : ℕ) → r ≡ ranksIn tree → Shallow tree depths r → treeGood tree ≡ true
   unfolding treeGood
   good-all w top depths r e s =
       both w (both (eq-eqb _ _ top) (all-of (λ r. leb (depthOf tree r) 16) (ranksIn tree) (λ k h. le-leb (depthOf tree k) 16 (s .most k (omega arith)))))
+
+  pub finds-all : wholeTree tree ≡ true → parentOf tree 0 ≡ noRank → (left : List ℕ) (r : ℕ) → r ≡ ranksIn tree → Shallow tree left r → Finds tree left true
+  finds-all w top left r e s = record { told = sym (good-all w top left r e s); found = λ t. rw (← e) s }

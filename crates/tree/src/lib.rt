@@ -1,15 +1,13 @@
 // The tree of brokers: the parent and the depth of a rank, and the check of a tree.
 use message::Refusal;
 ghost use mathlib.Core.Path.{_≡_};
-ghost use mathlib.Core.Bool.{true};
 ghost use Prim.Native.Nat.{_+_, _*_, _<_, _≤_};
 ghost use lib.ListN.{length};
 ghost use Rattle.tree.specs.Tree.{ranksIn, wholeTree, parentOf};
-ghost use Rattle.tree.specs.Depths.{depthOf, treeGood, depthsOf};
-ghost use Rattle.tree.specs.Working.{Shallow};
+ghost use Rattle.tree.specs.Depths.{depthOf, treeGood};
+ghost use Rattle.tree.specs.Working.{Shallow, Finds};
 ghost use Rattle.message.specs.Answer.{writtenOver};
 ghost use Rattle.tree.specs.Checking.{told, depthsInto, howMany};
-ghost use Rattle.octets.specs.Laid.{laid};
 
 // Bytes a rank.
 const WIDTH: usize = 4;
@@ -85,9 +83,10 @@ fn depth_after(tree: &[u8], depths: &[u8], rank: u32) -> u8
     }
 }
 
-// Whether the bytes are a tree.
-pub fn is_tree(tree: &[u8]) -> bool
-    ensures { λ r. ⌜ r ≡ treeGood (now (tree .entry)) ⌝ }
+// Whether the bytes are a tree, and then the depths of all its ranks, in an array that has room for as many as a tree can have.
+fn find_depths(tree: &[u8], depths: &mut [u8]) -> bool
+    requires { ⌜ 1024 ≤ length (now depths) ⌝ }
+    ensures { λ r. ⌜ Finds (now (tree .entry)) (now (depths .exit)) r ⌝ }
 {
     if !is_whole(tree) {
         return false;
@@ -96,10 +95,9 @@ pub fn is_tree(tree: &[u8]) -> bool
         return false;
     }
     let n = ranks_in(tree);
-    let mut depths = [0u8; 1024];
     let mut r: u32 = 0;
     while (r as usize) < n {
-        let d = depth_after(tree, &depths[..], r);
+        let d = depth_after(tree, depths, r);
         if d > 16 {
             return false;
         }
@@ -109,31 +107,27 @@ pub fn is_tree(tree: &[u8]) -> bool
     true
 }
 
-// Writes the depths of all ranks to the front of a buffer with room for them.
-fn put_depths(tree: &[u8], depths: &mut [u8])
-    requires { ⌜ (treeGood (now tree) ≡ true) × (ranksIn (now tree) ≤ length (now depths)) × (ranksIn (now tree) ≤ 1024) ⌝ }
-    ensures { λ _. ⌜ now (depths .exit) ≡ laid (depthsOf (now (tree .entry))) (now (depths .entry)) ⌝ }
+// Whether the bytes are a tree.
+pub fn is_tree(tree: &[u8]) -> bool
+    ensures { λ r. ⌜ r ≡ treeGood (now (tree .entry)) ⌝ }
 {
-    let n = ranks_in(tree);
-    let mut rank: u32 = 0;
-    while (rank as usize) < n {
-        let d = depth_after(tree, depths, rank);
-        depths[rank as usize] = d;
-        rank += 1;
-    }
+    let mut depths = [0u8; 1024];
+    find_depths(tree, &mut depths)
 }
 
-// The tree check: 14, then 11, or the depths of all ranks, one byte each, and how many they are.
+// The tree check: 14, then 11, or the depths of all ranks, one byte each, and how many they are. They are found in an array of our own, since a
+// refusal writes nothing, and copied when nothing can be refused any more.
 pub fn check_tree(tree: &[u8], depths: &mut [u8]) -> Checked
     ensures { λ r. ⌜ (told r ≡ howMany (depthsInto (length (now (depths .entry))) (now (tree .entry)))) × (now (depths .exit) ≡ writtenOver (depthsInto (length (now (depths .entry))) (now (tree .entry))) (now (depths .entry))) ⌝ }
 {
-    if !is_tree(tree) {
+    let mut found = [0u8; 1024];
+    if !find_depths(tree, &mut found) {
         return Checked::Refused(Refusal::WrongTree);
     }
     let n = ranks_in(tree);
     if depths.len() < n {
         return Checked::Refused(Refusal::ShortOutput);
     }
-    put_depths(tree, depths);
+    copying::copy(&found[..n], depths);
     Checked::Passed(n)
 }
