@@ -45,12 +45,6 @@ module _ (ranks : ℕ) (row : List ℕ) where
     unfolding serviceGood
     rest-good = rw (lt-ltb _ _ hr, le-leb _ _ h1, le-leb _ _ h2) refl
 
-    pub bad-name : isName (nameIn row) ≡ false → serviceGood ranks row ≡ false
-    bad-name e = rest-good ∙ left-fails (isPadding (paddingIn row)) e
-
-    pub rest-padding : isName (nameIn row) ≡ true → serviceGood ranks row ≡ isPadding (paddingIn row)
-    rest-padding e = rest-good ∙ rw e refl
-
 -- ---- what a record of the form holds
 
 pub record Form (ranks : ℕ) (row : List ℕ) : Type 0 where

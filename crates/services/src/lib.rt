@@ -3,9 +3,13 @@ use message::Refusal;
 use tree::Checked;
 ghost use mathlib.Core.Path.{_≡_};
 ghost use Prim.Native.Nat.{_+_, _*_, _<_, _≤_};
-ghost use lib.ListN.{length};
+ghost use mathlib.Core.Bool.{cond};
+ghost use lib.Dec.{eqb};
+ghost use lib.ListN.{length, getD};
+ghost use Rattle.records.specs.Below.{allBelow};
 ghost use Rattle.tree.specs.Checking.{told};
-ghost use Rattle.services.specs.Services.{serviceWidth, serviceAt, isName, isPadding, serviceGood, servicesGood, checkOf};
+ghost use Rattle.services.specs.Working.{mayStand};
+ghost use Rattle.services.specs.Services.{serviceWidth, serviceAt, serviceGood, servicesGood, checkOf};
 
 // Bytes a record.
 pub const WIDTH: usize = 32;
@@ -23,35 +27,41 @@ fn service_at(services: &[u8], i: usize) -> &[u8]
     &services[at..at + WIDTH]
 }
 
-// Whether bytes are a name: neither a zero nor a period among them.
-fn is_name(name: &[u8]) -> bool
-    ensures { λ r. ⌜ r ≡ isName (now (name .entry)) ⌝ }
+// 1 for a byte that may not stand at its place in a record whose name ends in front of `end`: a zero or a period in the name, and anything but a
+// zero behind it.
+fn stray(x: u8, at: u8, end: u8) -> u8
+    ensures { λ r. ⌜ r ≡ cond (mayStand end at x) 0 1 ⌝ }
 {
-    let mut i = 0;
-    while i < name.len() {
-        if name[i] == 0 {
-            return false;
+    if at < 5 {
+        0
+    } else if at < end {
+        if x == 0 {
+            1
+        } else if x == b'.' {
+            1
+        } else {
+            0
         }
-        if name[i] == b'.' {
-            return false;
-        }
-        i += 1;
+    } else if x != 0 {
+        1
+    } else {
+        0
     }
-    true
 }
 
-// Whether all bytes are zero.
-fn is_padding(s: &[u8]) -> bool
-    ensures { λ r. ⌜ r ≡ isPadding (now (s .entry)) ⌝ }
+// How many bytes of a record may not stand where they do. They are counted and not searched, over all of the record, so that the compiler can look
+// at many at a time, whatever the name's length is.
+fn strays(row: &[u8], end: u8) -> u8
+    requires { ⌜ length (now row) ≡ serviceWidth ⌝ }
+    ensures { λ r. ⌜ eqb r 0 ≡ allBelow serviceWidth (λ at. mayStand end at (getD (now (row .entry)) at 0)) ⌝ }
 {
-    let mut i = 0;
-    while i < s.len() {
-        if s[i] != 0 {
-            return false;
-        }
-        i += 1;
+    let mut n: u8 = 0;
+    let mut at = 0;
+    while at < WIDTH {
+        n += stray(row[at], at as u8, end);
+        at += 1;
     }
-    true
+    n
 }
 
 // Whether a record is of the form, in a tree of so many ranks.
@@ -70,11 +80,7 @@ fn is_service(row: &[u8], ranks: usize) -> bool
     if size > LONGEST {
         return false;
     }
-    let end = NAME + size;
-    if !is_name(&row[NAME..end]) {
-        return false;
-    }
-    is_padding(&row[end..])
+    strays(row, (NAME + size) as u8) == 0
 }
 
 // Whether the bytes are the services of a tree.

@@ -1,14 +1,13 @@
 -- `services::is_service` meets its contract.
 -- Assumes nothing.
-use lib.ListN.{take, length-drop}
-use lib.Seq.{take-all}
-use Rattle.services.specs.Services.{nameLength, paddingIn}
-use Prim.Native.Nat.{_+_, _-_}
-use mathlib.Core.Path.{_≡_, sym, _∙_}
+use Prim.Native.Nat.{ℕ, _+_}
+use mathlib.Core.Path.{sym, ap, _∙_}
 use native.Mathlib.Omega.{arith}
-use borrow.Author.Tests.{not-true, not-false}
-use lib.ListN.{length, drop}
-use Rattle.services.proofs.Services.{bad-rank, bad-empty, bad-long, bad-name, rest-padding}
+use lib.ListN.{getD}
+use Rattle.records.specs.Below.{allBelow}
+use Rattle.services.specs.Working.{mayStand}
+use Rattle.services.proofs.Names.{stands-all}
+use Rattle.services.proofs.Services.{bad-rank, bad-empty, bad-long, rest-good}
 use borrow.Author.Needs.{needs}
 use Rattle.services.proofs.is_service.Statement.{statement}
 use Rattle.services.proofs.is_service.Tie as tie
@@ -55,52 +54,24 @@ returns-3 c =
     let args = c .before .before .before .before .before .before .before .before .before .before .before .args in
     sym (bad-long (args .ranks) (args .row .now) (omega (arith, c .before .before .wide .ensures)))
 
-add-end : tie.Need-add-end
-add-end c = search needs
+add-strays : tie.Need-add-strays
+add-strays c = search needs
 
-sub-is-name : tie.Need-sub-is-name
-sub-is-name c = search needs
+cast-strays : tie.Need-cast-strays
+cast-strays c = search needs
 
-part-is-name-start : tie.Need-part-is-name-start
-part-is-name-start c = search needs
-
-part-is-name-end : tie.Need-part-is-name-end
-part-is-name-end c = search needs
-
-is-name-requires : tie.Need-is-name-requires
-is-name-requires c κs = search needs
+strays-requires : tie.Need-strays-requires
+strays-requires c κs = search needs
 
 returns-4 : tie.Need-returns-4
 returns-4 c =
-    let args = c .before .before .before .before .before .before .before .before .before .before .before .before .before .before .args in
-    let row = args .row .now in
-    let size : 5 + c .before .before .before .before .before .wide .result - 5 ≡ nameLength row = omega (arith, c .before .before .before .before .before .wide .ensures) in
-    sym (bad-name (args .ranks) row (omega (arith, c .before .before .before .before .before .before .before .before .number-of .ensures, c .before .before .before .before .before .before .before .if1 .left)) (omega (arith, c .before .before .before .before .before .wide .ensures, c .before .before .before .before .if2 .left)) (omega (arith, c .before .before .before .before .before .wide .ensures, c .before .before .before .if3 .left))
-    (rw (← size) (sym (c .before .is-name .ensures) ∙ not-true _ (c .if4 .taken))))
-
-sub-is-padding : tie.Need-sub-is-padding
-sub-is-padding c = search needs
-
-part-is-padding-start : tie.Need-part-is-padding-start
-part-is-padding-start c = search needs
-
-part-is-padding-end : tie.Need-part-is-padding-end
-part-is-padding-end c = search needs
-
-is-padding-requires : tie.Need-is-padding-requires
-is-padding-requires c κs = search needs
-
-returns-5 : tie.Need-returns-5
-returns-5 c =
-    let args = c .before .before .before .before .before .before .before .before .before .before .before .before .before .before .before .before .args in
-    let row = args .row .now in
-    let size : 5 + c .before .before .before .before .before .before .before .wide .result - 5 ≡ nameLength row = omega (arith, c .before .before .before .before .before .before .before .wide .ensures) in
-    let rest : take (length row - (5 + c .before .before .before .before .before .before .before .wide .result)) (drop (5 + c .before .before .before .before .before .before .before .wide .result) row) ≡ paddingIn row =
-    rw (c .before .before .before .before .before .before .before .wide .ensures) (take-all (length row - (5 + nameLength row)) (paddingIn row) (simp length-drop (omega arith)))
-    in
-    c .is-padding .ensures ∙ rw rest
-    (sym (rest-padding (args .ranks) row (omega (arith, c .before .before .before .before .before .before .before .before .before .before .number-of .ensures, c .before .before .before .before .before .before .before .before .before .if1 .left)) (omega (arith, c .before .before .before .before .before .before .before .wide .ensures, c .before .before .before .before .before .before .if2 .left)) (omega (arith, c .before .before .before .before .before .before .before .wide .ensures, c .before .before .before .before .before .if3 .left))
-    (rw (← size) (sym (c .before .before .before .is-name .ensures) ∙ not-false _ (c .before .before .if4 .left)))))
+    let start = c .before .before .before .before .before .before .before .before .before .before .before .before in
+    let row = start .args .row .now in
+    let size = c .before .before .before .wide .ensures in
+    c .strays .ensures
+    ∙ ap (λ (n : ℕ). allBelow 32 (λ at. mayStand (5 + n) at (getD row at 0))) size
+    ∙ stands-all row (start .pre) (omega (arith, size, c .before .if3 .left))
+    ∙ sym (rest-good (start .args .ranks) row (omega (arith, c .before .before .before .before .before .before .number-of .ensures, c .before .before .before .before .before .if1 .left)) (omega (arith, size, c .before .before .if2 .left)) (omega (arith, size, c .before .if3 .left)))
 
 pub is-service-spec : {M : Type 1} → statement M
 is-service-spec =
@@ -118,14 +89,7 @@ is-service-spec =
     cast-size
     returns-2
     returns-3
-    add-end
-    sub-is-name
-    part-is-name-start
-    part-is-name-end
-    is-name-requires
-    returns-4
-    sub-is-padding
-    part-is-padding-start
-    part-is-padding-end
-    is-padding-requires
-    returns-5)
+    add-strays
+    cast-strays
+    strays-requires
+    returns-4)
