@@ -44,7 +44,7 @@ pub fn are_identities(tree: &[u8], identities: &[u8]) -> bool
         }
         rank += 1;
     }
-    records::are_distinct(identities, ROUTE as u8, n)
+    distinct::are_distinct(identities, ROUTE as u8, n)
 }
 
 // The identity check: 14, then 16, or how many identities there are.

@@ -1,5 +1,5 @@
 -- Laws on a test of every number below a bound. Assumes nothing.
-use mathlib.Core.Path.{_≡_, refl, sym, ap}
+use mathlib.Core.Path.{_≡_, refl, sym, ap, _∙_}
 use mathlib.Core.Bool.{Bool, true, false, _&&_, not}
 use mathlib.Core.Logic.{⊎-elim}
 use Prim.Native.Nat.{ℕ, zero, suc, _+_, _<_}
@@ -50,6 +50,16 @@ unfolding noneTwice
 none-agree p q n f =
     all-agree (λ i. allBelow i (λ j. not (p i j))) (λ i. allBelow i (λ j. not (q i j))) n
     (λ i hi. all-agree (λ j. not (p i j)) (λ j. not (q i j)) i (λ j hj. ap not (f i j hi hj)))
+
+-- a turn of a loop that looks whether one more is there already
+module _ (same : ℕ → ℕ → Bool) where
+  pub none-none : noneTwice same 0 ≡ true
+  unfolding noneTwice
+  none-none = all-none (λ i. allBelow i (λ j. not (same i j)))
+
+  pub none-more : (i : ℕ) → noneTwice same i ≡ true → allBelow i (λ j. not (same i j)) ≡ true → noneTwice same (i + 1) ≡ true
+  unfolding noneTwice
+  none-more i n f = all-more (λ i. allBelow i (λ j. not (same i j))) i ∙ both n f
 
 -- where none is there twice, what is the same is one and the same
 pub once : (same : ℕ → ℕ → Bool) (n : ℕ) → noneTwice same n ≡ true → (i j : ℕ) → i < n → j < n → same i j ≡ true → same j i ≡ true → i ≡ j

@@ -2,5 +2,5 @@
 pub mod Below
 pub mod Bytes
 pub mod Records
-pub mod Chains
+pub mod Front
 pub mod Search

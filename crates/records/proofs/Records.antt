@@ -11,7 +11,7 @@ use borrow.Author.Tests.{le-leb, lt-leb}
 use Rattle.records.specs.Below.{noneTwice}
 use Rattle.records.specs.Bytes.{sameBytes}
 use Rattle.records.specs.Records.{recordAt, distinct}
-use Rattle.records.specs.Chains.{fresh}
+use Rattle.records.specs.Working.{fresh}
 use Rattle.octets.proofs.Truth.{and-right-fails as right-fails}
 use Rattle.records.proofs.Below.{all-fails}
 

@@ -3,5 +3,5 @@ pub mod Below
 pub mod Bytes
 pub mod Records
 pub mod Search
--- Only for the proofs of the code's own steps, which look for equal records by their hash: nothing here has to be believed.
-pub mod Chains
+-- Only for the proofs of the code's own steps, here and where equal records are looked for: nothing here has to be believed.
+pub mod Working

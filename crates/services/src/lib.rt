@@ -102,7 +102,7 @@ pub fn are_services(tree: &[u8], services: &[u8]) -> bool
         }
         i += 1;
     }
-    records::are_distinct(services, WIDTH as u8, n)
+    distinct::are_distinct(services, WIDTH as u8, n)
 }
 
 // The service check: 14, then 15, or how many records there are.

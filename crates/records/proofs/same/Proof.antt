@@ -1,11 +1,12 @@
 -- `records::same` meets its contract: from i on the slices compare as they do from the front.
 -- Assumes nothing.
 use Prim.Native.Nat.{_≤_, _-_}
-use mathlib.Core.Path.{_≡_, refl, sym, _∙_}
+use mathlib.Core.Path.{_≡_, sym, _∙_}
 use native.Mathlib.Omega.{arith}
 use lib.ListN.{length, drop}
 use Rattle.records.specs.Bytes.{sameBytes}
 use Rattle.records.proofs.Bytes.{same-at, differ-at, same-end, same-lengths}
+use Rattle.records.proofs.Front.{same-front}
 use Rattle.records.proofs.same.Statement.{statement}
 use Rattle.records.proofs.same.Tie as tie
 
@@ -18,8 +19,14 @@ abbrev μ-loop : tie.MeasureT-loop
 returns : tie.Need-returns Inv-loop μ-loop
 returns c = sym (same-lengths _ _ (λ e. omega arith))
 
+equal-front-requires : tie.Need-equal-front-requires Inv-loop μ-loop
+equal-front-requires c κs = tt
+
 loop-holds : tie.Need-loop-holds Inv-loop μ-loop
-loop-holds c = (omega arith, refl)
+loop-holds c =
+    let args = c .before .before .before .before .args in
+    let front = c .equal-front .ensures in
+    (front .fits, same-front (c .equal-front .result) (args .a .now) (args .b .now) (front .fits) (front .fits-other) (front .equal))
 
 shared-slice-read-if2 : tie.Need-shared-slice-read-if2 Inv-loop μ-loop
 shared-slice-read-if2 c = omega arith
@@ -30,7 +37,7 @@ shared-slice-read-if2-2 c = omega arith
 returns-2 : tie.Need-returns-2 Inv-loop μ-loop
 returns-2 c =
     let at-loop = c .before .before .before .before in
-    let args = at-loop .before .before .args in
+    let args = at-loop .before .before .before .before .before .args in
     sym (differ-at (args .a .now) (args .b .now) (at-loop .loop .i) (omega arith) (omega arith) (λ e. omega arith)) ∙ at-loop .loop .inv .1
 
 add-i : tie.Need-add-i Inv-loop μ-loop
@@ -42,12 +49,12 @@ loop-less c = omega arith
 loop-again : tie.Need-loop-again Inv-loop μ-loop
 loop-again c =
     let at-loop = c .before .before .before .before in
-    let args = at-loop .before .before .args in
+    let args = at-loop .before .before .before .before .before .args in
     (omega arith, sym (same-at (args .a .now) (args .b .now) (at-loop .loop .i) (omega arith) (omega arith) (omega arith)) ∙ at-loop .loop .inv .1)
 
 returns-3 : tie.Need-returns-3 Inv-loop μ-loop
 returns-3 c =
-    let args = c .before .before .before .args in
+    let args = c .before .before .before .before .before .before .args in
     sym (same-end (args .a .now) (args .b .now) (c .before .loop .i) (omega arith) (omega arith)) ∙ c .before .loop .inv .1
 
 pub same-spec : {M : Type 1} → statement M
@@ -57,6 +64,7 @@ same-spec =
     Inv-loop
     μ-loop
     returns
+    equal-front-requires
     loop-holds
     shared-slice-read-if2
     shared-slice-read-if2-2

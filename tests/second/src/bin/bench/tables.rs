@@ -5,7 +5,7 @@ use std::hint::black_box;
 use second::sample::OwnedTables;
 use second::side::{Side, LIBRARY, SECOND};
 
-use crate::floors::{binary, crowded, nearly_equal};
+use crate::floors::{binary, crowded, hostile, nearly_equal};
 use crate::turns::{print_row, take_turns};
 
 struct Check {
@@ -38,8 +38,8 @@ const ALL: Check = Check {
     bytes: |floor| floor.tree.len() + floor.services.len() + floor.identities.len(),
 };
 
-/// `hostile` are tables of the caller's, made to be slow.
-pub fn measure(hostile: Option<&OwnedTables>) {
+/// `given` are tables of the caller's, made to be slow.
+pub fn measure(given: Option<&OwnedTables>) {
     let floors = [128, 1024].map(binary);
     for check in &[TREE, SERVICES, IDENTITIES] {
         measure_check(check, "128 ranks", &floors[0]);
@@ -47,10 +47,11 @@ pub fn measure(hostile: Option<&OwnedTables>) {
     }
     measure_check(&SERVICES, "1,024 ranks, all at rank 0", &crowded());
     measure_check(&ALL, "1,024 ranks, 1,024 services", &floors[1]);
-    let near = nearly_equal();
+    let (near, slow) = (nearly_equal(), hostile());
     let others = [
         ("1,024 that differ in their last bytes", Some(&near)),
-        ("1,024 hostile ones", hostile),
+        ("1,024 hostile ones", Some(&slow)),
+        ("1,024 given ones", given),
     ];
     for (input, tables) in others {
         if let Some(tables) = tables {

@@ -1,13 +1,11 @@
--- `records::record` meets its contract.
+-- `sorted::record` meets its contract.
 -- Assumes nothing.
 use Prim.Native.Nat.{_+_, _*_, _-_}
 use mathlib.Core.Path.{_≡_, refl}
--- `records::record` meets its contract.
--- Assumes nothing.
 use native.Mathlib.Omega.{arith}
 use borrow.Author.Needs.{needs}
-use Rattle.records.proofs.record.Statement.{statement}
-use Rattle.records.proofs.record.Tie as tie
+use Rattle.sorted.proofs.record.Statement.{statement}
+use Rattle.sorted.proofs.record.Tie as tie
 
 mul-at : tie.Need-mul-at
 mul-at c = search needs

@@ -2,14 +2,12 @@
 -- Assumes nothing.
 use mathlib.Core.Path.{_≡_}
 use Prim.Native.Nat.{ℕ, zero, suc, _+_, _*_, _-_, _/_, _%_, _<_}
-use mathlib.Core.Bool.{Bool, cond, not}
+use mathlib.Core.Bool.{cond}
 use mathlib.Core.List.{List, [], _∷_}
 use lib.Dec.{eqb, ltb}
 use lib.ListN.{length, getD}
 use Rattle.octets.specs.Number.{number}
-use Rattle.records.specs.Below.{allBelow}
-use Rattle.records.specs.Bytes.{sameBytes}
 use Rattle.records.specs.Records.{recordAt}
 
 -- four bytes as a number, the first of them the lightest
 abbrev pub lightFirst : ℕ → ℕ → ℕ → ℕ → ℕ
@@ -46,7 +44,3 @@ lastBelow hash (suc i) h = cond (eqb (hash i) h) (suc i) (lastBelow hash i h)
 -- for each index below i, `next` holds the last index below it with the same hash, plus 1
 abbrev pub Linked : (ℕ → ℕ) → List ℕ → ℕ → Type 0
 Linked hash next i = (j : ℕ) → j < i → getD next j 0 ≡ lastBelow hash j (hash j)
-
--- record i differs from all before it
-abbrev pub fresh : ℕ → List ℕ → ℕ → Bool
-fresh width table i = allBelow i (λ j. not (sameBytes (recordAt width table i) (recordAt width table j)))

@@ -1,10 +1,10 @@
--- `records::stir` meets its contract.
+-- `distinct::stir` meets its contract.
 -- Assumes nothing.
 use mathlib.Core.Path.{_∙_}
 use borrow.Author.Needs.{needs}
-use Rattle.records.proofs.Chains.{stirred-is}
-use Rattle.records.proofs.stir.Statement.{statement}
-use Rattle.records.proofs.stir.Tie as tie
+use Rattle.distinct.proofs.Chains.{stirred-is}
+use Rattle.distinct.proofs.stir.Statement.{statement}
+use Rattle.distinct.proofs.stir.Tie as tie
 
 add-number-of : tie.Need-add-number-of
 add-number-of c = search needs

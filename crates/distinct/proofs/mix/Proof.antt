@@ -1,13 +1,13 @@
--- `records::mix` meets its contract: h is what the first k blocks give.
+-- `distinct::mix` meets its contract: h is what the first k blocks give.
 -- Assumes nothing.
 use Prim.Native.Nat.{ℕ, _≤_, _-_, _*_, _/_}
 use mathlib.Core.Path.{_≡_, refl, sym, ap, _∙_}
 use native.Mathlib.Omega.{arith}
 use lib.ListN.{length}
-use Rattle.records.specs.Chains.{stirred, blocks}
-use Rattle.records.proofs.Chains.{blocks-none, blocks-more, mix-short, mix-whole}
-use Rattle.records.proofs.mix.Statement.{statement}
-use Rattle.records.proofs.mix.Tie as tie
+use Rattle.distinct.specs.Chains.{stirred, blocks}
+use Rattle.distinct.proofs.Chains.{blocks-none, blocks-more, mix-short, mix-whole}
+use Rattle.distinct.proofs.mix.Statement.{statement}
+use Rattle.distinct.proofs.mix.Tie as tie
 
 abbrev Inv-loop : tie.InvT-loop
 Inv-loop s n h₀ k₀ h k = (k ≤ n) × (n ≡ length s / 8) × (h ≡ blocks s k)

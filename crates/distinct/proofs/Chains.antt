@@ -12,13 +12,14 @@ use borrow.Author.Tests.{eqb-true, eqb-false, eq-eqb, ne-eqb, lt-ltb, le-ltb, lt
 use lib.Dec.{eqb, ltb}
 use lib.ListN.{length, getD, set, length-set}
 use lib.Seq.{getD-set-same, getD-set-other}
 use Rattle.records.specs.Bytes.{sameBytes}
 use Rattle.records.specs.Records.{recordAt}
-use Rattle.records.specs.Chains.{lightFirst, stirred, blocks, mixOf, hashOf, hashAt, lastBelow, Linked, fresh}
+use Rattle.distinct.specs.Chains.{lightFirst, stirred, blocks, mixOf, hashOf, hashAt, lastBelow, Linked}
+use Rattle.records.specs.Working.{fresh}
 use Rattle.records.proofs.Bytes.{same-equal}
 use Rattle.records.specs.Below.{allBelow, noneTwice}
-use Rattle.octets.proofs.Truth.{outcome, and-both as both}
-use Rattle.records.proofs.Below.{all-none, all-more, all-of, all-fails}
+use Rattle.octets.proofs.Truth.{outcome}
+use Rattle.records.proofs.Below.{all-of, all-fails, none-none, none-more}
 
 -- ---- the hash by its steps, in the code's order
 
@@ -172,26 +173,24 @@ pub record Chained (width : ℕ) (table head next : List ℕ) (i : ℕ) : Type 0
 
 module _ (width : ℕ) (table : List ℕ) where
   pub chained-start : (head next : List ℕ) → length head ≡ 4096 → length next ≡ 1024 → ((h : ℕ) → h < 4096 → getD head h 0 ≡ 0) → Chained width table head next 0
-  unfolding noneTwice
   chained-start head next e f z =
       record {
         heads = e;
         nexts = f;
         ends = λ h l. z h l ∙ sym (last-none (hashAt width table) h);
         linked = λ j l. absurd (not-suc-le-zero l);
-        none = all-none (fresh width table);
+        none = none-none (λ i j. sameBytes (recordAt width table i) (recordAt width table j));
       }
 
   module _ (head next : List ℕ) (i h : ℕ) (s : Chained width table head next i) where
     pub start-is : h ≡ hashAt width table i → h < 4096 → getD head h 0 ≡ lastBelow (hashAt width table) i (hashAt width table i)
     start-is e l = s .ends h l ∙ rw e refl
 
-    pub chained-more : i < 1024 → h ≡ hashAt width table i → h < 4096 → fresh width table i ≡ true → Chained width table (set head h (i + 1)) (set next i (getD head h 0)) (i + 1)
-    unfolding noneTwice
-    chained-more li e lh f =
+    pub chained-more : (v : ℕ) → v ≡ getD head h 0 → i < 1024 → h ≡ hashAt width table i → h < 4096 → fresh width table i ≡ true → Chained width table (set head h (i + 1)) (set next i v) (i + 1)
+    chained-more v is li e lh f =
         record {
           heads = length-set head h (i + 1) ∙ s .heads;
-          nexts = length-set next i (getD head h 0) ∙ s .nexts;
+          nexts = length-set next i v ∙ s .nexts;
           ends =
               λ k l.
               ⊎-elim
@@ -203,8 +202,8 @@ module _ (width : ℕ) (table : List ℕ) where
               ∙ s .ends k l ∙ sym (last-other (hashAt width table) i k (λ q. eqb-false k h t (sym q ∙ sym e))))
               (outcome (eqb k h));
           linked =
-              below-more (λ j. getD (set next i (getD head h 0)) j 0 ≡ lastBelow (hashAt width table) j (hashAt width table j)) i
-              (λ j l. getD-set-other next i j (getD head h 0) 0 (λ q. absurd (omega arith)) ∙ s .linked j l)
-              (getD-set-same next i (getD head h 0) 0 (omega (arith, s .nexts)) ∙ start-is e lh);
-          none = all-more (fresh width table) i ∙ both (s .none) f;
+              below-more (λ j. getD (set next i v) j 0 ≡ lastBelow (hashAt width table) j (hashAt width table j)) i
+              (λ j l. getD-set-other next i j v 0 (λ q. absurd (omega arith)) ∙ s .linked j l)
+              (getD-set-same next i v 0 (omega (arith, s .nexts)) ∙ is ∙ start-is e lh);
+          none = none-more (λ i j. sameBytes (recordAt width table i) (recordAt width table j)) i (s .none) f;
         }

@@ -1,12 +1,12 @@
--- `records::hash` meets its contract.
+-- `distinct::hash` meets its contract.
 -- Assumes nothing.
 use Prim.Native.Nat.{ℕ, _*_, _/_, _%_}
 use mathlib.Core.Path.{sym, ap, _∙_}
 use native.Mathlib.Omega.{arith}
 use borrow.Author.Needs.{needs}
-use Rattle.records.proofs.Chains.{hash-is}
-use Rattle.records.proofs.hash.Statement.{statement}
-use Rattle.records.proofs.hash.Tie as tie
+use Rattle.distinct.proofs.Chains.{hash-is}
+use Rattle.distinct.proofs.hash.Statement.{statement}
+use Rattle.distinct.proofs.hash.Tie as tie
 
 mix-requires : tie.Need-mix-requires
 mix-requires c κs = search needs

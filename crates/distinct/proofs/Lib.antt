@@ -1,0 +1,2 @@
+-- Laws on chains of records.
+pub mod Chains

@@ -1,0 +1,2 @@
+-- Laws on records in order.
+pub mod Order
