@@ -19,6 +19,21 @@ fn identity_at(identities: &[u8], rank: usize) -> &[u8]
     &identities[at..at + ROUTE]
 }
 
+// The identity of any rank, or what the table has of it.
+pub fn identity_of(identities: &[u8], rank: u32) -> &[u8]
+    ensures { λ r. ⌜ now r ≡ identityAt (now (identities .entry)) rank ⌝ }
+{
+    let at = rank as usize * ROUTE;
+    let len = identities.len();
+    if len <= at {
+        return &identities[len..];
+    }
+    if len - at < ROUTE {
+        return &identities[at..];
+    }
+    &identities[at..at + ROUTE]
+}
+
 // Whether two routes are the same identity.
 pub fn is_same(a: &[u8], b: &[u8]) -> bool
     ensures { λ r. ⌜ r ≡ sameIdentity (now (a .entry)) (now (b .entry)) ⌝ }

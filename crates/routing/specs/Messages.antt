@@ -4,6 +4,7 @@ use mathlib.Core.Bool.{Bool, cond, _||_}
 use mathlib.Core.List.{List, [], _∷_}
 use lib.Dec.{ltb}
 use lib.ListN.{length, drop}
+use Rattle.message.specs.declared.Header.{Header}
 use Rattle.message.specs.Header.{isStreaming}
 use Rattle.message.specs.Message.{Message}
 use Rattle.message.specs.Frame.{mostBody, bodyOf}
@@ -19,22 +20,19 @@ popped m = record { header = m .header; routes = drop 1 (m .routes); topic = m .
 
 -- "The error reply has type 2, the request's routes, topic and matchtag, the error number, userid FFFFFFFF, rolemask 0, flags 09, or 49 if streaming
 -- was set, no payload." Userid and rolemask are the caller's to give.
-abbrev pub errorReply : ℕ → ℕ → ℕ → Message → Message
-errorReply userid rolemask errnum m =
+abbrev pub replyHeader : ℕ → ℕ → ℕ → Header → Header
+replyHeader userid rolemask errnum request =
     record {
-      header =
-          record {
-            kind = 2;
-            flags = cond (isStreaming (m .header .flags)) 0x49 0x09;
-            userid = userid;
-            rolemask = rolemask;
-            first = errnum;
-            second = m .header .second;
-          };
-      routes = m .routes;
-      topic = m .topic;
-      payload = [];
+      kind = 2;
+      flags = cond (isStreaming (request .flags)) 0x49 0x09;
+      userid = userid;
+      rolemask = rolemask;
+      first = errnum;
+      second = request .second;
     }
+
+abbrev pub errorReply : ℕ → ℕ → ℕ → Message → Message
+errorReply userid rolemask errnum m = record { header = replyHeader userid rolemask errnum (m .header); routes = m .routes; topic = m .topic; payload = [] }
 
 -- 12: "forwarding would make 65 routes or a body above 32,768"
 abbrev pub tooLarge : Message → Bool

@@ -9,6 +9,7 @@ use Rattle.message.specs.Answer.{Answer, refused, answered, refuseIf}
 use Rattle.message.specs.Header.{noResponse}
 use Rattle.message.specs.Message.{Message}
 use Rattle.identities.specs.Identities.{identityAt}
+use Rattle.routing.specs.declared.Broker.{Broker}
 use Rattle.routing.specs.declared.Way.{Way}
 use Rattle.routing.specs.declared.Way.the-variants.{Deliver, Forward, Fail}
 use Rattle.routing.specs.declared.Back.{Back}
@@ -23,12 +24,11 @@ pub record Tables : Type 0 where
   pub services : List ℕ
   pub identities : List ℕ
 
--- ".. the broker's rank, whether the message came from a local client": and the userid and rolemask that an error reply carries
-pub record Broker : Type 0 where
-  pub rank : ℕ
-  pub fromClient : Bool
-  pub userid : ℕ
-  pub rolemask : ℕ
+abbrev pub tablesOf : List ℕ → List ℕ → List ℕ → Tables
+tablesOf tree services identities = record { tree = tree; services = services; identities = identities }
+
+-- ".. the broker's rank, whether the message came from a local client": the struct Broker has them, and the userid and rolemask that an error reply
+-- carries
 
 pub data Outcome : Type 0 where
   delivered : ℕ → Outcome
@@ -59,6 +59,6 @@ responded m Stray = refused NoNeighbour
 -- a request, a response, or 18: "step or walk given an event or control"
 unfoldable pub routed : Tables → Broker → Message → Answer Outcome
 routed t b m =
-    cond (eqb (m .header .kind) 1) (requested t b m (requestWay (t .tree) (t .services) (b .rank) (b .fromClient) (m .header) (m .topic)))
+    cond (eqb (m .header .kind) 1) (requested t b m (requestWay (t .tree) (t .services) (b .rank) (b .client) (m .header) (m .topic)))
     (cond (eqb (m .header .kind) 2) (responded m (responseWay (t .tree) (t .identities) (b .rank) (m .routes)))
     (refused NotRouted))

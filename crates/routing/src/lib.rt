@@ -16,6 +16,14 @@ const NO_RANK: u32 = 113;
 // The most ranks that a tree has.
 const MOST_RANKS: usize = 1024;
 
+// The broker that makes a step: its rank, whether it has the message from a local client, and the userid and rolemask of its error replies.
+pub struct Broker {
+    pub rank: u32,
+    pub client: bool,
+    pub userid: u32,
+    pub rolemask: u32,
+}
+
 // What is done with a request: delivered with a record's number, forwarded to a rank, or an error.
 pub enum Way {
     Deliver(usize),
