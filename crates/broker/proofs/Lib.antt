@@ -1,0 +1,5 @@
+-- The laws of the step.
+pub mod Bodies
+pub mod Buffers
+pub mod Lying
+pub mod Passing

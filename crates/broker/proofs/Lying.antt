@@ -1,0 +1,282 @@
+-- What is known where a frame lies in the buffer, and what each way through a step comes to.
+-- Assumes nothing.
+use mathlib.Core.Path.{_≡_, refl, sym, ap, ap₂, _∙_}
+use mathlib.Core.Bool.{Bool, true, false, cond, _&&_, _||_}
+use mathlib.Core.Logic.{_⊎_, inl, inr, ⊎-elim}
+use Prim.Native.Nat.{ℕ, _+_, _-_, _*_, _<_, _≤_}
+use mathlib.Core.List.{List, [], _∷_, _++_, append-nil}
+use native.Mathlib.Omega.{arith}
+use borrow.Author.Tests.{lt-ltb, le-ltb}
+use lib.Dec.{ltb}
+use lib.ListN.{length, getD, drop, length-append}
+use Rattle.octets.proofs.Truth.{outcome, and-left, and-right, or-neither}
+use Rattle.message.specs.declared.Header.{Header}
+use Rattle.message.specs.declared.Refusal.{Refusal}
+use Rattle.message.specs.declared.Refusal.the-variants.{ShortOutput, NoForwarding}
+use Rattle.message.specs.Answer.{Answer, refused, answered, refuseIf, andThen}
+use Rattle.message.specs.Header.{hasTopic, noResponse, hasRoute}
+use Rattle.message.specs.Message.{Message}
+use Rattle.message.specs.Frame.{sizeBytes, partBytes, joined, partIf, routing, topicPart, bodyOf, frameOf}
+use Rattle.message.proofs.Lists.{each-at}
+use Rattle.message.proofs.Forms.{routes-each}
+use Rattle.message.proofs.Messages.{written}
+use Rattle.message.proofs.Fields.{call-fits}
+use Rattle.message.proofs.Parts.{part-short, joined-append}
+use Rattle.message.proofs.RoundTrip.{WrittenBack, write-back}
+use Rattle.body.specs.declared.Frame.{Frame}
+use Rattle.body.specs.Places.{stretch, dataAt, placesOf}
+use Rattle.body.proofs.Holding.{Begins, begins-read, topic-told, topic-within, route-told, route-most}
+use Rattle.identities.specs.Identities.{brokerOf}
+use Rattle.rewrite.specs.Renewed.{cleared, withoutFront}
+use Rattle.routing.specs.declared.Broker.{Broker}
+use Rattle.routing.specs.declared.Way.{Way}
+use Rattle.routing.specs.Requests.{requestWay}
+use Rattle.routing.specs.declared.Back.{Back}
+use Rattle.routing.specs.declared.Back.the-variants.{To}
+use Rattle.routing.specs.Responses.{towardsBroker, responseWay}
+use Rattle.routing.specs.Messages.{pushed, popped, errorReply, tooLarge}
+use Rattle.routing.specs.Routed.{Outcome, forwarded, replied, silenced, home, failed, forwardedIf, responded}
+use Rattle.broker.specs.declared.Stepped.{Stepped}
+use Rattle.broker.specs.declared.Stepped.the-variants.{Refused}
+use Rattle.broker.specs.Step.{roomFor, leftBy, toldAs, Makes}
+use Rattle.broker.specs.Working.{heldIn, Lies}
+use Rattle.broker.proofs.Bodies.{pushed-body, popped-body, frontOf}
+use Rattle.broker.proofs.Buffers.{frame-long, body-short, body-within, popped-left}
+
+or-right-holds : (a : Bool) {b : Bool} → b ≡ true → (a || b) ≡ true
+or-right-holds true e = refl
+or-right-holds false e = e
+
+-- ---- how a step ends
+
+-- by any answer that is known
+pub makes : {answer a : Answer Outcome} {buffer left : List ℕ} {r : Stepped} → answer ≡ a → r ≡ toldAs a → left ≡ leftBy a buffer → Makes answer buffer r left
+makes {buffer = buffer} is told left = record { told = told ∙ sym (ap toldAs is); leaves = left ∙ sym (ap (λ (x : Answer Outcome). leftBy x buffer) is) }
+
+-- by a refusal, which changes no byte
+pub refuses : {answer : Answer Outcome} {buffer : List ℕ} {q : Refusal} → answer ≡ refused q → Makes answer buffer (Refused q) buffer
+refuses is = makes is refl refl
+
+-- ---- a message that lies in the buffer
+
+module _ (b : List ℕ) (f : Frame) (kind : ℕ) (l : Lies b f kind) where
+  pub back-held : WrittenBack b (heldIn b)
+  back-held = write-back b (heldIn b) (l .bytes) (l .read)
+
+  pub taken-told : f .taken ≡ 8 + length (bodyOf (heldIn b))
+  unfolding placesOf
+  taken-told = ap (λ (g : Frame). g .taken) (l .places) ∙ frame-long (heldIn b)
+
+  pub routes-told : f .routes ≡ length (heldIn b .routes)
+  unfolding placesOf
+  routes-told = ap (λ (g : Frame). g .routes) (l .places)
+
+  pub header-told : f .header ≡ heldIn b .header
+  unfolding placesOf
+  header-told = ap (λ (g : Frame). g .header) (l .places)
+
+  -- a request or a response has a routing group and a topic
+  module _ (call : (kind ≡ 1) ⊎ (kind ≡ 2)) where
+    abbrev flags : ℕ
+    flags = heldIn b .header .flags
+
+    fit : (hasRoute flags && hasTopic flags) ≡ true
+    fit =
+        let none : (n : ℕ) → 2 < n → heldIn b .header .kind ≡ n → ⊥ = λ n h e. ⊎-elim (λ k. omega (arith, l .type)) (λ k. omega (arith, l .type)) call in
+        sym (call-fits (heldIn b .header) {r = hasRoute flags} {t = hasTopic flags} refl refl refl (none 8 (omega arith)) (none 4 (omega arith)))
+        ∙ written (heldIn b) (frameOf (heldIn b)) (back-held .writable) .passes .fit
+
+    pub has-route : hasRoute flags ≡ true
+    has-route = and-left (hasRoute flags) (hasTopic flags) fit
+
+    pub has-topic : hasTopic flags ≡ true
+    has-topic = and-right (hasRoute flags) (hasTopic flags) fit
+
+    -- the topic ends where the front of the body does, with a zero byte that is not shown
+    pub front-told : f .topic .start + f .topic .len + 1 ≡ 8 + length (frontOf (heldIn b))
+    unfolding placesOf
+    front-told =
+        let m = heldIn b in
+        let ended = m .topic ++ (0 ∷ []) in
+        let start : f .topic .start ≡ dataAt (routing m) ended = ap (λ (g : Frame). g .topic .start) (l .places) ∙ ap (λ (t : Bool). cond t (dataAt (routing m) ended) 0) has-topic in
+        let len : f .topic .len ≡ length (m .topic) = ap (λ (g : Frame). g .topic .len) (l .places) in
+        let part : joined (topicPart m) ≡ partBytes ended = ap (λ (t : Bool). joined (partIf t ended)) has-topic ∙ append-nil (partBytes ended) in
+        omega (
+          arith,
+          start,
+          len,
+          ap length (joined-append (routing m) (topicPart m)),
+          length-append (joined (routing m)) (joined (topicPart m)),
+          ap length part,
+          length-append (sizeBytes (length ended)) ended,
+          length-append (m .topic) (0 ∷ []),
+        )
+
+-- ---- a request forwarded
+
+module _ (b : List ℕ) (f : Frame) (l : Lies b f 1) (identity : List ℕ) (short : length identity ≤ 37) (next : ℕ) where
+  abbrev grown : ℕ
+  grown = 1 + length identity + (f .taken - 8)
+
+  abbrev forwarding : Answer Outcome
+  forwarding = andThen (forwardedIf next (pushed identity (heldIn b))) (roomFor (length b))
+
+  pub grown-told : length (bodyOf (pushed identity (heldIn b))) ≡ 1 + length identity + (f .taken - 8)
+  grown-told =
+      omega (
+        arith,
+        ap length (pushed-body identity (heldIn b) (has-route b f 1 l (inl refl))),
+        length-append (partBytes identity) (bodyOf (heldIn b)),
+        ap length (part-short identity (omega arith)),
+        taken-told b f 1 l,
+      )
+
+  pub forward-many : 64 ≤ f .routes → forwarding ≡ refused NoForwarding
+  forward-many h = rw (lt-ltb 64 (length (identity ∷ heldIn b .routes)) (omega (arith, routes-told b f 1 l)))
+
+  pub forward-long : 32768 < grown → forwarding ≡ refused NoForwarding
+  forward-long h = rw (or-right-holds (ltb 64 (length (identity ∷ heldIn b .routes))) (lt-ltb 32768 (length (bodyOf (pushed identity (heldIn b)))) (omega (arith, grown-told))))
+
+  module _ (few : f .routes < 64) (fits : grown ≤ 32768) where
+    small : tooLarge (pushed identity (heldIn b)) ≡ false
+    small =
+        or-neither (ltb 64 (length (identity ∷ heldIn b .routes))) (ltb 32768 (length (bodyOf (pushed identity (heldIn b)))))
+        (le-ltb 64 (length (identity ∷ heldIn b .routes)) (omega (arith, routes-told b f 1 l)))
+        (le-ltb 32768 (length (bodyOf (pushed identity (heldIn b)))) (omega (arith, grown-told)))
+
+    pub forward-tight : length b < 8 + grown → forwarding ≡ refused ShortOutput
+    forward-tight h =
+        rw (small, lt-ltb (length b) (length (frameOf (pushed identity (heldIn b)))) (omega (arith, grown-told, frame-long (pushed identity (heldIn b)))))
+
+    pub forward-on : 8 + grown ≤ length b → forwarding ≡ answered (forwarded next (pushed identity (heldIn b)))
+    forward-on h =
+        rw (small, le-ltb (length b) (length (frameOf (pushed identity (heldIn b)))) (omega (arith, grown-told, frame-long (pushed identity (heldIn b)))))
+
+-- ---- an error
+
+module _ (who : Broker) (errnum : ℕ) (m : Message) where
+  pub fails-silent : noResponse (m .header .flags) ≡ true → answered (failed who errnum m) ≡ answered (silenced errnum)
+  fails-silent e = rw e
+
+  pub fails-reply : noResponse (m .header .flags) ≡ false → answered (failed who errnum m) ≡ answered (replied errnum (errorReply (who .userid) (who .rolemask) errnum m))
+  fails-reply e = rw e
+
+  -- neither a reply nor silence asks for room
+  pub fails-anyhow : (room : ℕ) → roomFor room (failed who errnum m) ≡ answered (failed who errnum m)
+  fails-anyhow room = ⊎-elim (λ t. rw t) (λ f. rw f) (outcome (noResponse (m .header .flags)))
+
+-- the same step by an answer that is equal
+pub makes-as : {answer a : Answer Outcome} {buffer left : List ℕ} {r : Stepped} → answer ≡ a → Makes a buffer r left → Makes answer buffer r left
+makes-as is m = makes is (m .told) (m .leaves)
+
+-- ---- where a request goes, by what stands in its buffer
+
+module _ (b : List ℕ) (f : Frame) (kind : ℕ) (l : Lies b f kind) where
+  begins : Begins b (heldIn b)
+  begins = begins-read b (heldIn b) (back-held b f kind l)
+
+  -- the topic lies in the frame, and so in the buffer
+  topic-in-frame : f .topic .start + f .topic .len ≤ length (frameOf (heldIn b))
+  topic-in-frame =
+      let start : f .topic .start ≡ placesOf (heldIn b) .topic .start = ap (λ (g : Frame). g .topic .start) (l .places) in
+      let len : f .topic .len ≡ placesOf (heldIn b) .topic .len = ap (λ (g : Frame). g .topic .len) (l .places) in
+      omega (arith, start, len, topic-within b (heldIn b) begins)
+
+  pub topic-inside : f .topic .start + f .topic .len ≤ length b
+  topic-inside = omega (arith, topic-in-frame, back-held b f kind l .within)
+
+  pub topic-low : f .topic .start + f .topic .len ≤ 32776
+  topic-low = omega (arith, topic-in-frame, frame-long (heldIn b), body-short b (heldIn b) (back-held b f kind l))
+
+  pub topic-shown : stretch b (f .topic .start) (f .topic .start + f .topic .len - f .topic .start) ≡ heldIn b .topic
+  topic-shown =
+      ap (stretch b (f .topic .start)) (length-between (f .topic .start) (f .topic .len))
+      ∙ ap (λ (g : Frame). stretch b (g .topic .start) (g .topic .len)) (l .places) ∙ topic-told b (heldIn b) begins
+    where
+      length-between : (at n : ℕ) → at + n - at ≡ n
+      length-between at n = omega arith
+
+  pub way-told : (tree services : List ℕ) (who : Broker) {way : Way} →
+      way ≡ requestWay tree services (who .rank) (who .client) (f .header) (stretch b (f .topic .start) (f .topic .start + f .topic .len - f .topic .start)) →
+      requestWay tree services (who .rank) (who .client) (heldIn b .header) (heldIn b .topic) ≡ way
+  way-told tree services who e =
+      sym (e ∙ ap₂ (λ (h : Header) (topic : List ℕ). requestWay tree services (who .rank) (who .client) h topic) (header-told b f kind l) topic-shown)
+
+-- ---- where a response goes, by what stands in its buffer
+
+-- a list that is not empty, by its first element and the others
+first-rest : (rs : List (List ℕ)) → 0 < length rs → rs ≡ getD rs 0 [] ∷ drop 1 rs
+first-rest [] h = absurd (omega arith)
+first-rest (r ∷ rs) h = refl
+
+none-left : (rs : List (List ℕ)) → length rs ≡ 0 → rs ≡ []
+none-left [] e = refl
+none-left (r ∷ rs) e = absurd (omega arith)
+
+module _ (b : List ℕ) (f : Frame) (l : Lies b f 2) where
+  -- no routes: home
+  pub home-bare : (tree identities : List ℕ) (rank : ℕ) → f .routes ≡ 0 →
+      andThen (responded (heldIn b) (responseWay tree identities rank (heldIn b .routes))) (roomFor (length b)) ≡ answered home
+  unfolding responseWay
+  home-bare tree identities rank e =
+      ap (λ (rs : List (List ℕ)). andThen (responded (heldIn b) (responseWay tree identities rank rs)) (roomFor (length b)))
+      (none-left (heldIn b .routes) (sym (routes-told b f 2 l) ∙ e))
+
+  module _ (some : 0 < f .routes) where
+    abbrev top : List ℕ
+    top = getD (heldIn b .routes) 0 []
+
+    routes-are : heldIn b .routes ≡ top ∷ drop 1 (heldIn b .routes)
+    routes-are = first-rest (heldIn b .routes) (omega (arith, routes-told b f 2 l))
+
+    top-long : length top ≡ 37
+    top-long =
+        each-at (λ (r : List ℕ). length r ≡ 37) (heldIn b .routes) 0 [] (routes-each (heldIn b .routes) (begins b f 2 l .whole .passes .routes)) (omega (arith, routes-told b f 2 l))
+
+    first-at : f .route ≤ 9
+    first-at = omega (arith, ap (λ (g : Frame). g .route) (l .places), route-most b (heldIn b) (begins b f 2 l))
+
+    routed : hasRoute (heldIn b .header .flags) ≡ true
+    routed = has-route b f 2 l (inr refl)
+
+    shorter : length (bodyOf (heldIn b)) ≡ 38 + length (bodyOf (popped (heldIn b)))
+    shorter =
+        let body = popped-body (heldIn b) top (drop 1 (heldIn b .routes)) routed routes-are in
+        omega (arith, ap length body, length-append (partBytes top) (bodyOf (popped (heldIn b))), ap length (part-short top (omega (arith, top-long))), top-long)
+
+    pub top-inside : f .route + 37 ≤ length b
+    top-inside = omega (arith, first-at, shorter, body-within b (heldIn b) (back-held b f 2 l))
+
+    pub top-low : f .route + 37 ≤ 46
+    top-low = omega (arith, first-at)
+
+    top-shown : stretch b (f .route) (f .route + 37 - f .route) ≡ top
+    top-shown =
+        ap (stretch b (f .route)) (width (f .route)) ∙ ap (λ (g : Frame). stretch b (g .route) 37) (l .places)
+        ∙ ap (λ (n : ℕ). stretch b n 37) (plus-none (placesOf (heldIn b) .route)) ∙ route-told b (heldIn b) (begins b f 2 l) 0 (omega (arith, routes-told b f 2 l))
+      where
+        width : (n : ℕ) → n + 37 - n ≡ 37
+        width n = omega arith
+
+        plus-none : (n : ℕ) → n ≡ n + 38 * 0
+        plus-none n = omega arith
+
+    -- what comes of the way back that was found
+    pub back-told : (tree identities : List ℕ) (rank : ℕ) {way found : Back} →
+        found ≡ towardsBroker tree rank (brokerOf identities (stretch b (f .route) (f .route + 37 - f .route))) → found ≡ way →
+        andThen (responded (heldIn b) (responseWay tree identities rank (heldIn b .routes))) (roomFor (length b)) ≡ andThen (responded (heldIn b) way) (roomFor (length b))
+    unfolding responseWay
+    back-told tree identities rank e w =
+        ap (λ (rs : List (List ℕ)). andThen (responded (heldIn b) (responseWay tree identities rank rs)) (roomFor (length b))) routes-are
+        ∙ ap (λ (back : Back). andThen (responded (heldIn b) back) (roomFor (length b))) (sym (e ∙ ap (λ (r : List ℕ). towardsBroker tree rank (brokerOf identities r)) top-shown) ∙ w)
+
+    -- a shorter frame has room
+    pub back-room : (next : ℕ) → andThen (responded (heldIn b) (To next)) (roomFor (length b)) ≡ answered (forwarded next (popped (heldIn b)))
+    back-room next =
+        rw (le-ltb (length b) (length (frameOf (popped (heldIn b)))) (omega (arith, frame-long (popped (heldIn b)), shorter, body-within b (heldIn b) (back-held b f 2 l))))
+
+    pub back-left : withoutFront 38 (f .taken - 8) b ≡ cleared (frameOf (popped (heldIn b))) b
+    back-left =
+        let size : f .taken - 8 ≡ length (bodyOf (heldIn b)) = omega (arith, taken-told b f 2 l) in
+        ap (λ (k : ℕ). withoutFront 38 k b) size
+        ∙ popped-left b (heldIn b) (back-held b f 2 l) top (drop 1 (heldIn b .routes)) routed routes-are top-long

@@ -1,0 +1,107 @@
+-- One broker's step on a buffer: "Given the tables, the broker's rank, whether the message came from a local client, and a buffer with the frame at its
+-- front." The step on the message itself is `routed` (routing/specs/Routed.antt). Assumes nothing.
+use mathlib.Core.Path.{_≡_}
+use Prim.Native.Nat.{ℕ, _+_}
+use mathlib.Core.Bool.{not}
+use mathlib.Core.List.{List, [], _∷_}
+use lib.Dec.{ltb}
+use lib.ListN.{length}
+use Rattle.message.specs.declared.Refusal.the-variants.{ShortOutput, WrongTree, WrongServices, WrongIdentities, WrongRank}
+use Rattle.message.specs.Answer.{Answer, refused, answered, refuseIf, andThen}
+use Rattle.message.specs.Frame.{frameOf}
+use Rattle.message.specs.Reading.{bodyLength, readingOf}
+use Rattle.tree.specs.Tree.{ranksIn}
+use Rattle.tree.specs.Depths.{treeGood}
+use Rattle.services.specs.Services.{servicesGood}
+use Rattle.identities.specs.Identities.{identitiesGood}
+use Rattle.rewrite.specs.Renewed.{cleared}
+use Rattle.routing.specs.declared.Broker.{Broker}
+use Rattle.routing.specs.Routed.{Tables, Outcome, delivered, forwarded, replied, silenced, home, routed}
+use Rattle.broker.specs.declared.Stepped.{Stepped}
+use Rattle.broker.specs.declared.Stepped.the-variants.{Refused, Delivered, Forwarded, Replied, Silenced, Home}
+
+-- ---- the order of refusals: "Step: 14, 15, 16, 17, reader's numbers, 18, 19, 12, 11"
+
+-- 14, 15, 16, or what comes next where the tables are right
+abbrev pub behindTables : {A : Type 0} → Tables → Answer A → Answer A
+behindTables t next =
+    refuseIf (not (treeGood (t .tree))) WrongTree
+    (refuseIf (not (servicesGood (t .tree) (t .services))) WrongServices
+    (refuseIf (not (identitiesGood (t .tree) (t .identities))) WrongIdentities next))
+
+-- 11: a message that goes on needs room for its frame, and nothing else does: an error reply is never longer than its request
+abbrev pub roomFor : ℕ → Outcome → Answer Outcome
+roomFor room (delivered number) = answered (delivered number)
+roomFor room (forwarded next m) = refuseIf (ltb room (length (frameOf m))) ShortOutput (answered (forwarded next m))
+roomFor room (replied errnum m) = answered (replied errnum m)
+roomFor room (silenced errnum) = answered (silenced errnum)
+roomFor room home = answered home
+
+-- 17, the reader's numbers, 18, 19, 12, 11: the step where the tables are known to be right
+unfoldable pub passOf : Tables → Broker → List ℕ → Answer Outcome
+passOf t b buffer =
+    refuseIf (not (ltb (b .rank) (ranksIn (t .tree)))) WrongRank
+    (andThen (readingOf buffer) (λ m. andThen (routed t b m) (roomFor (length buffer))))
+
+-- the whole step
+unfoldable pub stepOf : Tables → Broker → List ℕ → Answer Outcome
+stepOf t b buffer = behindTables t (passOf t b buffer)
+
+-- ---- the buffer: "After 2 and 3 every byte behind the new frame is zero. After 1, 4 and 5 the buffer is unchanged."
+
+abbrev pub leftAfter : Outcome → List ℕ → List ℕ
+leftAfter (delivered number) buffer = buffer
+leftAfter (forwarded next m) buffer = cleared (frameOf m) buffer
+leftAfter (replied errnum m) buffer = cleared (frameOf m) buffer
+leftAfter (silenced errnum) buffer = buffer
+leftAfter home buffer = buffer
+
+-- "a refused step changes no byte of its buffer"
+abbrev pub leftBy : Answer Outcome → List ℕ → List ℕ
+leftBy (refused r) buffer = buffer
+leftBy (answered o) buffer = leftAfter o buffer
+
+-- ---- what is told: "four big-endian numbers: answer, its number (record or rank, else 0), error number or 0, length of the frame now in the buffer"
+
+abbrev pub answerOf : Outcome → ℕ
+answerOf (delivered number) = 1
+answerOf (forwarded next m) = 2
+answerOf (replied errnum m) = 3
+answerOf (silenced errnum) = 4
+answerOf home = 5
+
+abbrev pub subjectOf : Outcome → ℕ
+subjectOf (delivered number) = number
+subjectOf (forwarded next m) = next
+subjectOf (replied errnum m) = 0
+subjectOf (silenced errnum) = 0
+subjectOf home = 0
+
+abbrev pub errorOf : Outcome → ℕ
+errorOf (delivered number) = 0
+errorOf (forwarded next m) = 0
+errorOf (replied errnum m) = errnum
+errorOf (silenced errnum) = errnum
+errorOf home = 0
+
+-- a frame says its length in its first eight bytes
+abbrev pub frameLength : List ℕ → ℕ
+frameLength buffer = 8 + bodyLength buffer
+
+-- of an outcome and of what the buffer holds now
+abbrev pub numbersOf : Outcome → List ℕ → List ℕ
+numbersOf o buffer = answerOf o ∷ subjectOf o ∷ errorOf o ∷ frameLength buffer ∷ []
+
+-- the code's answer, for each case of the paper's
+abbrev pub toldAs : Answer Outcome → Stepped
+toldAs (refused r) = Refused r
+toldAs (answered (delivered number)) = Delivered number
+toldAs (answered (forwarded next m)) = Forwarded next
+toldAs (answered (replied errnum m)) = Replied errnum
+toldAs (answered (silenced errnum)) = Silenced errnum
+toldAs (answered home) = Home
+
+-- a step that ends with this answer says r, and leaves its buffer so
+pub record Makes (answer : Answer Outcome) (buffer : List ℕ) (r : Stepped) (left : List ℕ) : Type 0 where
+  pub told : r ≡ toldAs answer
+  pub leaves : left ≡ leftBy answer buffer
