@@ -1,17 +1,20 @@
 -- The step: one law for each way through its order.
 -- Assumes nothing.
 use mathlib.Core.Path.{_≡_, refl, sym, ap, _∙_}
-use mathlib.Core.Bool.{true, false}
+use mathlib.Core.Bool.{true, false, not}
 use Prim.Native.Nat.{ℕ, _<_, _≤_}
 use mathlib.Core.List.{List}
 use native.Mathlib.Omega.{arith}
-use borrow.Author.Tests.{lt-ltb, le-ltb, eq-eqb, ne-eqb}
+use borrow.Author.Tests.{lt-ltb, le-ltb, ltb-true, eq-eqb, ne-eqb, not-false}
+use lib.Dec.{ltb}
 use lib.ListN.{length}
 use Rattle.message.specs.declared.Refusal.{Refusal}
-use Rattle.message.specs.declared.Refusal.the-variants.{WrongTree, WrongServices, WrongIdentities, WrongRank, NotRouted}
-use Rattle.message.specs.Answer.{Answer, refused, answered, andThen}
+use Rattle.message.specs.declared.Refusal.the-variants.{ShortOutput, WrongTree, WrongServices, WrongIdentities, WrongRank, NotRouted}
+use Rattle.message.specs.Answer.{Answer, refused, answered, refuseIf, andThen}
 use Rattle.message.specs.Message.{Message}
+use Rattle.message.specs.Frame.{frameOf}
 use Rattle.message.specs.Reading.{readingOf}
+use Rattle.message.proofs.Answers.{answered-same, passed, both}
 use Rattle.body.specs.declared.Frame.{Frame}
 use Rattle.body.specs.declared.Reading.the-variants.{Refused, Accepted}
 use Rattle.body.specs.Places.{readAs, placesOf}
@@ -22,7 +25,7 @@ use Rattle.identities.specs.Identities.{identitiesGood}
 use Rattle.routing.specs.declared.Broker.{Broker}
 use Rattle.routing.specs.Requests.{requestWay}
 use Rattle.routing.specs.Responses.{responseWay}
-use Rattle.routing.specs.Routed.{Tables, Outcome, requested, responded, routed}
+use Rattle.routing.specs.Routed.{Tables, Outcome, delivered, forwarded, replied, silenced, home, requested, responded, routed}
 use Rattle.broker.specs.Step.{roomFor, passOf, stepOf}
 use Rattle.broker.specs.Working.{heldIn}
 
@@ -107,3 +110,49 @@ module _ (t : Tables) (who : Broker) (b : List ℕ) where
     pub step-pass : identitiesGood (t .tree) (t .identities) ≡ true → stepOf t who b ≡ passOf t who b
     unfolding stepOf
     step-pass e = rw (g, s, e)
+
+-- ---- what an answer tells of the tests in front of it
+
+-- only room is asked for behind the step on the message
+room-same : (n : ℕ) (o p : Outcome) → roomFor n o ≡ answered p → o ≡ p
+room-same n (delivered number) p e = answered-same e
+room-same n (forwarded next m) p e = answered-same (passed (ltb n (length (frameOf m))) ShortOutput (answered (forwarded next m)) p e .rest)
+room-same n (replied errnum m) p e = answered-same e
+room-same n (silenced errnum) p e = answered-same e
+room-same n home p e = answered-same e
+
+pub record Took (t : Tables) (who : Broker) (b : List ℕ) (o : Outcome) : Type 0 where
+  pub tree : treeGood (t .tree) ≡ true
+  pub services : servicesGood (t .tree) (t .services) ≡ true
+  pub identities : identitiesGood (t .tree) (t .identities) ≡ true
+  pub inside : who .rank < ranksIn (t .tree)
+  pub message : Message
+  pub read : readingOf b ≡ answered message
+  pub does : routed t who message ≡ answered o
+  pub room : roomFor (length b) o ≡ answered o
+
+pub step-took : (t : Tables) (who : Broker) (b : List ℕ) (o : Outcome) → stepOf t who b ≡ answered o → Took t who b o
+unfolding stepOf passOf
+step-took t who b o e =
+    let onMessage : Message → Answer Outcome = λ m. andThen (routed t who m) (roomFor (length b)) in
+    let reads : Answer Outcome = andThen (readingOf b) onMessage in
+    let ranked : Answer Outcome = refuseIf (not (ltb (who .rank) (ranksIn (t .tree)))) WrongRank reads in
+    let named : Answer Outcome = refuseIf (not (identitiesGood (t .tree) (t .identities))) WrongIdentities ranked in
+    let served : Answer Outcome = refuseIf (not (servicesGood (t .tree) (t .services))) WrongServices named in
+    let p₁ = passed (not (treeGood (t .tree))) WrongTree served o e in
+    let p₂ = passed (not (servicesGood (t .tree) (t .services))) WrongServices named o (p₁ .rest) in
+    let p₃ = passed (not (identitiesGood (t .tree) (t .identities))) WrongIdentities ranked o (p₂ .rest) in
+    let p₄ = passed (not (ltb (who .rank) (ranksIn (t .tree)))) WrongRank reads o (p₃ .rest) in
+    let read = both (readingOf b) onMessage o (p₄ .rest) in
+    let done = both (routed t who (read .value)) (roomFor (length b)) o (read .second) in
+    let same = room-same (length b) (done .value) o (done .second) in
+    record {
+      tree = not-false (treeGood (t .tree)) (p₁ .test);
+      services = not-false (servicesGood (t .tree) (t .services)) (p₂ .test);
+      identities = not-false (identitiesGood (t .tree) (t .identities)) (p₃ .test);
+      inside = ltb-true (who .rank) (ranksIn (t .tree)) (not-false (ltb (who .rank) (ranksIn (t .tree))) (p₄ .test));
+      message = read .value;
+      read = read .first;
+      does = done .first ∙ ap answered same;
+      room = sym (ap (roomFor (length b)) same) ∙ done .second;
+    }

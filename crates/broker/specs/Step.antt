@@ -1,15 +1,15 @@
 -- One broker's step on a buffer: "Given the tables, the broker's rank, whether the message came from a local client, and a buffer with the frame at its
 -- front." The step on the message itself is `routed` (routing/specs/Routed.antt). Assumes nothing.
 use mathlib.Core.Path.{_≡_}
-use Prim.Native.Nat.{ℕ, _+_}
+use Prim.Native.Nat.{ℕ}
 use mathlib.Core.Bool.{not}
-use mathlib.Core.List.{List, [], _∷_}
+use mathlib.Core.List.{List}
 use lib.Dec.{ltb}
 use lib.ListN.{length}
 use Rattle.message.specs.declared.Refusal.the-variants.{ShortOutput, WrongTree, WrongServices, WrongIdentities, WrongRank}
 use Rattle.message.specs.Answer.{Answer, refused, answered, refuseIf, andThen}
 use Rattle.message.specs.Frame.{frameOf}
-use Rattle.message.specs.Reading.{bodyLength, readingOf}
+use Rattle.message.specs.Reading.{readingOf}
 use Rattle.tree.specs.Tree.{ranksIn}
 use Rattle.tree.specs.Depths.{treeGood}
 use Rattle.services.specs.Services.{servicesGood}
@@ -61,36 +61,7 @@ abbrev pub leftBy : Answer Outcome → List ℕ → List ℕ
 leftBy (refused r) buffer = buffer
 leftBy (answered o) buffer = leftAfter o buffer
 
--- ---- what is told: "four big-endian numbers: answer, its number (record or rank, else 0), error number or 0, length of the frame now in the buffer"
-
-abbrev pub answerOf : Outcome → ℕ
-answerOf (delivered number) = 1
-answerOf (forwarded next m) = 2
-answerOf (replied errnum m) = 3
-answerOf (silenced errnum) = 4
-answerOf home = 5
-
-abbrev pub subjectOf : Outcome → ℕ
-subjectOf (delivered number) = number
-subjectOf (forwarded next m) = next
-subjectOf (replied errnum m) = 0
-subjectOf (silenced errnum) = 0
-subjectOf home = 0
-
-abbrev pub errorOf : Outcome → ℕ
-errorOf (delivered number) = 0
-errorOf (forwarded next m) = 0
-errorOf (replied errnum m) = errnum
-errorOf (silenced errnum) = errnum
-errorOf home = 0
-
--- a frame says its length in its first eight bytes
-abbrev pub frameLength : List ℕ → ℕ
-frameLength buffer = 8 + bodyLength buffer
-
--- of an outcome and of what the buffer holds now
-abbrev pub numbersOf : Outcome → List ℕ → List ℕ
-numbersOf o buffer = answerOf o ∷ subjectOf o ∷ errorOf o ∷ frameLength buffer ∷ []
+-- ---- what is told
 
 -- the code's answer, for each case of the paper's
 abbrev pub toldAs : Answer Outcome → Stepped

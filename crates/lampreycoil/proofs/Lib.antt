@@ -3,3 +3,4 @@ pub mod Telling
 pub mod ReadCalls
 pub mod WriteCalls
 pub mod TreeCalls
+pub mod StepCalls

@@ -2,8 +2,9 @@
 -- Assumes nothing.
 use mathlib.Core.Path.{_≡_}
 use Prim.Native.Nat.{ℕ}
+use mathlib.Core.Bool.{not}
 use mathlib.Core.List.{List, [], _∷_}
-use lib.Dec.{ltb}
+use lib.Dec.{eqb, ltb}
 use lib.ListN.{length}
 use Rattle.octets.specs.Number.{rowBytes}
 use Rattle.octets.specs.Laid.{laid}
@@ -15,7 +16,11 @@ use Rattle.message.specs.Message.{Message}
 use Rattle.message.specs.Reading.{readingOf}
 use Rattle.message.specs.Writing.{writingInto}
 use Rattle.tree.specs.Checking.{depthsInto}
+use Rattle.routing.specs.declared.Broker.{Broker}
+use Rattle.routing.specs.Routed.{Tables, Outcome}
+use Rattle.broker.specs.Step.{stepOf, leftBy, toldAs}
 use Rattle.rows.specs.Rows.{readRow}
+use Rattle.rows.specs.Steps.{stepRow, frameLength}
 use Rattle.body.specs.Places.{placesOf}
 
 -- ---- what a call tells of its answer
@@ -82,3 +87,30 @@ treeCall tree room rowRoom = refuseIf (ltb rowRoom countRecord) ShortOutput (dep
 -- lampreycoil_check_tree
 abbrev pub ChecksTree : List ℕ → List ℕ → List ℕ → ℕ → List ℕ → List ℕ → Type 0
 ChecksTree tree depths row r filled listed = Fills (treeCall tree (length depths) (length row)) depths row r filled listed
+
+-- ---- the step: "The host's step call also writes 16 bytes"
+
+abbrev pub stepRecord : ℕ
+stepRecord = 16
+
+-- the host's broker: from_client is no where it is 0, and an error reply has "userid FFFFFFFF, rolemask 0"
+abbrev pub hostBroker : ℕ → ℕ → Broker
+hostBroker rank fromClient = record { rank = rank; client = not (eqb fromClient 0); userid = 4294967295; rolemask = 0 }
+
+-- "A record buffer below 16 bytes gives 11 before anything else"
+unfoldable pub stepCall : Tables → Broker → List ℕ → ℕ → Answer Outcome
+stepCall t b buffer rowRoom = refuseIf (ltb rowRoom stepRecord) ShortOutput (stepOf t b buffer)
+
+-- the four numbers of an answer, where this is left in the buffer
+abbrev pub stepNumbers : List ℕ → Answer Outcome → Answer (List ℕ)
+stepNumbers left answer = andThen answer (λ o. answered (stepRow (toldAs (answered o)) (frameLength left)))
+
+-- a step that ends with this answer: it returns r, and leaves the buffer and the record so
+pub record Tells (answer : Answer Outcome) (buffer row : List ℕ) (r : ℕ) (left listed : List ℕ) : Type 0 where
+  pub returns : r ≡ returned answer
+  pub leaves : left ≡ leftBy answer buffer
+  pub lists : listed ≡ recorded (stepNumbers left answer) row
+
+-- lampreycoil_step
+abbrev pub Steps : Tables → Broker → List ℕ → List ℕ → ℕ → List ℕ → List ℕ → Type 0
+Steps t b buffer row r left listed = Tells (stepCall t b buffer (length row)) buffer row r left listed

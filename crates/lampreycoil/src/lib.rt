@@ -7,6 +7,7 @@ use message::Refusal;
 ghost use Rattle.lampreycoil.specs.Calls.{Reads, headerOf, Writes};
 ghost use Rattle.message.specs.Writing.{givenMessage};
 
+pub mod step;
 pub mod tables;
 
 // Bytes of a record: thirteen numbers of a read, and one that counts bytes.

@@ -1,2 +1,3 @@
--- What the clauses of this crate's functions cite.
+-- What the promises of this crate's functions cite: an answer as a row of numbers.
 pub mod Rows
+pub mod Steps

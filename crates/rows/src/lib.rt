@@ -1,9 +1,11 @@
 // The records that a C program gets: an answer as a row of numbers, four bytes each.
 use body::Frame;
+use broker::Stepped;
 ghost use mathlib.Core.Path.{_≡_};
 ghost use Rattle.octets.specs.Number.{rowBytes};
 ghost use Rattle.octets.specs.Laid.{laidIfRoom};
 ghost use Rattle.rows.specs.Rows.{readRow};
+ghost use Rattle.rows.specs.Steps.{refusalIn, stepRow};
 
 // Lists where a message lies, if there is room for all of it.
 pub fn put_frame(row: &mut [u8], f: Frame)
@@ -28,4 +30,32 @@ pub fn put_frame(row: &mut [u8], f: Frame)
         payload.len,
     ];
     octets::put_row(row, &numbers);
+}
+
+// The number of a step's refusal, or 0.
+pub fn refusal_in(s: Stepped) -> u32
+    ensures { λ r. ⌜ r ≡ refusalIn s ⌝ }
+{
+    match s {
+        Stepped::Refused(r) => message::number(r),
+        Stepped::Delivered(_) => 0,
+        Stepped::Forwarded(_) => 0,
+        Stepped::Replied(_) => 0,
+        Stepped::Silenced(_) => 0,
+        Stepped::Home => 0,
+    }
+}
+
+// A step as four numbers: the answer, its record or rank, its error, and the length that the frame now has. A refusal has none of them.
+pub fn step_row(s: Stepped, length: usize) -> [usize; 4]
+    ensures { λ r. ⌜ r ≡ stepRow s length ⌝ }
+{
+    match s {
+        Stepped::Refused(_) => [0, 0, 0, 0],
+        Stepped::Delivered(number) => [1, number, 0, length],
+        Stepped::Forwarded(next) => [2, next as usize, 0, length],
+        Stepped::Replied(errnum) => [3, 0, errnum as usize, length],
+        Stepped::Silenced(errnum) => [4, 0, errnum as usize, length],
+        Stepped::Home => [5, 0, 0, length],
+    }
 }
