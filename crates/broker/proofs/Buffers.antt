@@ -34,7 +34,7 @@ unfolding frameOf
 frame-long m = omega arith
 
 -- behind the topic come at least the header's twenty bytes and their size
-header-last : (m : Message) → 21 ≤ length (joined (payloadPart m ++ (headerBytes (m .header) ∷ [])))
+pub header-last : (m : Message) → 21 ≤ length (joined (payloadPart m ++ (headerBytes (m .header) ∷ [])))
 unfolding headerBytes
 header-last m =
     let head = headerBytes (m .header) ∷ [] in

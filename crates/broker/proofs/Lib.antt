@@ -3,3 +3,5 @@ pub mod Bodies
 pub mod Buffers
 pub mod Lying
 pub mod Passing
+pub mod Keeping
+pub mod Forwarding

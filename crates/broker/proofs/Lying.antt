@@ -43,7 +43,7 @@ use Rattle.broker.specs.Working.{heldIn, Lies}
 use Rattle.broker.proofs.Bodies.{pushed-body, popped-body, frontOf}
 use Rattle.broker.proofs.Buffers.{frame-long, body-short, body-within, popped-left}
 
-or-right-holds : (a : Bool) {b : Bool} → b ≡ true → (a || b) ≡ true
+pub or-right-holds : (a : Bool) {b : Bool} → b ≡ true → (a || b) ≡ true
 or-right-holds true e = refl
 or-right-holds false e = e
 
