@@ -1,0 +1,11 @@
+-- `path::is_followed` meets its contract.
+-- Assumes nothing.
+use Rattle.path.proofs.Leading.{followed}
+use Rattle.path.proofs.is_followed.Statement.{statement}
+use Rattle.path.proofs.is_followed.Tie as tie
+
+returns : tie.Need-returns
+returns c = followed (c .args .tree .now) (c .args .services .now) (c .args .entry) (c .args .header) (c .args .topic .now)
+
+pub is-followed-spec : {M : Type 1} → statement M
+is-followed-spec = tie.close (tie.spec returns)
