@@ -2,3 +2,5 @@
 pub mod Path
 -- What the brokers of a path do with the request.
 pub mod Leading
+-- The walks of the paper's last table.
+pub mod Walks
