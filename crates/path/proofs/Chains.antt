@@ -49,6 +49,18 @@ module _ (tree : List ℕ) where
   pub tree-depth-most : treeGood tree ≡ true → treeDepth tree ≤ 16
   tree-depth-most g = tree-depth-least 16 (good-depth tree g)
 
+-- ---- the last of a list
+
+pub final-next : (r s : ℕ) (rs : List ℕ) → final 0 (r ∷ s ∷ rs) ≡ final 0 (s ∷ rs)
+final-next r s rs =
+    let more : suc (suc (length rs)) - 1 ≡ suc (suc (length rs) - 1) = omega arith in
+    ap (λ (k : ℕ). getD (r ∷ s ∷ rs) k 0) more
+
+final-append : (rs : List ℕ) (r : ℕ) (ss : List ℕ) → final 0 (rs ++ (r ∷ ss)) ≡ final 0 (r ∷ ss)
+final-append [] r ss = refl
+final-append (q ∷ []) r ss = final-next q r ss
+final-append (q ∷ p ∷ rs) r ss = final-next q p (rs ++ (r ∷ ss)) ∙ final-append (p ∷ rs) r ss
+
 -- ---- the two ways along a chain
 
 -- the k ranks on the way up from r, itself first, in front of the one that is k parents above it
@@ -60,6 +72,10 @@ rise tree (suc k) r = r ∷ rise tree k (parentOf tree r)
 unfoldable pub fall : List ℕ → ℕ → ℕ → List ℕ
 fall tree zero r = []
 fall tree (suc k) r = above tree k r ∷ fall tree k r
+
+-- a way up, where it turns, and a way down
+joined : {up up′ down down′ : List ℕ} {top top′ : ℕ} → up ≡ up′ → top ≡ top′ → down ≡ down′ → up ++ (top ∷ down) ≡ up′ ++ (top′ ∷ down′)
+joined p q r = λ i. p i ++ (q i ∷ r i)
 
 module _ (tree : List ℕ) where
   rise-last : (k r : ℕ) → rise tree (suc k) r ≡ rise tree k r ++ (above tree k r ∷ [])
@@ -76,6 +92,12 @@ module _ (tree : List ℕ) where
   unfolding fall
   length-fall zero r = refl
   length-fall (suc k) r = ap suc (length-fall k r)
+
+  -- the way down ends at r
+  pub final-fall : (k r : ℕ) → final 0 (above tree k r ∷ fall tree k r) ≡ r
+  unfolding fall
+  final-fall zero r = above-none tree r
+  final-fall (suc k) r = final-next (above tree (suc k) r) (above tree k r) (fall tree k r) ∙ final-fall k r
 
   -- the one is the other backwards
   pub reverse-rise : (k r : ℕ) → reverse (rise tree k r) ≡ fall tree k r
@@ -203,9 +225,12 @@ module _ (tree : List ℕ) where
       pub rank-path-is : rankPath tree from target ≡ rise tree (m .up) from ++ (above tree (m .up) from ∷ fall tree (m .down) target)
       unfolding rankPath
       rank-path-is =
-          rw (
-            common-is,
-            below-chain (m .up) from (above tree (m .up) from) hf (m .up-most) refl,
-            below-chain (m .down) target (above tree (m .up) from) ht (m .down-most) (sym (m .there)),
-            reverse-rise (m .down) target,
-          )
+          let top = commonAncestor tree from target in
+          joined (below-chain (m .up) from top hf (m .up-most) (sym common-is)) common-is
+          (ap reverse (below-chain (m .down) target top ht (m .down-most) (sym (common-is ∙ m .there))) ∙ reverse-rise (m .down) target)
+
+      -- the last broker is the target
+      pub rank-path-ends : final 0 (rankPath tree from target) ≡ target
+      rank-path-ends =
+          ap (final 0) rank-path-is ∙ final-append (rise tree (m .up) from) (above tree (m .up) from) (fall tree (m .down) target)
+          ∙ ap (λ (r : ℕ). final 0 (r ∷ fall tree (m .down) target)) (m .there) ∙ final-fall (m .down) target
