@@ -4,3 +4,4 @@ pub mod ReadCalls
 pub mod WriteCalls
 pub mod TreeCalls
 pub mod StepCalls
+pub mod WalkCalls

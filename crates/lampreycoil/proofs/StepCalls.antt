@@ -45,7 +45,7 @@ pub tells-refused : {answer : Answer Outcome} {q : Refusal} {buffer row : List �
 tells-refused is told = tells-on is (record { returns = told; leaves = refl; lists = refl })
 
 -- no answer has the number of a refusal
-no-refusal : (o : Outcome) → refusalIn (toldAs (answered o)) ≡ 0
+pub no-refusal : (o : Outcome) → refusalIn (toldAs (answered o)) ≡ 0
 no-refusal (delivered number) = refl
 no-refusal (forwarded next m) = refl
 no-refusal (replied errnum m) = refl

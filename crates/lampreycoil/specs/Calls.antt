@@ -1,9 +1,9 @@
 -- The C calls, as include/lampreycoil.h describes them: what each returns, and what it leaves in the slices that it was lent.
 -- Assumes nothing.
 use mathlib.Core.Path.{_≡_}
-use Prim.Native.Nat.{ℕ}
+use Prim.Native.Nat.{ℕ, _<_, _≤_}
 use mathlib.Core.Bool.{not}
-use mathlib.Core.List.{List, [], _∷_}
+use mathlib.Core.List.{List, [], _∷_, _++_}
 use lib.Dec.{eqb, ltb}
 use lib.ListN.{length}
 use Rattle.octets.specs.Number.{rowBytes}
@@ -19,6 +19,7 @@ use Rattle.tree.specs.Checking.{depthsInto}
 use Rattle.routing.specs.declared.Broker.{Broker}
 use Rattle.routing.specs.Routed.{Tables, Outcome}
 use Rattle.broker.specs.Step.{stepOf, leftBy, toldAs}
+use Rattle.walk.specs.Walk.{Walk, walkOf}
 use Rattle.rows.specs.Rows.{readRow}
 use Rattle.rows.specs.Steps.{stepRow, frameLength}
 use Rattle.body.specs.Places.{placesOf}
@@ -114,3 +115,23 @@ pub record Tells (answer : Answer Outcome) (buffer row : List ℕ) (r : ℕ) (le
 -- lampreycoil_step
 abbrev pub Steps : Tables → Broker → List ℕ → List ℕ → ℕ → List ℕ → List ℕ → Type 0
 Steps t b buffer row r left listed = Tells (stepCall t b buffer (length row)) buffer row r left listed
+
+-- ---- the walk
+
+abbrev pub walkRecord : ℕ
+walkRecord = 24
+
+-- a walk's record: the step's four numbers, then the rank at which it rests and the links crossed; where it is refused the four are 0
+abbrev pub walkNumbers : Walk → List ℕ
+walkNumbers w = stepRow (toldAs (w .answer)) (frameLength (w .left)) ++ (w .rank ∷ w .links ∷ [])
+
+-- a walk that comes to w: it returns r, and leaves the buffer and the record so
+pub record Reports (w : Walk) (row : List ℕ) (r : ℕ) (left listed : List ℕ) : Type 0 where
+  pub returns : r ≡ returned (w .answer)
+  pub leaves : left ≡ w .left
+  pub lists : listed ≡ laid (rowBytes (walkNumbers w)) row
+
+-- lampreycoil_walk: a record that is too short is 11 before all else, and nothing is written
+pub record Plays (t : Tables) (b : Broker) (buffer row : List ℕ) (r : ℕ) (left listed : List ℕ) : Type 0 where
+  pub short : length row < walkRecord → (r ≡ numberOf ShortOutput) × (left ≡ buffer) × (listed ≡ row)
+  pub walks : walkRecord ≤ length row → Reports (walkOf t b buffer) row r left listed

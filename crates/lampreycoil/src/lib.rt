@@ -4,16 +4,32 @@ use body::Reading;
 use draft::Written;
 use message::Header;
 use message::Refusal;
+ghost use mathlib.Core.Path.{_≡_};
+ghost use Prim.Native.Nat.{_≤_};
+ghost use lib.ListN.{length};
+ghost use Rattle.rows.specs.Steps.{frameLength};
 ghost use Rattle.lampreycoil.specs.Calls.{Reads, headerOf, Writes};
 ghost use Rattle.message.specs.Writing.{givenMessage};
 
 pub mod step;
 pub mod tables;
+pub mod walks;
 
 // Bytes of a record: thirteen numbers of a read, and one that counts bytes.
 const READ_RECORD: usize = 52;
 
 const COUNT_RECORD: usize = 4;
+
+// The userid of an error reply: nobody's. Its rolemask is 0.
+const NO_USER: u32 = 4294967295;
+
+// How long the frame at the front of a buffer is, by its first eight bytes.
+fn frame_length(buffer: &[u8]) -> usize
+    requires { ⌜ 8 ≤ length (now buffer) ⌝ }
+    ensures { λ r. ⌜ r ≡ frameLength (now (buffer .entry)) ⌝ }
+{
+    body::FRONT + octets::number_of(buffer[4], buffer[5], buffer[6], buffer[7]) as usize
+}
 
 // Reads the frame at the front of bytes, and lists where its parts lie.
 #[no_mangle]

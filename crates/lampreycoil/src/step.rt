@@ -1,25 +1,13 @@
 // One broker's step.
+use crate::NO_USER;
+use crate::frame_length;
 use message::Refusal;
 use routing::Broker;
-ghost use mathlib.Core.Path.{_≡_};
-ghost use Prim.Native.Nat.{_≤_};
-ghost use lib.ListN.{length};
 ghost use Rattle.routing.specs.Routed.{tablesOf};
-ghost use Rattle.rows.specs.Steps.{frameLength};
 ghost use Rattle.lampreycoil.specs.Calls.{hostBroker, Steps};
 
 // Bytes of a step's record: four numbers.
 const STEP_RECORD: usize = 16;
-// The userid of an error reply: nobody's. Its rolemask is 0.
-const NO_USER: u32 = 4294967295;
-
-// How long the frame at the front of a buffer is, by its first eight bytes.
-fn frame_length(buffer: &[u8]) -> usize
-    requires { ⌜ 8 ≤ length (now buffer) ⌝ }
-    ensures { λ r. ⌜ r ≡ frameLength (now (buffer .entry)) ⌝ }
-{
-    body::FRONT + octets::number_of(buffer[4], buffer[5], buffer[6], buffer[7]) as usize
-}
 
 // Makes one broker's step with the frame at the front of buffer, and lists what came of it.
 #[no_mangle]

@@ -1,10 +1,11 @@
 -- A step as a row of numbers: "answer, its number (record or rank, else 0), error number or 0, length of the frame now in the buffer". Assumes nothing.
 use Prim.Native.Nat.{ℕ, _+_}
-use mathlib.Core.List.{List, [], _∷_}
+use mathlib.Core.List.{List, [], _∷_, _++_}
 use Rattle.message.specs.Reading.{bodyLength}
 use Rattle.message.specs.Refusals.{numberOf}
 use Rattle.broker.specs.declared.Stepped.{Stepped}
 use Rattle.broker.specs.declared.Stepped.the-variants.{Refused, Delivered, Forwarded, Replied, Silenced, Home}
+use Rattle.walk.specs.declared.Walked.{Walked}
 
 -- "Its return is the refusal number, or 0."
 abbrev pub refusalIn : Stepped → ℕ
@@ -24,6 +25,10 @@ stepRow (Forwarded next) length = 2 ∷ next ∷ 0 ∷ length ∷ []
 stepRow (Replied errnum) length = 3 ∷ 0 ∷ errnum ∷ length ∷ []
 stepRow (Silenced errnum) length = 4 ∷ 0 ∷ errnum ∷ length ∷ []
 stepRow Home length = 5 ∷ 0 ∷ 0 ∷ length ∷ []
+
+-- a walk: "that answer, the rank and the links crossed"
+abbrev pub walkRow : Walked → ℕ → List ℕ
+walkRow w length = stepRow (w .step) length ++ (w .rank ∷ w .links ∷ [])
 
 -- "length of the frame now in the buffer": a frame says it in its first eight bytes
 abbrev pub frameLength : List ℕ → ℕ

@@ -1,11 +1,12 @@
 // The records that a C program gets: an answer as a row of numbers, four bytes each.
 use body::Frame;
 use broker::Stepped;
+use walk::Walked;
 ghost use mathlib.Core.Path.{_≡_};
 ghost use Rattle.octets.specs.Number.{rowBytes};
 ghost use Rattle.octets.specs.Laid.{laidIfRoom};
 ghost use Rattle.rows.specs.Rows.{readRow};
-ghost use Rattle.rows.specs.Steps.{refusalIn, stepRow};
+ghost use Rattle.rows.specs.Steps.{refusalIn, stepRow, walkRow};
 
 // Lists where a message lies, if there is room for all of it.
 pub fn put_frame(row: &mut [u8], f: Frame)
@@ -58,4 +59,20 @@ pub fn step_row(s: Stepped, length: usize) -> [usize; 4]
         Stepped::Silenced(errnum) => [4, 0, errnum as usize, length],
         Stepped::Home => [5, 0, 0, length],
     }
+}
+
+// A walk as six numbers: the last step's four, the rank at which it rests, and the links crossed.
+pub fn walk_row(w: Walked, length: usize) -> [usize; 6]
+    ensures { λ r. ⌜ r ≡ walkRow w length ⌝ }
+{
+    let step = w.step;
+    let four = step_row(step, length);
+    [
+        four[0],
+        four[1],
+        four[2],
+        four[3],
+        w.rank as usize,
+        w.links as usize,
+    ]
 }

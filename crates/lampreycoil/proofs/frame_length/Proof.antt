@@ -1,11 +1,11 @@
--- `lampreycoil::step::frame_length` meets its contract.
+-- `lampreycoil::frame_length` meets its contract.
 -- Assumes nothing.
 use borrow.Author.Needs.{needs}
 use mathlib.Core.Path.{_≡_, ap, _∙_}
 use Prim.Native.Nat.{ℕ, _+_}
 use Rattle.octets.proofs.Numbers.{number-at}
-use Rattle.lampreycoil.proofs.step.frame_length.Statement.{statement}
-use Rattle.lampreycoil.proofs.step.frame_length.Tie as tie
+use Rattle.lampreycoil.proofs.frame_length.Statement.{statement}
+use Rattle.lampreycoil.proofs.frame_length.Tie as tie
 
 shared-slice-read-number-of : tie.Need-shared-slice-read-number-of
 shared-slice-read-number-of c = search needs
