@@ -1,6 +1,6 @@
 /*
- * lampreycoil.h: the C calls of Lampreycoil, which reads and writes framed Flux messages (RFC 3)
- * and checks the tables of the brokers that pass them on.
+ * lampreycoil.h: the C calls of Lampreycoil, which reads and writes framed Flux messages (RFC 3),
+ * checks the tables of the brokers that pass them on, and makes one broker's step.
  * The functions are in the archive liblampreycoil.a. Usable from C99 and from C++.
  *
  * How every call works
@@ -14,6 +14,8 @@
  *   front of a slice lent for it. lampreycoil_number() reads one of them. A record slice that is
  *   too short is refused with 11 before anything else; a longer one keeps its tail as it was.
  * - A refusal writes nothing, to any slice.
+ * - Nothing is allocated. A call takes less than LAMPREYCOIL_STACK_MAX bytes of stack, whatever it
+ *   is given; this is measured (host/test.sh) and not proved.
  */
 #ifndef LAMPREYCOIL_H
 #define LAMPREYCOIL_H
@@ -51,12 +53,20 @@ enum lampreycoil_refusal {
     LAMPREYCOIL_FIELD_WRONG = 10,
     /* a lent output too short */
     LAMPREYCOIL_OUTPUT_SHORT = 11,
+    /* forwarding would make 65 routes or a body above 32,768 */
+    LAMPREYCOIL_FORWARD_LONG = 12,
     /* tree wrong (a wrong length included) */
     LAMPREYCOIL_TREE_WRONG = 14,
     /* services wrong (a wrong length included) */
     LAMPREYCOIL_SERVICES_WRONG = 15,
     /* identities wrong (a wrong length included) */
-    LAMPREYCOIL_IDENTITIES_WRONG = 16
+    LAMPREYCOIL_IDENTITIES_WRONG = 16,
+    /* rank not in the tree */
+    LAMPREYCOIL_RANK_WRONG = 17,
+    /* step given an event or control */
+    LAMPREYCOIL_NOT_ROUTED = 18,
+    /* a response's top route is a broker that is no neighbour, itself included */
+    LAMPREYCOIL_NO_NEIGHBOUR = 19
 };
 
 /* A message's type, with the names of its two fields. */
@@ -81,7 +91,7 @@ enum lampreycoil_flag {
 /* Sizes, in bytes where nothing else is said. */
 enum lampreycoil_size {
     LAMPREYCOIL_ROUTE_SIZE = 37, /* 36 characters and a zero byte */
-    LAMPREYCOIL_ROUTE_STEP = 38, /* from one route's data to the next one's, in a frame */
+    LAMPREYCOIL_ROUTE_STEP = 38, /* a route with its size: from one's data to the next one's */
     LAMPREYCOIL_ROUTES_MAX = 64, /* routes */
     LAMPREYCOIL_TOPIC_MAX = 255, /* without the zero byte */
     LAMPREYCOIL_BODY_MAX = 32768,
@@ -91,7 +101,8 @@ enum lampreycoil_size {
     LAMPREYCOIL_SERVICES_MAX = 1024, /* records of services */
     LAMPREYCOIL_SERVICE_SIZE = 32,   /* rank (4), name length (1), name, zero padding */
     LAMPREYCOIL_NAME_MAX = 27,       /* a service's name */
-    LAMPREYCOIL_DEPTH_MAX = 16       /* links from a rank to rank 0 */
+    LAMPREYCOIL_DEPTH_MAX = 16,      /* links from a rank to rank 0 */
+    LAMPREYCOIL_STACK_MAX = 16384    /* stack that a call takes */
 };
 
 #define LAMPREYCOIL_NODEID_ANY 0xFFFFFFFFu     /* a request's nodeid: any rank */
@@ -131,6 +142,30 @@ enum lampreycoil_check_tree_index {
 enum lampreycoil_write_index {
     LAMPREYCOIL_WRITE_LENGTH = 0, /* bytes of the frame written */
     LAMPREYCOIL_WRITE_RECORD = 4  /* no index: the record's size in bytes, 1 number */
+};
+
+/* What a broker did with a message, and what its daemon does now. */
+enum lampreycoil_answer {
+    LAMPREYCOIL_DELIVERED = 1, /* this broker has the service: the request is for it */
+    LAMPREYCOIL_FORWARD = 2,   /* the message goes to another broker: send the new frame there */
+    LAMPREYCOIL_REPLIED = 3,   /* the request is now its error reply: step again, with the reply */
+    LAMPREYCOIL_SILENCED = 4,  /* an error was due, but LAMPREYCOIL_NORESPONSE is set: drop it */
+    LAMPREYCOIL_HOME = 5       /* the response is for this broker, or for a client of its own */
+};
+
+/* The errors of answers 3 and 4, with the numbers that Linux has for them. */
+enum lampreycoil_error {
+    LAMPREYCOIL_NO_SERVICE = 38, /* ENOSYS: nobody whom the request may reach has the service */
+    LAMPREYCOIL_NO_RANK = 113    /* EHOSTUNREACH: the nodeid is no rank of the tree */
+};
+
+/* The numbers of lampreycoil_step's record, by index. */
+enum lampreycoil_step_index {
+    LAMPREYCOIL_STEP_ANSWER = 0, /* enum lampreycoil_answer */
+    LAMPREYCOIL_STEP_NUMBER = 1, /* 1: the service's record, counted from 0; 2: the rank; else 0 */
+    LAMPREYCOIL_STEP_ERROR = 2,  /* 3 and 4: enum lampreycoil_error; else 0 */
+    LAMPREYCOIL_STEP_LENGTH = 3, /* of the frame that is now in the buffer */
+    LAMPREYCOIL_STEP_RECORD = 16 /* no index: the record's size in bytes, 4 numbers */
 };
 
 /*
@@ -187,6 +222,40 @@ uint32_t lampreycoil_check_services(const uint8_t *tree, size_t tree_length,
  */
 uint32_t lampreycoil_check_identities(const uint8_t *tree, size_t tree_length,
                                       const uint8_t *identities, size_t identities_length);
+
+/*
+ * Makes one broker's step with the message whose frame begins at buffer's front: decides where it
+ * goes, makes the frame that goes there, and writes what was done to record, which takes
+ * LAMPREYCOIL_STEP_RECORD bytes.
+ *
+ * tree, services and identities are the tables that the checks above take. Every step checks all
+ * three, so nobody has to check them before. rank is the broker's own. from_client is 0 where
+ * another broker sent the message, or the broker made it by itself; any other number says that it
+ * came from a local client. It matters only to a request with LAMPREYCOIL_UPSTREAM and a nodeid
+ * other than LAMPREYCOIL_NODEID_ANY.
+ *
+ * buffer is the frame and all the room behind it, and buffer_length the length of both:
+ * - After 2 a request has this broker's identity on top of its routes, and its frame is
+ *   LAMPREYCOIL_ROUTE_STEP bytes longer. Only this needs room; with LAMPREYCOIL_FRAME_MAX bytes
+ *   there is always enough. A response is without its top route, and as many bytes shorter.
+ * - After 3 the frame is the error reply: a response with the request's routes, topic and matchtag,
+ *   the error as errnum, userid LAMPREYCOIL_USERID_UNKNOWN, rolemask 0 and no payload. It is never
+ *   longer than the request. Another step, with from_client 0, tells where it goes.
+ * - After 2 and 3 every byte behind the new frame is zero, to the end of buffer. Lend only what may
+ *   be cleared: a next message that was received behind the first one would be lost.
+ * - After 1, 4 and 5, and after a refusal, no byte of buffer has changed.
+ *
+ * Neither buffer nor record may overlap with each other or with a table.
+ *
+ * Refusals, in the order in which they are looked for: 11 for the record; 14; 15; 16; 17; those of
+ * lampreycoil_read; 18; 19; 12; 11 for buffer. The last two come only where a request is to be
+ * forwarded.
+ */
+uint32_t lampreycoil_step(const uint8_t *tree, size_t tree_length, const uint8_t *services,
+                          size_t services_length, const uint8_t *identities,
+                          size_t identities_length, uint32_t rank, uint32_t from_client,
+                          uint8_t *buffer, size_t buffer_length, uint8_t *record,
+                          size_t record_length);
 
 /* The number at index of a record that a call has filled. */
 static inline uint32_t lampreycoil_number(const uint8_t *record, size_t index)
