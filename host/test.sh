@@ -1,5 +1,6 @@
 #!/usr/bin/env bash
 # Tests the host program: the bytes of paper 01, each refusal that it can meet, files and wrong usage.
+# Then the step through the header, and the examples of README.md.
 # The program is FLUX_FRAME, or else what `make host` builds. The last line is 'N passed, M failed'.
 set -u
 cd "$(dirname "$0")/.." || exit 2
@@ -78,6 +79,23 @@ wrong() { # LABEL TEXT WORDS...
     run "$@" </dev/null
     [ "$status" -eq 2 ] && [ ! -s "$room/out" ] && grep -qF -- "$text" "$room/err"
     report $? "$label"
+}
+
+# A program of host/test/ compiles with the header and the archive; each line that it writes is a test.
+program() { # NAME
+    local line
+    "${CC:-gcc}" -std=c99 -O2 -Wall -Wextra -Wconversion -pedantic -Werror -Iinclude -I"$room" \
+        -o "$room/$1" "host/test/$1.c" target/staticlib/liblampreycoil.a >"$room/out" 2>"$room/err" &&
+        "$room/$1" >"$room/out" 2>"$room/err"
+    status=$?
+    report "$status" "host/test/$1.c"
+    [ "$status" -eq 0 ] || return
+    while read -r line; do
+        case $line in
+        passed:*) passed=$((passed + 1)) ;;
+        *) failed=$((failed + 1)) && echo "$line" ;;
+        esac
+    done <"$room/out"
 }
 
 # ---- the words of paper 01
@@ -261,6 +279,14 @@ wrong 'a folder for a frame' "cannot read $room" dump "$room"
 wrong 'an output that cannot be made' "cannot write $room/no/where" write --type event --topic x -o "$room/no/where"
 bytes 1048577 >"$room/huge"
 wrong 'an input that is too long' 'longer than 1048576 bytes' dump "$room/huge"
+
+# ---- the step, and the examples of README.md
+
+awk '/^```c$/ { code = 1; next } /^```$/ { code = 0 } code' README.md >"$room/readme.c"
+"${CC:-gcc}" -std=c99 -Wall -Wextra -Werror -Iinclude -c -o "$room/readme.o" "$room/readme.c" >"$room/out" 2>"$room/err"
+status=$?
+report "$status" 'the examples of README.md compile'
+program step
 
 echo "$passed passed, $failed failed"
 [ "$failed" -eq 0 ]

@@ -1,0 +1,243 @@
+/*
+ * Tests lampreycoil_step through the header, on the floor of paper 01: parents none,0,0,1,1,2,2;
+ * services bench at 1 and 4, log at 0. Then gives messages to take_message, the example of
+ * README.md, whose code stands in readme.c. Prints a line for each test, "passed" or "FAILED".
+ */
+#include <stdio.h>
+#include <string.h>
+
+#include "lampreycoil.h"
+#include "readme.c"
+
+enum { RANKS = 7, SERVICES = 3, ROOM = LAMPREYCOIL_FRAME_MAX + 100, FILL = 0xA5 };
+
+static uint8_t tree[RANKS * LAMPREYCOIL_RANK_SIZE];
+static uint8_t services[SERVICES * LAMPREYCOIL_SERVICE_SIZE];
+static uint8_t identities[(LAMPREYCOIL_ROUTES_MAX + 1) * LAMPREYCOIL_ROUTE_SIZE];
+static const struct broker at_rank_0 = {
+    tree, services, identities, sizeof tree, sizeof services, RANKS *LAMPREYCOIL_ROUTE_SIZE, 0};
+
+static void set_parent(int rank, uint32_t parent)
+{
+    for (int i = 0; i < 4; i++)
+        tree[rank * 4 + i] = (uint8_t)(parent >> (24 - 8 * i));
+}
+
+static void set_service(int record, uint8_t rank, const char *name)
+{
+    uint8_t *at = services + record * LAMPREYCOIL_SERVICE_SIZE;
+
+    at[3] = rank;
+    at[4] = (uint8_t)strlen(name);
+    memcpy(at + 5, name, strlen(name));
+}
+
+static void make_floor(void)
+{
+    set_parent(0, LAMPREYCOIL_NO_PARENT);
+    for (int rank = 1; rank < RANKS; rank++)
+        set_parent(rank, (uint32_t)(rank - 1) / 2);
+    set_service(0, 1, "bench");
+    set_service(1, 4, "bench");
+    set_service(2, 0, "log");
+    /* Of the routes only the first RANKS are brokers'. */
+    for (unsigned i = 0; i <= LAMPREYCOIL_ROUTES_MAX; i++)
+        snprintf((char *)identities + i * LAMPREYCOIL_ROUTE_SIZE, LAMPREYCOIL_ROUTE_SIZE,
+                 "%08x-0123-4567-89ab-cdef01234567", i);
+}
+
+/* A message: its routes are so many in a row, from the one with the number top on. */
+struct message {
+    uint8_t type, flags;
+    uint32_t first;
+    const char *topic;
+    int top, routes;
+    size_t payload;
+};
+
+static uint8_t text[LAMPREYCOIL_BODY_MAX];
+
+/* Writes a message's frame into out, of which the rest is filled; tells its length. */
+static size_t write_message(const struct message *m, uint8_t *out)
+{
+    uint8_t record[LAMPREYCOIL_WRITE_RECORD] = {0};
+    uint32_t userid = m->type == LAMPREYCOIL_RESPONSE ? LAMPREYCOIL_USERID_UNKNOWN : 1000;
+
+    memset(out, FILL, ROOM);
+    if (lampreycoil_write(m->type, m->flags, userid, 0, m->first,
+                          m->type == LAMPREYCOIL_EVENT ? 0 : 5,
+                          identities + m->top * LAMPREYCOIL_ROUTE_SIZE,
+                          (size_t)m->routes * LAMPREYCOIL_ROUTE_SIZE, (const uint8_t *)m->topic,
+                          strlen(m->topic), text, m->payload, out, ROOM, record, sizeof record))
+        printf("FAILED: a message for '%s' is not written\n", m->topic);
+    return lampreycoil_number(record, LAMPREYCOIL_WRITE_LENGTH);
+}
+
+static uint32_t step(uint32_t rank, uint32_t from_client, uint8_t *buffer, size_t room,
+                     uint8_t *record, size_t record_length)
+{
+    return lampreycoil_step(tree, sizeof tree, services, sizeof services, identities,
+                            RANKS * LAMPREYCOIL_ROUTE_SIZE, rank, from_client, buffer, room, record,
+                            record_length);
+}
+
+static void report(int good, const char *label)
+{
+    printf("%s: %s\n", good ? "passed" : "FAILED", label);
+}
+
+static uint8_t buffer[ROOM], want[ROOM];
+
+/* The step answers so, and leaves the frame of `left`, or what was there if that is NULL. */
+static void answers(const char *label, uint32_t rank, uint32_t from_client,
+                    const struct message *given, uint32_t answer, uint32_t number, uint32_t error,
+                    const struct message *left)
+{
+    uint8_t record[LAMPREYCOIL_STEP_RECORD + 4];
+    size_t length = write_message(given, buffer);
+    uint32_t refusal;
+    int good;
+
+    write_message(given, want);
+    if (left) {
+        length = write_message(left, want);
+        memset(want + length, 0, ROOM - length);
+    }
+    memset(record, FILL, sizeof record);
+    refusal = step(rank, from_client, buffer, ROOM, record, sizeof record);
+    good = refusal == LAMPREYCOIL_OK && memcmp(buffer, want, ROOM) == 0 &&
+           lampreycoil_number(record, LAMPREYCOIL_STEP_ANSWER) == answer &&
+           lampreycoil_number(record, LAMPREYCOIL_STEP_NUMBER) == number &&
+           lampreycoil_number(record, LAMPREYCOIL_STEP_ERROR) == error &&
+           lampreycoil_number(record, LAMPREYCOIL_STEP_LENGTH) == length;
+    for (size_t i = LAMPREYCOIL_STEP_RECORD; i < sizeof record; i++)
+        good = good && record[i] == FILL;
+    report(good, label);
+}
+
+/* The step is refused with this number, and has written nothing. */
+static void refuses(const char *label, uint32_t rank, const struct message *given, size_t room,
+                    size_t record_length, uint32_t number)
+{
+    uint8_t record[LAMPREYCOIL_STEP_RECORD];
+    uint32_t refusal;
+    int good;
+
+    write_message(given, buffer);
+    write_message(given, want);
+    memset(record, FILL, sizeof record);
+    refusal = step(rank, 1, buffer, room, record, record_length);
+    good = refusal == number && memcmp(buffer, want, ROOM) == 0;
+    for (size_t i = 0; i < sizeof record; i++)
+        good = good && record[i] == FILL;
+    report(good, label);
+}
+
+/* What the daemon of README.md was told to do, in words. */
+static char told[200];
+
+static void tell(const char *what, uint32_t number, size_t length)
+{
+    size_t used = strlen(told);
+
+    snprintf(told + used, sizeof told - used, "%s %u (%zu); ", what, (unsigned)number, length);
+}
+
+void give_to_service(uint32_t record, const uint8_t *frame, size_t length)
+{
+    tell(frame == buffer ? "service" : "another buffer", record, length);
+}
+
+void send_to_broker(uint32_t rank, const uint8_t *frame, size_t length)
+{
+    tell(frame == buffer ? "broker" : "another buffer", rank, length);
+}
+
+void give_to_client(const uint8_t *frame, size_t length)
+{
+    tell(frame == buffer ? "client" : "another buffer", 0, length);
+}
+
+void note_silence(uint32_t error)
+{
+    tell("silence", error, 0);
+}
+
+void note_refusal(uint32_t refusal)
+{
+    tell("refusal", refusal, 0);
+}
+
+/* The daemon of this rank does so with a message. */
+static void does(const char *label, uint32_t rank, uint32_t from_client,
+                 const struct message *given, const char *so)
+{
+    struct broker b = at_rank_0;
+
+    b.rank = rank;
+    told[0] = '\0';
+    write_message(given, buffer);
+    take_message(&b, from_client, buffer, ROOM);
+    report(strcmp(told, so) == 0, label);
+}
+
+int main(void)
+{
+    const uint32_t any = LAMPREYCOIL_NODEID_ANY;
+    const uint8_t plain = LAMPREYCOIL_TOPIC | LAMPREYCOIL_ROUTE;
+    const uint8_t full = LAMPREYCOIL_TOPIC | LAMPREYCOIL_ROUTE | LAMPREYCOIL_PAYLOAD;
+    const uint8_t silent = LAMPREYCOIL_TOPIC | LAMPREYCOIL_ROUTE | LAMPREYCOIL_NORESPONSE;
+    const uint8_t upstream = LAMPREYCOIL_TOPIC | LAMPREYCOIL_ROUTE | LAMPREYCOIL_UPSTREAM;
+    const struct message bench = {LAMPREYCOIL_REQUEST, plain, any, "bench.run", 0, 0, 0};
+    const struct message bench_3 = {LAMPREYCOIL_REQUEST, plain, any, "bench.run", 3, 1, 0};
+    const struct message up = {LAMPREYCOIL_REQUEST, upstream, 4, "bench.run", 0, 0, 0};
+    const struct message up_4 = {LAMPREYCOIL_REQUEST, upstream, 4, "bench.run", 4, 1, 0};
+    const struct message kvs = {LAMPREYCOIL_REQUEST, full, any, "kvs.get", 1, 2, 300};
+    const struct message kvs_38 = {LAMPREYCOIL_RESPONSE, plain, 38, "kvs.get", 1, 2, 0};
+    const struct message far = {LAMPREYCOIL_REQUEST, plain, 7, "bench.run", 0, 0, 0};
+    const struct message far_113 = {LAMPREYCOIL_RESPONSE, plain, 113, "bench.run", 0, 0, 0};
+    const struct message quiet = {LAMPREYCOIL_REQUEST, silent, any, "kvs.get", 0, 0, 0};
+    const struct message back = {LAMPREYCOIL_RESPONSE, full, 0, "kvs.get", 1, 1, 300};
+    const struct message back_home = {LAMPREYCOIL_RESPONSE, full, 0, "kvs.get", 1, 0, 300};
+    const struct message most = {LAMPREYCOIL_REQUEST, plain, any, "x", 1, 64, 0};
+    const struct message event = {LAMPREYCOIL_EVENT, LAMPREYCOIL_TOPIC, 0, "up", 0, 0, 0};
+    const size_t bench_length = 8 + 1 + 11 + 21;
+
+    make_floor();
+    memset(text, 'x', sizeof text);
+
+    answers("1: delivered, with its record", 4, 1, &bench, LAMPREYCOIL_DELIVERED, 1, 0, NULL);
+    answers("2: a request goes up, with our identity", 3, 1, &bench, LAMPREYCOIL_FORWARD, 1, 0,
+            &bench_3);
+    answers("2: a response goes on, without its top route", 3, 0, &back, LAMPREYCOIL_FORWARD, 1, 0,
+            &back_home);
+    answers("3: an error reply, 38", 0, 0, &kvs, LAMPREYCOIL_REPLIED, 0, LAMPREYCOIL_NO_SERVICE,
+            &kvs_38);
+    answers("3: an error reply, 113", 3, 1, &far, LAMPREYCOIL_REPLIED, 0, LAMPREYCOIL_NO_RANK,
+            &far_113);
+    answers("4: silenced", 0, 1, &quiet, LAMPREYCOIL_SILENCED, 0, LAMPREYCOIL_NO_SERVICE, NULL);
+    answers("5: home", 3, 0, &back_home, LAMPREYCOIL_HOME, 0, 0, NULL);
+    answers("upstream, not from a client", 4, 0, &up, LAMPREYCOIL_DELIVERED, 1, 0, NULL);
+    answers("upstream, from a client that is 2", 4, 2, &up, LAMPREYCOIL_FORWARD, 1, 0, &up_4);
+
+    refuses("a record of 15 bytes is 11", 9, &bench, ROOM, 15, LAMPREYCOIL_OUTPUT_SHORT);
+    refuses("a buffer without room for a route is 11", 3, &bench, bench_length + 37, 16,
+            LAMPREYCOIL_OUTPUT_SHORT);
+    refuses("a 65th route is 12", 3, &most, ROOM, 16, LAMPREYCOIL_FORWARD_LONG);
+    refuses("rank 7 is 17", 7, &bench, ROOM, 16, LAMPREYCOIL_RANK_WRONG);
+    refuses("a frame cut short is 1", 3, &bench, bench_length - 1, 16, LAMPREYCOIL_INPUT_SHORT);
+    refuses("an event is 18", 3, &event, ROOM, 16, LAMPREYCOIL_NOT_ROUTED);
+    refuses("a top route that is our own is 19", 1, &back, ROOM, 16, LAMPREYCOIL_NO_NEIGHBOUR);
+    services[3] = RANKS;
+    refuses("a service at rank 7 is 15", 9, &event, ROOM, 16, LAMPREYCOIL_SERVICES_WRONG);
+    services[3] = 1;
+
+    does("README.md: delivered", 4, 1, &bench, "service 1 (41); ");
+    does("README.md: forwarded", 3, 1, &bench, "broker 1 (79); ");
+    does("README.md: a reply goes to the broker below", 0, 0, &kvs, "broker 1 (77); ");
+    does("README.md: a reply to a client", 3, 1, &far, "client 0 (41); ");
+    does("README.md: silenced", 0, 1, &quiet, "silence 38 (0); ");
+    does("README.md: home", 3, 0, &back_home, "client 0 (344); ");
+    does("README.md: refused", 7, 1, &bench, "refusal 17 (0); ");
+    return 0;
+}
