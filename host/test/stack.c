@@ -1,0 +1,293 @@
+/*
+ * Measures the stack that each call takes. A call is made in a signal handler that has a stack of
+ * its own, filled with a pattern; the lowest byte that has changed tells how deep the call went.
+ * Prints a line for each kind of call, "passed" or "FAILED": LAMPREYCOIL_STACK_MAX is the limit,
+ * and 64 KiB is the limit of that.
+ */
+#define _XOPEN_SOURCE 700
+#include <signal.h>
+#include <stdio.h>
+#include <stdlib.h>
+#include <string.h>
+
+#include "lampreycoil.h"
+
+enum {
+    STACK = 512 * 1024,
+    FILL = 0xA5,
+    RANKS = LAMPREYCOIL_RANKS_MAX,
+    RECORDS = LAMPREYCOIL_SERVICES_MAX,
+    ROOM = LAMPREYCOIL_FRAME_MAX,
+    LONG_BODY = 32730, /* the longest that still grows by a route */
+    CHAINS = 4096,
+    CHAIN = 9, /* records in a chain of the library's hash, before it puts all in order */
+    USED_CHAINS = RECORDS / CHAIN + 1
+};
+
+static uint8_t tree[RANKS * LAMPREYCOIL_RANK_SIZE];
+static uint8_t identities[RANKS * LAMPREYCOIL_ROUTE_SIZE];
+static uint8_t services[RECORDS * LAMPREYCOIL_SERVICE_SIZE];
+static uint8_t hostile_identities[sizeof identities];
+static uint8_t hostile_services[sizeof services];
+
+/* ---- tables: two chains of 16 ranks below rank 0, and all other ranks below rank 0 too */
+
+static void make_tree(void)
+{
+    for (uint32_t rank = 0; rank < RANKS; rank++) {
+        uint32_t parent = rank == 0                 ? LAMPREYCOIL_NO_PARENT
+                          : rank < 33 && rank != 17 ? rank - 1
+                                                    : 0;
+
+        for (int i = 0; i < 4; i++)
+            tree[4 * rank + (uint32_t)i] = (uint8_t)(parent >> (24 - 8 * i));
+    }
+}
+
+/* The identity and the service with a number. Each service is at rank 0. */
+static void make_identity(uint8_t *at, uint32_t number)
+{
+    char form[LAMPREYCOIL_ROUTE_SIZE];
+
+    snprintf(form, sizeof form, "01234567-0123-4567-89ab-012345%06x", (unsigned)number);
+    memcpy(at, form, sizeof form);
+}
+
+static void make_service(uint8_t *at, uint32_t number)
+{
+    char name[LAMPREYCOIL_NAME_MAX + 1];
+
+    snprintf(name, sizeof name, "a-name-as-long-as-can%06x", (unsigned)number);
+    memset(at, 0, LAMPREYCOIL_SERVICE_SIZE);
+    at[4] = LAMPREYCOIL_NAME_MAX;
+    memcpy(at + 5, name, LAMPREYCOIL_NAME_MAX);
+}
+
+static uint32_t word(const uint8_t *at)
+{
+    return (uint32_t)at[3] << 24 | (uint32_t)at[2] << 16 | (uint32_t)at[1] << 8 | at[0];
+}
+
+static uint32_t stir(uint32_t hash, const uint8_t *at)
+{
+    return hash * 2135587861u + word(at) * 1540483477u + word(at + 4);
+}
+
+/* The chain that a record belongs to in the library (crates/distinct, `hash`). */
+static uint32_t chain_of(const uint8_t *at, size_t width)
+{
+    uint32_t hash = 0;
+
+    for (size_t i = 0; i < width / 8; i++)
+        hash = stir(hash, at + 8 * i);
+    return stir(hash, at + width - 8) * 1540483477u >> 20;
+}
+
+/* A table that was made to be slow: the last record is one too many in its chain. */
+static void make_hostile(uint8_t *table, size_t width, void (*make)(uint8_t *, uint32_t))
+{
+    static int used[CHAINS];
+    size_t made = 0;
+
+    memset(used, 0, sizeof used);
+    for (uint32_t number = 0; made < RECORDS && number < 1u << 24; number++) {
+        uint8_t *at = table + made * width;
+        uint32_t chain;
+
+        make(at, number);
+        chain = chain_of(at, width);
+        if (chain < USED_CHAINS && (used[chain] < CHAIN) == (made < RECORDS - 1)) {
+            used[chain]++;
+            made++;
+        }
+    }
+    if (made < RECORDS)
+        abort();
+}
+
+/* ---- messages, each with the longest body that still grows by a route */
+
+static uint8_t payload[LAMPREYCOIL_BODY_MAX];
+static uint8_t frame[ROOM];
+static size_t frame_length;
+
+/* The topic is the name of the service at `service`, and `route` is the only route, if any. */
+static void make_frame(uint8_t type, uint8_t more, uint32_t first, const uint8_t *service,
+                       const uint8_t *route)
+{
+    const uint8_t flags = LAMPREYCOIL_TOPIC | LAMPREYCOIL_ROUTE | LAMPREYCOIL_PAYLOAD;
+    size_t routes = route ? LAMPREYCOIL_ROUTE_SIZE : 0;
+    size_t others =
+        (route ? LAMPREYCOIL_ROUTE_STEP : 0) + 1 + 1 + LAMPREYCOIL_NAME_MAX + 1 + 5 + 21;
+    uint8_t record[LAMPREYCOIL_WRITE_RECORD];
+
+    if (lampreycoil_write(type, flags | more, 1000, 0, first, 1, route ? route : payload, routes,
+                          service + 5, LAMPREYCOIL_NAME_MAX, payload, LONG_BODY - others, frame,
+                          ROOM, record, sizeof record))
+        abort();
+    frame_length = lampreycoil_number(record, LAMPREYCOIL_WRITE_LENGTH);
+    if (frame_length != LONG_BODY + 8)
+        abort();
+}
+
+/* ---- the calls: each tells what came of it, a step its answer and 100 */
+
+static uint8_t buffer[ROOM];
+static uint8_t record[LAMPREYCOIL_READ_RECORD];
+static const uint8_t *lent_services, *lent_identities;
+static uint32_t at_rank;
+
+static uint32_t nothing(void)
+{
+    return 0;
+}
+
+static uint32_t read_frame(void)
+{
+    return lampreycoil_read(frame, frame_length, record, sizeof record);
+}
+
+static uint32_t write_frame(void)
+{
+    return lampreycoil_write(LAMPREYCOIL_REQUEST,
+                             LAMPREYCOIL_TOPIC | LAMPREYCOIL_ROUTE | LAMPREYCOIL_PAYLOAD, 0, 0, 0,
+                             0, identities, 64 * LAMPREYCOIL_ROUTE_SIZE, payload, 255, payload,
+                             30000, buffer, sizeof buffer, record, sizeof record);
+}
+
+static uint32_t check_tree(void)
+{
+    return lampreycoil_check_tree(tree, sizeof tree, buffer, sizeof buffer, record, sizeof record);
+}
+
+static uint32_t check_services(void)
+{
+    return lampreycoil_check_services(tree, sizeof tree, lent_services, sizeof services);
+}
+
+static uint32_t check_identities(void)
+{
+    return lampreycoil_check_identities(tree, sizeof tree, lent_identities, sizeof identities);
+}
+
+static uint32_t step(void)
+{
+    uint32_t refusal = lampreycoil_step(tree, sizeof tree, lent_services, sizeof services,
+                                        lent_identities, sizeof identities, at_rank, 1, buffer,
+                                        sizeof buffer, record, sizeof record);
+
+    return refusal ? refusal : 100 + lampreycoil_number(record, LAMPREYCOIL_STEP_ANSWER);
+}
+
+/* ---- the measurement */
+
+static uint32_t (*volatile call)(void);
+static volatile uint32_t outcome;
+static uint8_t *volatile top;
+
+static void handler(int number)
+{
+    uint8_t here = (uint8_t)number;
+
+    top = &here;
+    outcome = call();
+}
+
+static uint8_t *stack;
+
+/* Bytes from the handler's frame down to the lowest that was written. */
+static size_t measure(uint32_t (*what)(void))
+{
+    size_t low = 0;
+
+    memset(stack, FILL, STACK);
+    memcpy(buffer, frame, frame_length);
+    call = what;
+    raise(SIGUSR1);
+    while (stack[low] == FILL)
+        low++;
+    return (size_t)(top - (stack + low));
+}
+
+static void takes(const char *label, uint32_t (*what)(void), uint32_t expected)
+{
+    size_t empty = measure(nothing);
+    size_t bytes = measure(what);
+    int good = outcome == expected && bytes > empty && bytes < LAMPREYCOIL_STACK_MAX &&
+               LAMPREYCOIL_STACK_MAX <= 64 * 1024;
+
+    printf("%s: stack of %s: %zu bytes", good ? "passed" : "FAILED", label, bytes);
+    if (outcome != expected)
+        printf(", and it told %u", (unsigned)outcome);
+    printf("\n");
+}
+
+static void take_tables(const uint8_t *s, const uint8_t *i, const char *kind)
+{
+    const uint8_t request = LAMPREYCOIL_REQUEST, response = LAMPREYCOIL_RESPONSE;
+    const uint8_t *last = i + (RANKS - 1) * LAMPREYCOIL_ROUTE_SIZE;
+    const struct {
+        const char *label;
+        uint32_t rank, answer;
+        uint8_t type, more;
+        uint32_t first;
+        const uint8_t *route;
+    } steps[] = {
+        {"a step that delivers", 0, 101, request, 0, 0, NULL},
+        {"a step that forwards up", 16, 102, request, 0, 32, NULL},
+        {"a step that forwards down", 0, 102, request, 0, 32, NULL},
+        {"a step that replies", 0, 103, request, 0, RANKS, NULL},
+        {"a step that is silent", 0, 104, request, LAMPREYCOIL_NORESPONSE, RANKS, NULL},
+        {"a step that sends home", 0, 102, response, 0, 0, last},
+        {"a step at home", 0, 105, response, 0, 0, NULL},
+    };
+    char label[100];
+
+    lent_services = s;
+    lent_identities = i;
+    snprintf(label, sizeof label, "check_services, %s", kind);
+    takes(label, check_services, 0);
+    snprintf(label, sizeof label, "check_identities, %s", kind);
+    takes(label, check_identities, 0);
+    for (size_t n = 0; n < sizeof steps / sizeof steps[0]; n++) {
+        at_rank = steps[n].rank;
+        make_frame(steps[n].type, steps[n].more, steps[n].first, s, steps[n].route);
+        snprintf(label, sizeof label, "%s, %s", steps[n].label, kind);
+        takes(label, step, steps[n].answer);
+    }
+}
+
+int main(void)
+{
+    stack_t own;
+    struct sigaction action;
+
+    make_tree();
+    memset(payload, 'x', sizeof payload);
+    for (uint32_t i = 0; i < RANKS; i++) {
+        make_identity(identities + i * LAMPREYCOIL_ROUTE_SIZE, i);
+        make_service(services + i * LAMPREYCOIL_SERVICE_SIZE, i);
+    }
+    make_hostile(hostile_identities, LAMPREYCOIL_ROUTE_SIZE, make_identity);
+    make_hostile(hostile_services, LAMPREYCOIL_SERVICE_SIZE, make_service);
+
+    stack = malloc(STACK);
+    if (!stack)
+        return 2;
+    memset(&own, 0, sizeof own);
+    own.ss_sp = stack;
+    own.ss_size = STACK;
+    memset(&action, 0, sizeof action);
+    action.sa_handler = handler;
+    action.sa_flags = SA_ONSTACK;
+    if (sigaltstack(&own, NULL) != 0 || sigaction(SIGUSR1, &action, NULL) != 0)
+        return 2;
+
+    make_frame(LAMPREYCOIL_REQUEST, 0, LAMPREYCOIL_NODEID_ANY, services, identities);
+    takes("read", read_frame, 0);
+    takes("write", write_frame, 0);
+    takes("check_tree", check_tree, 0);
+    take_tables(services, identities, "full tables");
+    take_tables(hostile_services, hostile_identities, "hostile tables");
+    return 0;
+}
