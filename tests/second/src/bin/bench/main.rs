@@ -29,7 +29,7 @@ use turns::{print_head, ROUNDS};
 fn main() {
     let words: Vec<String> = env::args().skip(1).collect();
     #[cfg(feature = "tables")]
-    let (words, hostile) = hostile_tables(words);
+    let (words, given) = given_tables(words);
     let wanted = |part: &str| words.is_empty() || words.iter().any(|word| word == part);
     println!("Buffers are warmed and not cleared before a call. Times in nanoseconds a call;");
     println!("a ratio is the library's time over the other's: the median over {ROUNDS} rounds in");
@@ -41,7 +41,7 @@ fn main() {
     }
     #[cfg(feature = "step")]
     if wanted("steps") {
-        steps::measure(hostile.as_ref());
+        steps::measure(given.as_ref());
     }
     #[cfg(feature = "walk")]
     if wanted("walks") {
@@ -49,13 +49,13 @@ fn main() {
     }
     #[cfg(feature = "tables")]
     if wanted("tables") {
-        tables::measure(hostile.as_ref());
+        tables::measure(given.as_ref());
     }
 }
 
 /// The tables that the arguments name, beside right ones, and the other arguments.
 #[cfg(feature = "tables")]
-fn hostile_tables(words: Vec<String>) -> (Vec<String>, Option<OwnedTables>) {
+fn given_tables(words: Vec<String>) -> (Vec<String>, Option<OwnedTables>) {
     let mut tables = floors::binary(1024);
     let (mut parts, mut given) = (Vec::new(), false);
     let mut words = words.into_iter();

@@ -7,7 +7,7 @@ use second::sample::{OwnedMessage, OwnedTables};
 use second::side::{Side, LIBRARY, SECOND};
 
 use crate::buffers::{message, Buffers, BUFFERS};
-use crate::floors::{binary, name_at, nearly_equal};
+use crate::floors::{binary, hostile, name_at, nearly_equal};
 use crate::turns::{print_row, take_prepared_turns};
 
 const ROOM: usize = 32_776;
@@ -67,8 +67,8 @@ fn last(floor: &OwnedTables) -> u32 {
     floor.ranks() as u32 - 1
 }
 
-/// `hostile` are tables of the caller's, made to be slow.
-pub fn measure(hostile: Option<&OwnedTables>) {
+/// `given` are tables of the caller's, made to be slow.
+pub fn measure(given: Option<&OwnedTables>) {
     for (ranks, size) in [(7, "7 ranks"), (64, "64 ranks"), (1024, "1,024 ranks")] {
         let floor = binary(ranks);
         for kind in &KINDS {
@@ -76,11 +76,11 @@ pub fn measure(hostile: Option<&OwnedTables>) {
             measure_step(kind, &format!("32 KiB, {size}"), &floor, Some(LONGEST));
         }
     }
-    let near = nearly_equal();
-    let name = "small, 1,024 ranks that differ in their last bytes";
-    measure_step(&KINDS[4], name, &near, None);
-    if let Some(tables) = hostile {
-        measure_step(&KINDS[4], "small, 1,024 hostile ones", tables, None);
+    let near = "small, 1,024 ranks that differ in their last bytes";
+    measure_step(&KINDS[4], near, &nearly_equal(), None);
+    measure_step(&KINDS[4], "small, 1,024 hostile ones", &hostile(), None);
+    if let Some(tables) = given {
+        measure_step(&KINDS[4], "small, 1,024 given ones", tables, None);
     }
 }
 
