@@ -1,0 +1,46 @@
+-- The bodies of the messages that a step makes, next to the body of the message that it is given.
+-- Assumes nothing.
+use mathlib.Core.Path.{_≡_, refl, sym, _∙_}
+use mathlib.Core.Bool.{Bool, true, false, cond}
+use Prim.Native.Nat.{ℕ, _+_, _≤_}
+use mathlib.Core.List.{List, [], _∷_, _++_, append-nil, append-assoc}
+use native.Mathlib.Omega.{arith}
+use lib.ListN.{length, length-append}
+use Rattle.message.specs.declared.Header.{Header}
+use Rattle.message.specs.Header.{hasTopic, hasPayload, hasRoute, headerBytes}
+use Rattle.message.specs.Message.{Message}
+use Rattle.message.specs.Frame.{partBytes, joined, partIf, groupIf, partsOf, bodyOf, frameOf}
+use Rattle.message.proofs.Parts.{joined-append, part-short}
+
+-- the frame is eight bytes and the body
+pub frame-length : (m : Message) → length (frameOf m) ≡ length (bodyOf m) + 8
+unfolding frameOf
+frame-length m = omega arith
+
+-- ---- a route on top
+
+-- the message with these routes
+abbrev pub withRoutes : Message → List (List ℕ) → Message
+withRoutes m routes = record { header = m .header; routes = routes; topic = m .topic; payload = m .payload }
+
+module _ (m : Message) (group : hasRoute (m .header .flags) ≡ true) (route : List ℕ) (routes : List (List ℕ)) where
+  -- the route is the body's first part
+  pub body-on-top : bodyOf (withRoutes m (route ∷ routes)) ≡ partBytes route ++ bodyOf (withRoutes m routes)
+  unfolding bodyOf partsOf
+  body-on-top = rw group
+
+  -- 37 bytes and a size of one byte
+  pub body-grows : length route ≡ 37 → length (bodyOf (withRoutes m (route ∷ routes))) ≡ length (bodyOf (withRoutes m routes)) + 38
+  body-grows e = rw (body-on-top, length-append, part-short route (omega arith)) (omega arith)
+
+-- ---- a message by its parts
+
+-- r, t and p say which flags are set
+module _ (m : Message) {r t p : Bool} (er : r ≡ hasRoute (m .header .flags)) (et : t ≡ hasTopic (m .header .flags)) (ep : p ≡ hasPayload (m .header .flags)) where
+  pub body-parts : bodyOf m ≡ joined (groupIf r (m .routes)) ++ joined (partIf t (m .topic ++ (0 ∷ []))) ++ joined (partIf p (m .payload)) ++ partBytes (headerBytes (m .header))
+  unfolding bodyOf partsOf
+  body-parts = rw (er, et, ep) (simp (joined-append, append-assoc, append-nil))
+
+  pub body-length : length (bodyOf m) ≡ length (joined (groupIf r (m .routes))) + length (joined (partIf t (m .topic ++ (0 ∷ [])))) + length (joined (partIf p (m .payload))) + 21
+  unfolding headerBytes
+  body-length = rw (body-parts, length-append, length-append, length-append)

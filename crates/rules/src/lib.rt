@@ -1,0 +1,10 @@
+// The rules of one broker's step, for all tables and every broker. Each function does nothing: its parameters are what a step is given but for the
+// message, and its promise is the rule, of every message.
+use routing::Broker;
+ghost use Rattle.routing.specs.Routed.{tablesOf};
+ghost use Rattle.rules.specs.Rules.{Every, Served};
+
+// Which requests are delivered, and which get error 38 or 113.
+pub fn served(tree: &[u8], services: &[u8], identities: &[u8], broker: Broker)
+    ensures { λ _. ⌜ Every 1 Served (tablesOf (now (tree .entry)) (now (services .entry)) (now (identities .entry))) broker ⌝ }
+{}
