@@ -1,10 +1,16 @@
 // The rules of one broker's step, for all tables and every broker. Each function does nothing: its parameters are what a step is given but for the
 // message, and its promise is the rule, of every message.
 use routing::Broker;
+ghost use Rattle.message.specs.Message.{Message};
 ghost use Rattle.routing.specs.Routed.{tablesOf};
-ghost use Rattle.rules.specs.Rules.{Every, Served};
+ghost use Rattle.rules.specs.Rules.{Every, Replies, Silence};
 
-// Which requests are delivered, and which get error 38 or 113.
-pub fn served(tree: &[u8], services: &[u8], identities: &[u8], broker: Broker)
-    ensures { λ _. ⌜ Every 1 Served (tablesOf (now (tree .entry)) (now (services .entry)) (now (identities .entry))) broker ⌝ }
+// What an error reply is.
+pub fn replies(tree: &[u8], services: &[u8], identities: &[u8], broker: Broker)
+    ensures { λ _. ⌜ Every 1 Replies (tablesOf (now (tree .entry)) (now (services .entry)) (now (identities .entry))) broker ⌝ }
+{}
+
+// What noresponse changes.
+pub fn silence(tree: &[u8], services: &[u8], identities: &[u8], broker: Broker)
+    ensures { λ _. ⌜ ((m : Message) → Silence (tablesOf (now (tree .entry)) (now (services .entry)) (now (identities .entry))) broker m) ⌝ }
 {}
