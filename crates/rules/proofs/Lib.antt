@@ -1,2 +1,5 @@
 -- The rules of specs/Rules.antt, from the laws on ways and outcomes.
+pub mod Cases
 pub mod ErrorReplies
+pub mod Serving
+pub mod Forwarding

@@ -3,14 +3,24 @@
 use routing::Broker;
 ghost use Rattle.message.specs.Message.{Message};
 ghost use Rattle.routing.specs.Routed.{tablesOf};
-ghost use Rattle.rules.specs.Rules.{Every, Replies, Silence};
+ghost use Rattle.rules.specs.Rules.{Every, Served, Forwards, Replies, Silence};
+
+// Which requests are delivered, and which get error 38 or 113.
+pub fn served(tree: &[u8], services: &[u8], identities: &[u8], broker: Broker)
+    ensures { λ _. ⌜ Every 1 Served (tablesOf (now (tree .entry)) (now (services .entry)) (now (identities .entry))) broker ⌝ }
+{}
+
+// Which requests are forwarded, to whom and how, and which are too large for it.
+pub fn forwards(tree: &[u8], services: &[u8], identities: &[u8], broker: Broker)
+    ensures { λ _. ⌜ Every 1 Forwards (tablesOf (now (tree .entry)) (now (services .entry)) (now (identities .entry))) broker ⌝ }
+{}
 
 // What an error reply is.
 pub fn replies(tree: &[u8], services: &[u8], identities: &[u8], broker: Broker)
     ensures { λ _. ⌜ Every 1 Replies (tablesOf (now (tree .entry)) (now (services .entry)) (now (identities .entry))) broker ⌝ }
 {}
 
-// What noresponse changes.
+// What noresponse changes, of any tables and any message.
 pub fn silence(tree: &[u8], services: &[u8], identities: &[u8], broker: Broker)
     ensures { λ _. ⌜ ((m : Message) → Silence (tablesOf (now (tree .entry)) (now (services .entry)) (now (identities .entry))) broker m) ⌝ }
 {}
