@@ -7,14 +7,14 @@ use mathlib.Core.List.{List}
 use mathlib.Core.Logic.{_⊎_, inl, inr, ⊎-elim}
 use Prim.Native.Nat.{ℕ, zero, suc, _+_, _-_, _<_, _≤_}
 use native.Mathlib.Omega.{arith}
-use borrow.Author.Tests.{eqb-true, eqb-false, ltb-true, ltb-false}
+use borrow.Author.Tests.{eqb-true, eqb-false, ne-eqb, ltb-true, ltb-false}
 use lib.Dec.{eqb, ltb}
 use Rattle.octets.proofs.Truth.{outcome}
 use Rattle.tree.specs.Tree.{ranksIn, parentOf}
 use Rattle.tree.specs.Depths.{depthOf, treeGood}
 use Rattle.hops.specs.Towards.{isNeighbour, hop, towards, above, afterHops}
-use Rattle.tree.proofs.Depths.{depth-top, parent-in, depth-below}
-use Rattle.hops.proofs.Towards.{hop-up, hop-child, hop-suc, towards-is, parent-neighbour, child-neighbour}
+use Rattle.tree.proofs.Depths.{depth-top, good-root, parent-in, depth-below}
+use Rattle.hops.proofs.Towards.{hop-up, hop-child, hop-suc, towards-is, parent-neighbour, child-neighbour, other-neighbour}
 
 module _ (tree : List ℕ) where
   pub above-none : (r : ℕ) → above tree 0 r ≡ r
@@ -90,6 +90,19 @@ module _ (tree : List ℕ) (g : treeGood tree ≡ true) where
   -- only rank 0 has depth 0
   pub depth-none : (r : ℕ) → r < ranksIn tree → depthOf tree r ≡ 0 → r ≡ 0
   depth-none r h e = ⊎-elim (λ t. eqb-true r 0 t) (λ f. absurd (omega (arith, depth-below tree g r h (eqb-false r 0 f)))) (outcome (eqb r 0))
+
+  -- no rank is its own parent, and so none is its own neighbour
+  own-parent : (r : ℕ) → r < ranksIn tree → parentOf tree r ≡ r → ⊥
+  own-parent r h e =
+      ⊎-elim
+      (λ t.
+      let top : r ≡ 0 = eqb-true r 0 t in
+      omega (arith, rw top at e, good-root tree g))
+      (λ f. omega (arith, ap (depthOf tree) e, depth-below tree g r h (eqb-false r 0 f)))
+      (outcome (eqb r 0))
+
+  pub not-itself : (r : ℕ) → r < ranksIn tree → isNeighbour tree r r ≡ false
+  not-itself r h = other-neighbour tree r r h h (own-parent r h) ∙ ne-eqb (parentOf tree r) r (own-parent r h)
 
   pub above-in : (k r : ℕ) → r < ranksIn tree → k ≤ depthOf tree r → above tree k r < ranksIn tree
   unfolding above

@@ -80,6 +80,11 @@ pub same-back : (a b : List ℕ) → sameIdentity a b ≡ true → sameIdentity 
 unfolding sameIdentity
 same-back a b h = rw (same-equal a b h) (same-refl b)
 
+-- two that are the same as a third
+pub same-through : (a b route : List ℕ) → sameIdentity a route ≡ true → sameIdentity b route ≡ true → sameIdentity a b ≡ true
+unfolding sameIdentity
+same-through a b route p q = rw (same-equal a route p, same-equal b route q) (same-refl route)
+
 -- ---- what a table that is right holds, for the crates above
 
 pub record GoodIdentities (tree identities : List ℕ) : Type 0 where
@@ -119,12 +124,16 @@ module _ (tree identities : List ℕ) (g : GoodIdentities tree identities) where
   none-holds route e rank h =
       none-passes (λ rank. sameIdentity (identityAt identities rank) route) (length identities / 37) 0 e rank (omega arith) (omega (arith, as-many))
 
+  -- the one broker with the identity is found
+  pub found-only : (route : List ℕ) (rank : ℕ) → rank < ranksIn tree → sameIdentity (identityAt identities rank) route ≡ true → brokerOf identities route ≡ At rank
+  unfolding brokerOf
+  found-only route rank h same =
+      first-only (λ other. sameIdentity (identityAt identities other) route) (length identities / 37) rank (omega (arith, as-many)) same
+      (λ k hk t.
+      once (λ a b. sameIdentity (identityAt identities a) (identityAt identities b)) (ranksIn tree) (g .none) k rank (omega (arith, as-many)) h
+      (same-through (identityAt identities k) (identityAt identities rank) route t same)
+      (same-through (identityAt identities rank) (identityAt identities k) route same t))
+
   -- a broker is found by its own identity
   pub found-own : (rank : ℕ) → rank < ranksIn tree → brokerOf identities (identityAt identities rank) ≡ At rank
-  unfolding brokerOf
-  found-own rank h =
-      first-only (λ other. sameIdentity (identityAt identities other) (identityAt identities rank)) (length identities / 37) rank (omega (arith, as-many))
-      (same-self (identityAt identities rank))
-      (λ k hk t.
-      once (λ a b. sameIdentity (identityAt identities a) (identityAt identities b)) (ranksIn tree) (g .none) k rank (omega (arith, as-many)) h t
-      (same-back (identityAt identities k) (identityAt identities rank) t))
+  found-own rank h = found-only (identityAt identities rank) rank h (same-self (identityAt identities rank))

@@ -1,19 +1,20 @@
 -- Where a request and a response go: one law for each way through the definitions, in the code's order.
 -- Assumes nothing.
-use mathlib.Core.Path.{_≡_}
+use mathlib.Core.Path.{_≡_, refl}
 use mathlib.Core.Bool.{Bool, true, false}
 use Prim.Native.Nat.{ℕ, _<_, _≤_}
-use mathlib.Core.List.{List}
+use mathlib.Core.List.{List, [], _∷_}
 use borrow.Author.Tests.{eq-eqb, ne-eqb, lt-ltb, le-ltb}
 use Rattle.message.specs.declared.Header.{Header}
 use Rattle.message.specs.Header.{isUpstream}
 use Rattle.records.specs.declared.Found.the-variants.{At}
 use Rattle.tree.specs.Tree.{ranksIn, parentOf}
 use Rattle.hops.specs.Towards.{isNeighbour}
+use Rattle.identities.specs.Identities.{brokerOf}
 use Rattle.routing.specs.declared.Way.the-variants.{Forward, Fail}
-use Rattle.routing.specs.declared.Back.the-variants.{To, Stray}
+use Rattle.routing.specs.declared.Back.the-variants.{Home, To, Stray}
 use Rattle.routing.specs.Requests.{registered, deliverOr, toParent, upwards, nextBroker, toRank, requestWay}
-use Rattle.routing.specs.Responses.{towardsBroker}
+use Rattle.routing.specs.Responses.{towardsBroker, responseWay}
 
 module _ (tree : List ℕ) (rank : ℕ) where
   pub parent-none : rank ≡ 0 → toParent tree rank ≡ Fail 38
@@ -51,6 +52,15 @@ module _ (tree services : List ℕ) (rank : ℕ) (topic : List ℕ) where
     pub way-rank : (h .first ≡ 4294967295 → ⊥) → isUpstream (h .flags) ≡ false → requestWay tree services rank fromClient h topic ≡ toRank tree services rank (h .first) topic
     unfolding requestWay
     way-rank n u = rw (ne-eqb (h .first) 4294967295 n, u)
+
+module _ (tree identities : List ℕ) (rank : ℕ) where
+  pub back-none : responseWay tree identities rank [] ≡ Home
+  unfolding responseWay
+  back-none = refl
+
+  pub back-top : (top : List ℕ) (below : List (List ℕ)) → responseWay tree identities rank (top ∷ below) ≡ towardsBroker tree rank (brokerOf identities top)
+  unfolding responseWay
+  back-top top below = refl
 
 module _ (tree : List ℕ) (rank broker : ℕ) where
   pub broker-no-rank : 1024 ≤ broker → towardsBroker tree rank (At broker) ≡ Stray

@@ -3,3 +3,5 @@ pub mod Cases
 pub mod ErrorReplies
 pub mod Serving
 pub mod Forwarding
+pub mod Returning
+pub mod Neither

@@ -248,6 +248,9 @@ pub record GoesBack (t : Tables) (b : Broker) (m : Message) : Type 0 where
 
 -- ---- 18
 
--- 18: "step or walk given an event or control"
-abbrev pub NotRoutedAtAll : Tables → Broker → Type 0
-NotRoutedAtAll t b = (m : Message) → writing m ≡ answered (frameOf m) → (routed t b m ≡ refused NotRouted) ↔ ((m .header .kind ≡ 4) ⊎ (m .header .kind ≡ 8))
+-- 18: "step or walk given an event or control", of any tables and every message that can be written
+pub record Unrouted (t : Tables) (b : Broker) (m : Message) : Type 0 where
+  pub neither : (routed t b m ≡ refused NotRouted) ↔ ((m .header .kind ≡ 4) ⊎ (m .header .kind ≡ 8))
+
+abbrev pub EveryUnrouted : Tables → Broker → Type 0
+EveryUnrouted t b = (m : Message) → writing m ≡ answered (frameOf m) → Unrouted t b m

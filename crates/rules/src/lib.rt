@@ -3,7 +3,7 @@
 use routing::Broker;
 ghost use Rattle.message.specs.Message.{Message};
 ghost use Rattle.routing.specs.Routed.{tablesOf};
-ghost use Rattle.rules.specs.Rules.{Every, Served, Forwards, Replies, Silence};
+ghost use Rattle.rules.specs.Rules.{Every, Served, Forwards, Replies, Silence, GoesBack, EveryUnrouted};
 
 // Which requests are delivered, and which get error 38 or 113.
 pub fn served(tree: &[u8], services: &[u8], identities: &[u8], broker: Broker)
@@ -23,4 +23,14 @@ pub fn replies(tree: &[u8], services: &[u8], identities: &[u8], broker: Broker)
 // What noresponse changes, of any tables and any message.
 pub fn silence(tree: &[u8], services: &[u8], identities: &[u8], broker: Broker)
     ensures { λ _. ⌜ ((m : Message) → Silence (tablesOf (now (tree .entry)) (now (services .entry)) (now (identities .entry))) broker m) ⌝ }
+{}
+
+// Which responses are home, which go on, to whom and how, and which are strays.
+pub fn goes_back(tree: &[u8], services: &[u8], identities: &[u8], broker: Broker)
+    ensures { λ _. ⌜ Every 2 GoesBack (tablesOf (now (tree .entry)) (now (services .entry)) (now (identities .entry))) broker ⌝ }
+{}
+
+// Which messages are not routed, of any tables and any message that can be written.
+pub fn unrouted(tree: &[u8], services: &[u8], identities: &[u8], broker: Broker)
+    ensures { λ _. ⌜ EveryUnrouted (tablesOf (now (tree .entry)) (now (services .entry)) (now (identities .entry))) broker ⌝ }
 {}
