@@ -1,25 +1,25 @@
 -- The messages that a step makes of a message that can be written: they can be written too, and how long they are.
 -- Assumes nothing.
 use mathlib.Core.Path.{_≡_, refl, sym, ap, _∙_}
-use mathlib.Core.Bool.{Bool, true, false, cond, _&&_, _||_}
+use mathlib.Core.Bool.{Bool, true, false, cond, _&&_}
+use mathlib.Core.Logic.{_⊎_, ⊎-elim}
 use Prim.Native.Nat.{ℕ, _+_, _<_, _≤_}
-use mathlib.Core.List.{List, [], _∷_, _++_}
+use mathlib.Core.List.{List, _∷_}
 use native.Mathlib.Omega.{arith}
 use borrow.Author.Tests.{le-leb}
 use lib.Dec.{leb}
 use lib.ListN.{length}
 use Rattle.octets.proofs.Truth.{and-both, and-left, and-right}
 use Rattle.form.specs.Forms.{isRoute}
-use Rattle.message.specs.declared.Header.{Header}
 use Rattle.message.specs.Answer.{answered}
 use Rattle.message.specs.Header.{hasTopic, hasPayload, hasRoute, isStreaming}
 use Rattle.message.specs.Message.{Message}
-use Rattle.message.specs.Frame.{joined, partIf, groupIf, bodyOf, frameOf}
+use Rattle.message.specs.Frame.{bodyOf, frameOf}
 use Rattle.message.specs.Writing.{allRoutes, routesGood, writing}
 use Rattle.message.proofs.Fields.{known-in, call-fits, free-fields}
 use Rattle.message.proofs.Forms.{route-length, routes-few}
-use Rattle.message.proofs.Messages.{Passes, Written, Given, given-fit, fit-given, write}
-use Rattle.routing.specs.Messages.{pushed, popped, errorReply}
+use Rattle.message.proofs.Messages.{Written, written, given-fit, fit-given, write}
+use Rattle.routing.specs.Messages.{pushed, errorReply}
 use Rattle.routing.proofs.Bodies.{frame-length, withRoutes, body-grows, body-length}
 
 -- ---- one route more, one route less
@@ -51,9 +51,14 @@ reply-flags : (streaming : Bool) → ReplyFlags (cond streaming 0x49 0x09)
 reply-flags true = record { known = omega arith; group = refl; topic = refl; payload = refl }
 reply-flags false = record { known = omega arith; group = refl; topic = refl; payload = refl }
 
-module _ (m : Message) (w : Written m (frameOf m)) (not-control : (m .header .kind ≡ 8 → ⊥)) (not-event : (m .header .kind ≡ 4 → ⊥)) where
+module _ (m : Message) (can : writing m ≡ answered (frameOf m)) (call : (m .header .kind ≡ 1) ⊎ (m .header .kind ≡ 2)) where
+  w : Written m (frameOf m)
+  w = written m (frameOf m) can
+
   fit : (hasRoute (m .header .flags) && hasTopic (m .header .flags)) ≡ true
-  fit = sym (call-fits (m .header) refl refl refl not-control not-event) ∙ w .passes .fit
+  fit =
+      sym (call-fits (m .header) refl refl refl (λ e. ⊎-elim (λ k. omega arith) (λ k. omega arith) call) (λ e. ⊎-elim (λ k. omega arith) (λ k. omega arith) call))
+      ∙ w .passes .fit
 
   -- it has the delimiter and a topic
   pub has-group : hasRoute (m .header .flags) ≡ true

@@ -1,11 +1,10 @@
 -- What an outcome tells of the way that led to it: each outcome comes of one way only.
 -- Assumes nothing.
 use mathlib.Core.Path.{_≡_, refl, ap, _∙_}
-use mathlib.Core.Bool.{Bool, true, false}
+use mathlib.Core.Bool.{true, false}
 use mathlib.Core.Logic.{⊎-elim}
 use Prim.Native.Nat.{ℕ}
 use native.Mathlib.Omega.{arith}
-use mathlib.Core.List.{List}
 use borrow.Author.Tests.{eq-eqb, ne-eqb}
 use Rattle.octets.proofs.Truth.{outcome}
 use Rattle.message.specs.declared.Refusal.{Refusal}
@@ -26,12 +25,19 @@ use Rattle.routing.specs.Routed.{Tables, Outcome, delivered, forwarded, 
 
 -- ---- a step by the message's type
 
+-- the ways of a request and of a response
+abbrev pub wayOf : Tables → Broker → Message → Way
+wayOf t b m = requestWay (t .tree) (t .services) (b .rank) (b .client) (m .header) (m .topic)
+
+abbrev pub backOf : Tables → Broker → Message → Back
+backOf t b m = responseWay (t .tree) (t .identities) (b .rank) (m .routes)
+
 module _ (t : Tables) (b : Broker) (m : Message) where
-  pub routed-request : m .header .kind ≡ 1 → routed t b m ≡ requested t b m (requestWay (t .tree) (t .services) (b .rank) (b .client) (m .header) (m .topic))
+  pub routed-request : m .header .kind ≡ 1 → routed t b m ≡ requested t b m (wayOf t b m)
   unfolding routed
   routed-request e = rw (eq-eqb (m .header .kind) 1 e)
 
-  pub routed-response : (m .header .kind ≡ 1 → ⊥) → m .header .kind ≡ 2 → routed t b m ≡ responded m (responseWay (t .tree) (t .identities) (b .rank) (m .routes))
+  pub routed-response : (m .header .kind ≡ 1 → ⊥) → m .header .kind ≡ 2 → routed t b m ≡ responded m (backOf t b m)
   unfolding routed
   routed-response n e = rw (ne-eqb (m .header .kind) 1 n, eq-eqb (m .header .kind) 2 e)
 
@@ -82,8 +88,8 @@ module _ (t : Tables) (b : Broker) (m : Message) where
       (λ loud. replies errnum refl loud (rw loud))
       (outcome (noResponse (m .header .flags)))
 
--- two answers that are never the same
-clashing : {A : Type 0} → _≡_ {A = ℕ} 0 1 → A
+-- where two values that are never the same are equal, `cc` finds that 0 is 1
+pub clashing : {A : Type 0} → _≡_ {A = ℕ} 0 1 → A
 clashing z = absurd (omega arith)
 
 module _ {t : Tables} {b : Broker} {m : Message} {way : Way} {a : Answer Outcome} where

@@ -1,11 +1,10 @@
 -- The way of a request by the conditions of specs/Rules.antt: each leads to one way, and one of them holds.
 -- Assumes nothing.
 use mathlib.Core.Path.{_≡_, refl, sym, ap, _∙_}
-use mathlib.Core.Bool.{Bool, true, false}
+use mathlib.Core.Bool.{true, false}
 use mathlib.Core.Logic.{⊎-elim}
-use Prim.Native.Nat.{ℕ, _<_, _≤_}
+use Prim.Native.Nat.{ℕ, _<_}
 use native.Mathlib.Omega.{arith}
-use mathlib.Core.List.{List}
 use borrow.Author.Tests.{eqb-true, eqb-false, ltb-true, ltb-false}
 use lib.Dec.{eqb, ltb}
 use Rattle.octets.proofs.Truth.{outcome}
@@ -21,14 +20,11 @@ use Rattle.lookup.proofs.Lookup.{found-holds, found-only}
 use Rattle.routing.specs.declared.Broker.{Broker}
 use Rattle.routing.specs.declared.Way.{Way}
 use Rattle.routing.specs.declared.Way.the-variants.{Deliver, Forward, Fail}
-use Rattle.routing.specs.Requests.{anyRank, registered, deliverOr, toParent, requestWay}
+use Rattle.routing.specs.Requests.{anyRank, registered, deliverOr, toParent}
 use Rattle.routing.specs.Routed.{Tables}
+use Rattle.routing.proofs.Outcomes.{wayOf, clashing}
 use Rattle.routing.proofs.Ways.{parent-none, parent-some, up-skipped, up-tried, rank-outside, rank-reached, rank-ahead, way-any, way-upstream, way-rank}
 use Rattle.rules.specs.Rules.{Right, ForAny, ForRank, Upstream, Registers, Unregistered, Tries, GoesUp, GoesTo, NoService, NoRank}
-
--- the way of the request
-abbrev pub wayOf : Tables → Broker → Message → Way
-wayOf t b m = requestWay (t .tree) (t .services) (b .rank) (b .client) (m .header) (m .topic)
 
 -- which of the conditions holds
 pub data Which (t : Tables) (b : Broker) (m : Message) : Type 0 where
@@ -37,9 +33,10 @@ pub data Which (t : Tables) (b : Broker) (m : Message) : Type 0 where
   no-service : NoService t b m → Which t b m
   no-rank : NoRank t m → Which t b m
 
--- two values that are never the same
-clashing : {A : Type 0} → _≡_ {A = ℕ} 0 1 → A
-clashing z = absurd (omega arith)
+-- an error is 38 or 113, each in its own case
+pub data Fails (t : Tables) (b : Broker) (m : Message) (errnum : ℕ) : Type 0 where
+  by-service : errnum ≡ 38 → NoService t b m → Fails t b m errnum
+  by-rank : errnum ≡ 113 → NoRank t m → Fails t b m errnum
 
 module _ (t : Tables) (b : Broker) (m : Message) (right : Right t b) where
   -- ---- the record that is found registers the service, and no other
@@ -82,7 +79,7 @@ module _ (t : Tables) (b : Broker) (m : Message) (right : Right t b) where
   there : ForRank m → n ≡ b .rank → way ≡ deliverOr found (Fail 38)
   there f e =
       way-rank (t .tree) (t .services) (b .rank) (m .topic) (b .client) (m .header) (f .other) (f .clear)
-      ∙ rank-reached (t .tree) (t .services) (b .rank) (m .topic) n (omega (arith, right .rank)) e
+      ∙ rank-reached (t .tree) (t .services) (b .rank) (m .topic) n (omega (arith, right .rank)) (omega arith)
 
   anyhow : ForAny m → way ≡ deliverOr found up
   anyhow a = way-any (t .tree) (t .services) (b .rank) (m .topic) (b .client) (m .header) a ∙ up-tried (t .tree) (t .services) (b .rank) (m .topic) refl
@@ -113,16 +110,16 @@ module _ (t : Tables) (b : Broker) (m : Message) (right : Right t b) where
   way-goes next (GoesTo.up g low e) = way-up g ∙ parent-some (t .tree) (b .rank) low ∙ ap Forward (sym e)
   way-goes next (GoesTo.ahead f inside apart e) =
       way-rank (t .tree) (t .services) (b .rank) (m .topic) (b .client) (m .header) (f .other) (f .clear)
-      ∙ rank-ahead (t .tree) (t .services) (b .rank) (m .topic) n inside apart ∙ ap Forward (sym e)
+      ∙ rank-ahead (t .tree) (t .services) (b .rank) (m .topic) n (omega arith) apart ∙ ap Forward (sym e)
 
   pub way-no-service : NoService t b m → way ≡ Fail 38
-  way-no-service (NoService.top g e) = way-up g ∙ parent-none (t .tree) (b .rank) e
+  way-no-service (NoService.top g e) = way-up g ∙ parent-none (t .tree) (b .rank) (omega arith)
   way-no-service (NoService.target f e none) = there f e ∙ ap (λ (f : Found). deliverOr f (Fail 38)) (none-found none)
 
   pub way-no-rank : NoRank t m → way ≡ Fail 113
   way-no-rank o =
       way-rank (t .tree) (t .services) (b .rank) (m .topic) (b .client) (m .header) (o .named .other) (o .named .clear)
-      ∙ rank-outside (t .tree) (t .services) (b .rank) (m .topic) n (o .outside)
+      ∙ rank-outside (t .tree) (t .services) (b .rank) (m .topic) n (omega (arith, o .outside))
 
   -- ---- one of them holds
 
@@ -195,15 +192,10 @@ module _ (t : Tables) (b : Broker) (m : Message) (right : Right t b) where
       go (no-service s) = let w = way-no-service s in clashing cc
       go (no-rank o) = let w = way-no-rank o in clashing cc
 
-  -- an error is 38 or 113, each in its own case
-  pub data Fails (errnum : ℕ) : Type 0 where
-    by-service : errnum ≡ 38 → NoService t b m → Fails errnum
-    by-rank : errnum ≡ 113 → NoRank t m → Fails errnum
-
-  pub fails-only : (errnum : ℕ) → way ≡ Fail errnum → Fails errnum
+  pub fails-only : (errnum : ℕ) → way ≡ Fail errnum → Fails t b m errnum
   fails-only errnum e = go which
     where
-      go : Which t b m → Fails errnum
+      go : Which t b m → Fails t b m errnum
       go (served k tries r) = let w = way-served k tries r in clashing cc
       go (goes k g) = let w = way-goes k g in clashing cc
       go (no-service s) = let w = way-no-service s in by-service (cc) s

@@ -1,12 +1,11 @@
 -- The rules on error replies and on noresponse.
 -- Assumes nothing.
 use mathlib.Core.Path.{_≡_, refl, sym, ap, _∙_}
-use mathlib.Core.Bool.{Bool, true, false, cond, _||_}
-use mathlib.Core.Logic.{⊎-elim}
-use Prim.Native.Nat.{ℕ, _+_, _/_, _%_, _≤_}
+use mathlib.Core.Bool.{true, false, _||_}
+use mathlib.Core.Logic.{inl, ⊎-elim}
+use Prim.Native.Nat.{ℕ, _+_, _/_, _%_}
 use native.Mathlib.Omega.{arith}
-use mathlib.Core.List.{List}
-use borrow.Author.Tests.{eqb-true, eqb-false, eq-eqb, ne-eqb}
+use borrow.Author.Tests.{eqb-true, eqb-false, eq-eqb}
 use lib.Dec.{eqb, ltb}
 use lib.ListN.{length}
 use Rattle.octets.proofs.Truth.{outcome, clash}
@@ -14,10 +13,9 @@ use Rattle.message.specs.declared.Header.{Header}
 use Rattle.message.specs.Answer.{answered}
 use Rattle.message.specs.Header.{hasTopic, hasPayload, hasRoute, noResponse, isUpstream}
 use Rattle.message.specs.Message.{Message}
-use Rattle.message.specs.Frame.{bodyOf, frameOf}
+use Rattle.message.specs.Frame.{bodyOf}
 use Rattle.message.specs.Writing.{mostRoutes}
 use Rattle.message.proofs.Answers.{not-answered}
-use Rattle.message.proofs.Messages.{Written, written}
 use Rattle.identities.specs.Identities.{identityAt}
 use Rattle.routing.specs.declared.Broker.{Broker}
 use Rattle.routing.specs.declared.Way.{Way}
@@ -25,33 +23,29 @@ use Rattle.routing.specs.declared.Way.the-variants.{Deliver, Forward, Fail}
 use Rattle.routing.specs.declared.Back.{Back}
 use Rattle.routing.specs.declared.Back.the-variants.{Home, To, Stray}
 use Rattle.routing.specs.Requests.{requestWay}
-use Rattle.routing.specs.Responses.{responseWay}
 use Rattle.routing.specs.Messages.{pushed, errorReply, tooLarge}
 use Rattle.routing.specs.Routed.{Tables, replied, silenced, requested, responded, routed}
 use Rattle.routing.proofs.Bodies.{body-length}
 use Rattle.routing.proofs.Made.{reply-frame, reply-writable}
-use Rattle.routing.proofs.Outcomes.{Came, came, routed-request, routed-response, routed-neither, forward-fits, forward-large, replied-is, silenced-is, not-replied, not-silenced}
-use Rattle.rules.specs.Rules.{Right, Valid, Every, IsReply, Replies, hushed, silently, Silence}
+use Rattle.routing.proofs.Outcomes.{wayOf, backOf, Came, came, routed-request, routed-response, routed-neither, forward-fits, forward-large, replied-is, silenced-is, not-replied, not-silenced}
+use Rattle.rules.specs.Rules.{Valid, Every, Replies, hushed, silently, Silence}
 
 -- ---- the error reply
 
 module _ (t : Tables) (b : Broker) (m : Message) (v : Valid 1 m) where
   -- what came of the request
-  pub request-came : Came t b m (requestWay (t .tree) (t .services) (b .rank) (b .client) (m .header) (m .topic)) (routed t b m)
-  request-came = rw (routed-request t b m (v .typed)) (came t b m (requestWay (t .tree) (t .services) (b .rank) (b .client) (m .header) (m .topic)))
-
-  pub request-written : Written m (frameOf m)
-  request-written = written m (frameOf m) (v .writable)
+  pub request-came : Came t b m (wayOf t b m) (routed t b m)
+  request-came = rw (routed-request t b m (v .typed)) (came t b m (wayOf t b m))
 
   replies : Replies t b m
   replies =
       record {
         reply = λ errnum reply e. rw (made errnum reply e) (record { kind = refl; routes = refl; topic = refl; matchtag = refl; error = refl; userid = refl; rolemask = refl; flags = refl; payload = refl });
-        no-longer = λ errnum reply e. rw (made errnum reply e) (reply-frame m request-written (λ k. omega (arith, v .typed)) (λ k. omega (arith, v .typed)) (b .userid) (b .rolemask) errnum);
+        no-longer = λ errnum reply e. rw (made errnum reply e) (omega (arith, reply-frame m (v .writable) (inl (v .typed)) (b .userid) (b .rolemask) errnum));
         valid =
             λ errnum reply e.
             rw (made errnum reply e)
-            (record { typed = refl; writable = reply-writable m request-written (λ k. omega (arith, v .typed)) (λ k. omega (arith, v .typed)) (b .userid) (b .rolemask) errnum });
+            (record { typed = refl; writable = reply-writable m (v .writable) (inl (v .typed)) (b .userid) (b .rolemask) errnum });
       }
     where
       made : (errnum : ℕ) (reply : Message) → routed t b m ≡ answered (replied errnum reply) → reply ≡ errorReply (b .userid) (b .rolemask) errnum m
@@ -116,7 +110,7 @@ module _ (t : Tables) (b : Broker) (m : Message) where
         body-length (hushed m) (route-kept (m .header .flags) clear) (topic-kept (m .header .flags) clear) (payload-kept (m .header .flags) clear)
         ∙ sym (body-length m refl refl refl)
 
-    same-way : requestWay (t .tree) (t .services) (b .rank) (b .client) (hushed m .header) (m .topic) ≡ requestWay (t .tree) (t .services) (b .rank) (b .client) (m .header) (m .topic)
+    same-way : wayOf t b (hushed m) ≡ wayOf t b m
     unfolding requestWay
     same-way = rw (upstream-kept f clear)
 
@@ -140,31 +134,25 @@ module _ (t : Tables) (b : Broker) (m : Message) where
     response-silently (To broker) = refl
     response-silently Stray = refl
 
-  abbrev way : Way
-  way = requestWay (t .tree) (t .services) (b .rank) (b .client) (m .header) (m .topic)
-
-  abbrev back : Back
-  back = responseWay (t .tree) (t .identities) (b .rank) (m .routes)
-
   changes : noResponse f ≡ false → routed t b (hushed m) ≡ silently (routed t b m)
   changes clear =
       by-type (m .header)
-      (λ one. routed-request t b (hushed m) one ∙ ap (requested t b (hushed m)) (same-way clear) ∙ request-silently clear way ∙ sym (ap silently (routed-request t b m one)))
-      (λ n two. routed-response t b (hushed m) n two ∙ response-silently clear back ∙ sym (ap silently (routed-response t b m n two)))
+      (λ one. routed-request t b (hushed m) one ∙ ap (requested t b (hushed m)) (same-way clear) ∙ request-silently clear (wayOf t b m) ∙ sym (ap silently (routed-request t b m one)))
+      (λ n two. routed-response t b (hushed m) n two ∙ response-silently clear (backOf t b m) ∙ sym (ap silently (routed-response t b m n two)))
       (λ n k. routed-neither t b (hushed m) n k ∙ sym (ap silently (routed-neither t b m n k)))
 
   never-replied : noResponse f ≡ true → (errnum : ℕ) (reply : Message) → routed t b m ≡ answered (replied errnum reply) → ⊥
   never-replied set errnum reply e =
       by-type (m .header)
-      (λ one. clash (noResponse f) set (replied-is (came t b m way) errnum reply (sym (routed-request t b m one) ∙ e) .1))
-      (λ n two. not-replied m back errnum reply (sym (routed-response t b m n two) ∙ e))
+      (λ one. clash (noResponse f) set (replied-is (came t b m (wayOf t b m)) errnum reply (sym (routed-request t b m one) ∙ e) .1))
+      (λ n two. not-replied m (backOf t b m) errnum reply (sym (routed-response t b m n two) ∙ e))
       (λ n k. not-answered (sym (routed-neither t b m n k) ∙ e))
 
   never-silenced : noResponse f ≡ false → (errnum : ℕ) → routed t b m ≡ answered (silenced errnum) → ⊥
   never-silenced clear errnum e =
       by-type (m .header)
-      (λ one. clash (noResponse f) (silenced-is (came t b m way) errnum (sym (routed-request t b m one) ∙ e) .1) clear)
-      (λ n two. not-silenced m back errnum (sym (routed-response t b m n two) ∙ e))
+      (λ one. clash (noResponse f) (silenced-is (came t b m (wayOf t b m)) errnum (sym (routed-request t b m one) ∙ e) .1) clear)
+      (λ n two. not-silenced m (backOf t b m) errnum (sym (routed-response t b m n two) ∙ e))
       (λ n k. not-answered (sym (routed-neither t b m n k) ∙ e))
 
   pub silence : Silence t b m

@@ -1,23 +1,23 @@
 -- The rules on forwarding and on 12.
 -- Assumes nothing.
 use mathlib.Core.Path.{_≡_, refl, sym, ap, _∙_}
-use mathlib.Core.Bool.{true, false, _||_}
-use mathlib.Core.Logic.{⊎-elim}
-use Prim.Native.Nat.{ℕ, _+_, _<_, _≤_}
+use mathlib.Core.Bool.{true, false}
+use mathlib.Core.Logic.{inl, ⊎-elim}
+use Prim.Native.Nat.{ℕ, _+_}
 use native.Mathlib.Omega.{arith}
-use mathlib.Core.List.{List, _∷_}
-use borrow.Author.Tests.{ltb-true, ltb-false, lt-ltb, le-ltb}
+use mathlib.Core.List.{List}
+use borrow.Author.Tests.{ltb-true, ltb-false, le-ltb}
 use lib.Dec.{ltb}
 use lib.ListN.{length}
 use Rattle.octets.proofs.Truth.{outcome, or-left, or-right, or-neither, clash}
 use Rattle.form.specs.Forms.{isRoute}
 use Rattle.message.specs.declared.Refusal.the-variants.{NoForwarding}
-use Rattle.message.specs.Answer.{answered, refused}
+use Rattle.message.specs.Answer.{answered}
 use Rattle.message.specs.Message.{Message}
 use Rattle.message.specs.Frame.{bodyOf, frameOf}
 use Rattle.message.proofs.Forms.{routes-few}
-use Rattle.message.proofs.Messages.{Written}
-use Rattle.tree.specs.Tree.{ranksIn, parentOf}
+use Rattle.message.proofs.Messages.{written}
+use Rattle.tree.specs.Tree.{parentOf}
 use Rattle.tree.proofs.Depths.{parent-in}
 use Rattle.hops.specs.Towards.{isNeighbour}
 use Rattle.hops.proofs.Towards.{parent-neighbour}
@@ -31,8 +31,8 @@ use Rattle.routing.specs.Routed.{Tables, forwarded, requested, routed}
 use Rattle.routing.proofs.Made.{pushed-body, pushed-frame, pushed-writable}
 use Rattle.routing.proofs.Outcomes.{routed-request, forward-fits, forward-large, forwarded-is, refused-is}
 use Rattle.rules.specs.Rules.{Right, Valid, Every, GoesTo, Gains, Fits, TooLarge, Forwards}
-use Rattle.rules.proofs.ErrorReplies.{request-came, request-written}
-use Rattle.rules.proofs.Cases.{wayOf, way-goes, goes-only}
+use Rattle.rules.proofs.ErrorReplies.{request-came}
+use Rattle.rules.proofs.Cases.{way-goes, goes-only}
 
 module _ (t : Tables) (b : Broker) (right : Right t b) (m : Message) (v : Valid 1 m) where
   abbrev identity : List ℕ
@@ -44,11 +44,8 @@ module _ (t : Tables) (b : Broker) (right : Right t b) (m : Message) (v : Valid 
   is : isRoute identity ≡ true
   is = good-identities (t .tree) (t .identities) (right .identities) .form (b .rank) (right .rank)
 
-  abbrev w : Written m (frameOf m)
-  w = request-written t b m v
-
   grown-body : length (bodyOf grown) ≡ length (bodyOf m) + 38
-  grown-body = pushed-body m w (λ k. omega (arith, v .typed)) (λ k. omega (arith, v .typed)) identity is
+  grown-body = pushed-body m (v .writable) (inl (v .typed)) identity is
 
   -- ---- what is too large
 
@@ -74,7 +71,7 @@ module _ (t : Tables) (b : Broker) (right : Right t b) (m : Message) (v : Valid 
   test-large : tooLarge grown ≡ true → TooLarge m
   test-large e =
       ⊎-elim
-      (λ many. TooLarge.routes (omega (arith, ltb-true 63 (length (m .routes)) many, routes-few (m .routes) (w .passes .routes))))
+      (λ many. TooLarge.routes (omega (arith, ltb-true 63 (length (m .routes)) many, routes-few (m .routes) (written m (frameOf m) (v .writable) .passes .routes))))
       (λ few.
       ⊎-elim
       (λ long. TooLarge.body (ltb-true 32730 (length (bodyOf m)) long))
@@ -112,10 +109,10 @@ module _ (t : Tables) (b : Broker) (right : Right t b) (m : Message) (v : Valid 
     new-valid : Valid 1 new
     new-valid =
         rw new-is
-        (record { typed = v .typed; writable = pushed-writable m w (λ k. omega (arith, v .typed)) (λ k. omega (arith, v .typed)) identity is (fits .routes) (fits .body) })
+        (record { typed = v .typed; writable = pushed-writable m (v .writable) (inl (v .typed)) identity is (fits .routes) (fits .body) })
 
     new-grows : length (frameOf new) ≡ length (frameOf m) + 38
-    new-grows = rw new-is (pushed-frame m w (λ k. omega (arith, v .typed)) (λ k. omega (arith, v .typed)) identity is)
+    new-grows = rw new-is (omega (arith, pushed-frame m (v .writable) (inl (v .typed)) identity is))
 
   forwards : Forwards t b m
   forwards =

@@ -2,8 +2,7 @@
 -- Assumes nothing.
 use mathlib.Core.Path.{_≡_, sym, _∙_}
 use mathlib.Core.Bool.{true, _||_}
-use mathlib.Core.Logic.{_⊎_, inl, inr, ⊎-elim}
-use Prim.Native.Nat.{ℕ}
+use mathlib.Core.Logic.{⊎-elim}
 use native.Mathlib.Omega.{arith}
 use borrow.Author.Tests.{eqb-true, ne-eqb}
 use lib.Dec.{eqb, ltb}
@@ -16,15 +15,13 @@ use Rattle.message.specs.Message.{Message}
 use Rattle.message.specs.Frame.{frameOf}
 use Rattle.message.proofs.Messages.{written}
 use Rattle.routing.specs.declared.Broker.{Broker}
-use Rattle.routing.specs.Responses.{responseWay}
 use Rattle.routing.specs.Routed.{Tables, routed}
-use Rattle.routing.proofs.Outcomes.{came, routed-request, routed-response, routed-neither, refused-is, stray-is}
-use Rattle.rules.specs.Rules.{Unrouted, EveryUnrouted}
+use Rattle.routing.proofs.Outcomes.{wayOf, backOf, clashing, came, routed-request, routed-response, routed-neither, refused-is, stray-is}
+use Rattle.rules.specs.Rules.{EventOrControl, EveryUnrouted}
 use Rattle.rules.proofs.ErrorReplies.{by-type}
-use Rattle.rules.proofs.Cases.{wayOf}
 
 -- "1 request, 2 response, 4 event, 8 control", and no other
-type-left : (h : Header) → isKnown h ≡ true → (h .kind ≡ 1 → ⊥) → (h .kind ≡ 2 → ⊥) → (h .kind ≡ 4) ⊎ (h .kind ≡ 8)
+type-left : (h : Header) → isKnown h ≡ true → (h .kind ≡ 1 → ⊥) → (h .kind ≡ 2 → ⊥) → EventOrControl h
 unfolding isKnown
 type-left h known n k =
     let typed : isType (h .kind) ≡ true = and-left (isType (h .kind)) (ltb (h .flags) 128) known in
@@ -33,30 +30,29 @@ type-left h known n k =
     let c = eqb (h .kind) 4 in
     let d = eqb (h .kind) 8 in
     ⊎-elim
-    (λ e. inl (eqb-true (h .kind) 4 e))
+    (λ e. EventOrControl.event (omega (arith, eqb-true (h .kind) 4 e)))
     (λ e.
     ⊎-elim
-    (λ f. inr (eqb-true (h .kind) 8 f))
+    (λ f. EventOrControl.control (omega (arith, eqb-true (h .kind) 8 f)))
     (λ f. clash (isType (h .kind)) typed (or-neither (a || b || c) d (or-neither (a || b) c (or-neither a b (ne-eqb (h .kind) 1 n) (ne-eqb (h .kind) 2 k)) e) f))
     (outcome (eqb (h .kind) 8)))
     (outcome (eqb (h .kind) 4))
 
 module _ (t : Tables) (b : Broker) (m : Message) where
-  not-routed : isKnown (m .header) ≡ true → routed t b m ≡ refused NotRouted → (m .header .kind ≡ 4) ⊎ (m .header .kind ≡ 8)
+  not-routed : isKnown (m .header) ≡ true → routed t b m ≡ refused NotRouted → EventOrControl (m .header)
   not-routed known e =
       by-type (m .header)
       (λ one.
       let other = refused-is (came t b m (wayOf t b m)) NotRouted (sym (routed-request t b m one) ∙ e) .2 in
-      let z : _≡_ {A = ℕ} 0 1 = cc in
-      absurd (omega arith))
+      clashing cc)
       (λ n two.
-      let other = stray-is m (responseWay (t .tree) (t .identities) (b .rank) (m .routes)) NotRouted (sym (routed-response t b m n two) ∙ e) .1 in
-      let z : _≡_ {A = ℕ} 0 1 = cc in
-      absurd (omega arith))
+      let other = stray-is m (backOf t b m) NotRouted (sym (routed-response t b m n two) ∙ e) .1 in
+      clashing cc)
       (λ n k. type-left (m .header) known n k)
 
-  neither-routed : (m .header .kind ≡ 4) ⊎ (m .header .kind ≡ 8) → routed t b m ≡ refused NotRouted
-  neither-routed k = ⊎-elim (λ e. routed-neither t b m (λ f. omega arith) (λ f. omega arith)) (λ e. routed-neither t b m (λ f. omega arith) (λ f. omega arith)) k
+  neither-routed : EventOrControl (m .header) → routed t b m ≡ refused NotRouted
+  neither-routed (EventOrControl.event e) = routed-neither t b m (λ f. omega arith) (λ f. omega arith)
+  neither-routed (EventOrControl.control e) = routed-neither t b m (λ f. omega arith) (λ f. omega arith)
 
 pub every-unrouted : (t : Tables) (b : Broker) → EveryUnrouted t b
 every-unrouted t b m w = record { neither = (not-routed t b m (written m (frameOf m) w .passes .known), neither-routed t b m) }

@@ -2,7 +2,7 @@
 -- Assumes nothing.
 use mathlib.Core.Path.{_≡_, refl, sym, ap, _∙_}
 use mathlib.Core.Bool.{true, false}
-use mathlib.Core.Logic.{⊎-elim}
+use mathlib.Core.Logic.{inr, ⊎-elim}
 use Prim.Native.Nat.{ℕ, _+_, _<_}
 use native.Mathlib.Omega.{arith}
 use mathlib.Core.List.{List, [], _∷_}
@@ -12,7 +12,6 @@ use Rattle.message.specs.declared.Refusal.the-variants.{NoNeighbour}
 use Rattle.message.specs.Answer.{answered}
 use Rattle.message.specs.Message.{Message}
 use Rattle.message.specs.Frame.{frameOf}
-use Rattle.message.proofs.Messages.{Written, written}
 use Rattle.records.specs.declared.Found.{Found}
 use Rattle.records.specs.declared.Found.the-variants.{At, Nothing}
 use Rattle.tree.proofs.Tree.{whole-few}
@@ -29,12 +28,8 @@ use Rattle.routing.specs.Messages.{popped}
 use Rattle.routing.specs.Routed.{Tables, forwarded, responded, routed}
 use Rattle.routing.proofs.Ways.{back-none, back-top, broker-near, broker-far}
 use Rattle.routing.proofs.Made.{popped-frame, popped-writable}
-use Rattle.routing.proofs.Outcomes.{routed-response, home-is, sent-is, stray-is, not-delivered, not-replied, not-silenced}
+use Rattle.routing.proofs.Outcomes.{backOf, clashing, routed-response, home-is, sent-is, stray-is, not-delivered, not-replied, not-silenced}
 use Rattle.rules.specs.Rules.{Right, Valid, Every, ErrorDue, Names, AtHome, Loses, GoesBack}
-
--- two values that are never the same
-clashing : {A : Type 0} → _≡_ {A = ℕ} 0 1 → A
-clashing z = absurd (omega arith)
 
 -- which of the conditions holds
 data Whither (t : Tables) (b : Broker) (m : Message) : Type 0 where
@@ -44,7 +39,7 @@ data Whither (t : Tables) (b : Broker) (m : Message) : Type 0 where
 
 module _ (t : Tables) (b : Broker) (right : Right t b) (m : Message) where
   abbrev way : Back
-  way = responseWay (t .tree) (t .identities) (b .rank) (m .routes)
+  way = backOf t b m
 
   good : GoodIdentities (t .tree) (t .identities)
   good = good-identities (t .tree) (t .identities) (right .identities)
@@ -153,9 +148,6 @@ module _ (t : Tables) (b : Broker) (right : Right t b) (m : Message) where
       rw e (record { header = refl; top = n .top; routes = n .routes ∙ ap (λ (rs : List (List ℕ)). n .top ∷ rs) (sym (ap (drop 1) (n .routes))); topic = refl; payload = refl })
 
   module _ (v : Valid 2 m) where
-    abbrev w : Written m (frameOf m)
-    w = written m (frameOf m) (v .writable)
-
     step : routed t b m ≡ responded m way
     step = routed-response t b m (λ k. omega (arith, v .typed)) (v .typed)
 
@@ -175,12 +167,12 @@ module _ (t : Tables) (b : Broker) (right : Right t b) (m : Message) where
       new-is = sent .1 ∙ ap (λ (rs : List (List ℕ)). record { header = m .header; routes = drop 1 rs; topic = m .topic; payload = m .payload }) (names .0 .routes)
 
       new-shrinks : length (frameOf new) + 38 ≡ length (frameOf m)
-      new-shrinks = rw new-is (popped-frame m w (λ k. omega (arith, v .typed)) (λ k. omega (arith, v .typed)) (names .0 .top) (names .0 .below) (names .0 .routes))
+      new-shrinks = rw new-is (omega (arith, popped-frame m (v .writable) (inr (v .typed)) (names .0 .top) (names .0 .below) (names .0 .routes)))
 
       new-valid : Valid 2 new
       new-valid =
           rw new-is
-          (record { typed = v .typed; writable = popped-writable m w (λ k. omega (arith, v .typed)) (λ k. omega (arith, v .typed)) (names .0 .top) (names .0 .below) (names .0 .routes) })
+          (record { typed = v .typed; writable = popped-writable m (v .writable) (inr (v .typed)) (names .0 .top) (names .0 .below) (names .0 .routes) })
 
     returns : GoesBack t b m
     returns =

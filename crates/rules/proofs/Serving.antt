@@ -1,8 +1,7 @@
 -- The rules on delivery and on the errors 38 and 113.
 -- Assumes nothing.
-use mathlib.Core.Path.{_≡_, refl, sym, ap, _∙_}
-use mathlib.Core.Bool.{true, false}
-use mathlib.Core.Logic.{_⊎_, inl, inr, ⊎-elim, _↔_}
+use mathlib.Core.Path.{_≡_, ap, _∙_}
+use mathlib.Core.Logic.{_⊎_, inl, inr, ⊎-elim}
 use Prim.Native.Nat.{ℕ}
 use native.Mathlib.Omega.{arith}
 use Rattle.octets.proofs.Truth.{outcome}
@@ -13,10 +12,10 @@ use Rattle.routing.specs.declared.Broker.{Broker}
 use Rattle.routing.specs.declared.Way.the-variants.{Fail}
 use Rattle.routing.specs.Messages.{errorReply}
 use Rattle.routing.specs.Routed.{Tables, failed, requested, routed}
-use Rattle.routing.proofs.Outcomes.{routed-request, failed-loud, failed-quiet, delivered-is, replied-is, silenced-is, not-home}
+use Rattle.routing.proofs.Outcomes.{wayOf, routed-request, failed-loud, failed-quiet, delivered-is, replied-is, silenced-is, not-home}
 use Rattle.rules.specs.Rules.{Right, Valid, Every, NoService, NoRank, ErrorDue, Served}
 use Rattle.rules.proofs.ErrorReplies.{request-came}
-use Rattle.rules.proofs.Cases.{wayOf, Fails, by-service, by-rank, way-served, way-no-service, way-no-rank, served-only, fails-only}
+use Rattle.rules.proofs.Cases.{Fails, by-service, by-rank, way-served, way-no-service, way-no-rank, served-only, fails-only}
 
 module _ (t : Tables) (b : Broker) (right : Right t b) (m : Message) (v : Valid 1 m) where
   due-way : (errnum : ℕ) → ErrorDue t b m errnum → wayOf t b m ≡ Fail errnum
@@ -31,15 +30,15 @@ module _ (t : Tables) (b : Broker) (right : Right t b) (m : Message) (v : Valid 
       (λ clear. ErrorDue.made (errorReply (b .userid) (b .rolemask) errnum m) (fails ∙ ap answered (failed-loud b errnum m clear)))
       (outcome (noResponse (m .header .flags)))
 
-  only-service : Fails t b m right 38 → NoService t b m
+  only-service : Fails t b m 38 → NoService t b m
   only-service (by-service e s) = s
   only-service (by-rank e o) = absurd (omega arith)
 
-  only-rank : Fails t b m right 113 → NoRank t m
+  only-rank : Fails t b m 113 → NoRank t m
   only-rank (by-service e s) = absurd (omega arith)
   only-rank (by-rank e o) = o
 
-  one-of-two : (errnum : ℕ) → Fails t b m right errnum → (errnum ≡ 38) ⊎ (errnum ≡ 113)
+  one-of-two : (errnum : ℕ) → Fails t b m errnum → (errnum ≡ 38) ⊎ (errnum ≡ 113)
   one-of-two errnum (by-service e s) = inl e
   one-of-two errnum (by-rank e o) = inr e
 

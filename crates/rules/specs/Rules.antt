@@ -1,7 +1,7 @@
 -- Demand 2 of one broker's step: what `routed` (the crate routing's specs/Routed.antt) answers, rule by rule, and only in the case that the paper names.
 -- The conditions speak of the tables and of the message, and not of the tests that `routed` makes. Assumes nothing.
 use mathlib.Core.Path.{_≡_}
-use mathlib.Core.Bool.{Bool, true, false, cond}
+use mathlib.Core.Bool.{true, false, cond}
 use mathlib.Core.Logic.{_⊎_, _↔_}
 use Prim.Native.Nat.{ℕ, _+_, _<_, _≤_}
 use mathlib.Core.List.{List, [], _∷_}
@@ -21,7 +21,7 @@ use Rattle.services.specs.Services.{servicesIn, serviceAt, rankIn, nameIn, serv
 use Rattle.lookup.specs.Lookup.{serviceOf}
 use Rattle.identities.specs.Identities.{identityAt, sameIdentity, identitiesGood}
 use Rattle.routing.specs.declared.Broker.{Broker}
-use Rattle.routing.specs.Requests.{anyRank, noService, noRank}
+use Rattle.routing.specs.Requests.{anyRank}
 use Rattle.routing.specs.Routed.{Tables, Outcome, delivered, forwarded, replied, silenced, home, routed}
 
 -- ---- for whom the rules hold
@@ -134,7 +134,7 @@ pub record Gains (identity : List ℕ) (m new : Message) : Type 0 where
   pub topic : new .topic ≡ m .topic
   pub payload : new .payload ≡ m .payload
 
--- 12: "forwarding would make 65 routes or a body above 32,768"
+-- 12: "forwarding would make 65 routes or a body above 32,768", of which the new route is one, and 38 bytes
 pub record Fits (m : Message) : Type 0 where
   pub routes : length (m .routes) < 64
   pub body : length (bodyOf m) ≤ 32730
@@ -248,9 +248,14 @@ pub record GoesBack (t : Tables) (b : Broker) (m : Message) : Type 0 where
 
 -- ---- 18
 
+-- "4 event", "8 control"
+pub data EventOrControl (h : Header) : Type 0 where
+  event : h .kind ≡ 4 → EventOrControl h
+  control : h .kind ≡ 8 → EventOrControl h
+
 -- 18: "step or walk given an event or control", of any tables and every message that can be written
 pub record Unrouted (t : Tables) (b : Broker) (m : Message) : Type 0 where
-  pub neither : (routed t b m ≡ refused NotRouted) ↔ ((m .header .kind ≡ 4) ⊎ (m .header .kind ≡ 8))
+  pub neither : (routed t b m ≡ refused NotRouted) ↔ EventOrControl (m .header)
 
 abbrev pub EveryUnrouted : Tables → Broker → Type 0
 EveryUnrouted t b = (m : Message) → writing m ≡ answered (frameOf m) → Unrouted t b m
