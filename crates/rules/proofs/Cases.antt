@@ -79,7 +79,7 @@ module _ (t : Tables) (b : Broker) (m : Message) (right : Right t b) where
   there : ForRank m → n ≡ b .rank → way ≡ deliverOr found (Fail 38)
   there f e =
       way-rank (t .tree) (t .services) (b .rank) (m .topic) (b .client) (m .header) (f .other) (f .clear)
-      ∙ rank-reached (t .tree) (t .services) (b .rank) (m .topic) n (omega (arith, right .rank)) (omega arith)
+      ∙ rank-reached (t .tree) (t .services) (b .rank) (m .topic) n (omega (arith, right .rank)) e
 
   anyhow : ForAny m → way ≡ deliverOr found up
   anyhow a = way-any (t .tree) (t .services) (b .rank) (m .topic) (b .client) (m .header) a ∙ up-tried (t .tree) (t .services) (b .rank) (m .topic) refl
@@ -95,7 +95,7 @@ module _ (t : Tables) (b : Broker) (m : Message) (right : Right t b) where
   pub way-served : (number : ℕ) → Tries b m → Registers t b m number → way ≡ Deliver number
   way-served number (Tries.any a) r = anyhow a ∙ ap (λ (f : Found). deliverOr f up) (registers-found number r)
   way-served number (Tries.upstream u c) r = upstream-tried u c ∙ ap (λ (f : Found). deliverOr f up) (registers-found number r)
-  way-served number (Tries.target f e) r = there f e ∙ ap (λ (f : Found). deliverOr f (Fail 38)) (registers-found number r)
+  way-served number (Tries.target f e) r = there f (omega arith) ∙ ap (λ (f : Found). deliverOr f (Fail 38)) (registers-found number r)
 
   way-up : GoesUp t b m → way ≡ up
   way-up (GoesUp.any a none) = anyhow a ∙ ap (λ (f : Found). deliverOr f up) (none-found none)
@@ -114,7 +114,7 @@ module _ (t : Tables) (b : Broker) (m : Message) (right : Right t b) where
 
   pub way-no-service : NoService t b m → way ≡ Fail 38
   way-no-service (NoService.top g e) = way-up g ∙ parent-none (t .tree) (b .rank) (omega arith)
-  way-no-service (NoService.target f e none) = there f e ∙ ap (λ (f : Found). deliverOr f (Fail 38)) (none-found none)
+  way-no-service (NoService.target f e none) = there f (omega arith) ∙ ap (λ (f : Found). deliverOr f (Fail 38)) (none-found none)
 
   pub way-no-rank : NoRank t m → way ≡ Fail 113
   way-no-rank o =
@@ -126,7 +126,7 @@ module _ (t : Tables) (b : Broker) (m : Message) (right : Right t b) where
   climbing : GoesUp t b m → Which t b m
   climbing g =
       ⊎-elim
-      (λ e. no-service (NoService.top g (eqb-true (b .rank) 0 e)))
+      (λ e. no-service (NoService.top g (omega (arith, eqb-true (b .rank) 0 e))))
       (λ e. goes (parentOf (t .tree) (b .rank)) (GoesTo.up g (eqb-false (b .rank) 0 e) refl))
       (outcome (eqb (b .rank) 0))
 
@@ -146,12 +146,12 @@ module _ (t : Tables) (b : Broker) (m : Message) (right : Right t b) where
       (outcome (b .client))
 
   rank-which : ForRank m → Which t b m
-  rank-which f = ⊎-elim (λ inside. within (ltb-true n (ranksIn (t .tree)) inside)) (λ outside. no-rank (record { named = f; outside = ltb-false n (ranksIn (t .tree)) outside })) (outcome (ltb n (ranksIn (t .tree))))
+  rank-which f = ⊎-elim (λ inside. within (ltb-true n (ranksIn (t .tree)) inside)) (λ outside. no-rank (record { named = f; outside = omega (arith, ltb-false n (ranksIn (t .tree)) outside) })) (outcome (ltb n (ranksIn (t .tree))))
     where
       within : n < ranksIn (t .tree) → Which t b m
       within inside =
           ⊎-elim
-          (λ e. looking (Tries.target f (eqb-true n (b .rank) e)) (λ none. no-service (NoService.target f (eqb-true n (b .rank) e) none)))
+          (λ e. looking (Tries.target f (omega (arith, eqb-true n (b .rank) e))) (λ none. no-service (NoService.target f (omega (arith, eqb-true n (b .rank) e)) none)))
           (λ e. goes (towards (t .tree) (b .rank) n) (GoesTo.ahead f inside (eqb-false n (b .rank) e) refl))
           (outcome (eqb n (b .rank)))
 

@@ -156,4 +156,4 @@ module _ (t : Tables) (b : Broker) (m : Message) where
       (λ n k. not-answered (sym (routed-neither t b m n k) ∙ e))
 
   pub silence : Silence t b m
-  silence = record { changes = changes; never-replied = never-replied; never-silenced = never-silenced }
+  silence = record { changes = λ clear. changes clear; never-replied = λ set. never-replied set; never-silenced = λ clear. never-silenced clear }

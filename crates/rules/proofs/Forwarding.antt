@@ -112,7 +112,7 @@ module _ (t : Tables) (b : Broker) (right : Right t b) (m : Message) (v : Valid 
         (record { typed = v .typed; writable = pushed-writable m (v .writable) (inl (v .typed)) identity is (fits .routes) (fits .body) })
 
     new-grows : length (frameOf new) ≡ length (frameOf m) + 38
-    new-grows = rw new-is (omega (arith, pushed-frame m (v .writable) (inl (v .typed)) identity is))
+    new-grows = rw new-is (pushed-frame m (v .writable) (inl (v .typed)) identity is)
 
   forwards : Forwards t b m
   forwards =
@@ -129,7 +129,7 @@ module _ (t : Tables) (b : Broker) (right : Right t b) (m : Message) (v : Valid 
           λ c. onwards (c .0 .0) (c .0 .1) ∙ forward-large (c .0 .0) grown (large-test (c .1)),
         );
         refusal = λ r e. refused-is (request-came t b m v) r e .2;
-        grows = new-grows;
+        grows = λ next new e. omega (arith, new-grows next new e);
         valid = new-valid;
         neighbour = λ next new e. neighbour-next next (goes next new e);
       }

@@ -167,7 +167,7 @@ module _ (t : Tables) (b : Broker) (right : Right t b) (m : Message) where
       new-is = sent .1 ∙ ap (λ (rs : List (List ℕ)). record { header = m .header; routes = drop 1 rs; topic = m .topic; payload = m .payload }) (names .0 .routes)
 
       new-shrinks : length (frameOf new) + 38 ≡ length (frameOf m)
-      new-shrinks = rw new-is (omega (arith, popped-frame m (v .writable) (inr (v .typed)) (names .0 .top) (names .0 .below) (names .0 .routes)))
+      new-shrinks = rw new-is (popped-frame m (v .writable) (inr (v .typed)) (names .0 .top) (names .0 .below) (names .0 .routes))
 
       new-valid : Valid 2 new
       new-valid =
@@ -186,7 +186,7 @@ module _ (t : Tables) (b : Broker) (right : Right t b) (m : Message) where
           no-neighbour = (λ e. far-only (stray-is m way NoNeighbour (sym step ∙ e) .0), λ c. step ∙ ap (responded m) (way-far (c .0) (c .1) (c .2)));
           itself = λ n. step ∙ ap (responded m) (way-far (b .rank) n (not-itself (t .tree) (right .tree) (b .rank) (right .rank)));
           refusal = λ r e. stray-is m way r (sym step ∙ e) .1;
-          shrinks = new-shrinks;
+          shrinks = λ next new e. omega (arith, new-shrinks next new e);
           valid = new-valid;
           not-delivered = λ number e. not-delivered m way number (sym step ∙ e);
           no-error = no-error;
