@@ -3,7 +3,7 @@
 use mathlib.Core.Path.{_≡_, refl, sym, ap, _∙_}
 use mathlib.Core.Bool.{true, false}
 use mathlib.Core.Logic.{inl, ⊎-elim}
-use Prim.Native.Nat.{ℕ, _+_}
+use Prim.Native.Nat.{ℕ, _+_, _<_}
 use native.Mathlib.Omega.{arith}
 use mathlib.Core.List.{List}
 use borrow.Author.Tests.{ltb-true, ltb-false, le-ltb}
@@ -17,10 +17,9 @@ use Rattle.message.specs.Message.{Message}
 use Rattle.message.specs.Frame.{bodyOf, frameOf}
 use Rattle.message.proofs.Forms.{routes-few}
 use Rattle.message.proofs.Messages.{written}
-use Rattle.tree.specs.Tree.{parentOf}
+use Rattle.tree.specs.Tree.{ranksIn}
 use Rattle.tree.proofs.Depths.{parent-in}
-use Rattle.hops.specs.Towards.{isNeighbour}
-use Rattle.hops.proofs.Towards.{parent-neighbour}
+use Rattle.hops.specs.Towards.{towards}
 use Rattle.hops.proofs.Paths.{next-neighbour}
 use Rattle.identities.specs.Identities.{identityAt}
 use Rattle.identities.proofs.Identities.{good-identities}
@@ -30,8 +29,9 @@ use Rattle.routing.specs.Messages.{pushed, tooLarge}
 use Rattle.routing.specs.Routed.{Tables, forwarded, requested, routed}
 use Rattle.routing.proofs.Made.{pushed-body, pushed-frame, pushed-writable}
 use Rattle.routing.proofs.Outcomes.{routed-request, forward-fits, forward-large, forwarded-is, refused-is}
-use Rattle.rules.specs.Rules.{Right, Valid, Every, GoesTo, Gains, Fits, TooLarge, Forwards}
+use Rattle.rules.specs.Rules.{Right, Valid, Every, Neighbour, GoesTo, Gains, Fits, TooLarge, Forwards}
 use Rattle.rules.proofs.ErrorReplies.{request-came}
+use Rattle.rules.proofs.Neighbours.{passes-neighbour}
 use Rattle.rules.proofs.Cases.{way-goes, goes-only}
 
 module _ (t : Tables) (b : Broker) (right : Right t b) (m : Message) (v : Valid 1 m) where
@@ -90,11 +90,11 @@ module _ (t : Tables) (b : Broker) (right : Right t b) (m : Message) (v : Valid 
   onwards : (next : ℕ) → GoesTo t b m next → routed t b m ≡ requested t b m (Forward next)
   onwards next g = routed-request t b m (v .typed) ∙ ap (requested t b m) (way-goes t b m right next g)
 
-  neighbour-next : (next : ℕ) → GoesTo t b m next → isNeighbour (t .tree) (b .rank) next ≡ true
-  neighbour-next next (GoesTo.up g low e) =
-      rw e (parent-neighbour (t .tree) (b .rank) (parentOf (t .tree) (b .rank)) (right .rank) (parent-in (t .tree) (right .tree) (b .rank) (right .rank) low) refl)
+  neighbour-next : (next : ℕ) → GoesTo t b m next → (next < ranksIn (t .tree)) × Neighbour t b next
+  neighbour-next next (GoesTo.up g low e) = (omega (arith, parent-in (t .tree) (right .tree) (b .rank) (right .rank) low), Neighbour.parent (sym e))
   neighbour-next next (GoesTo.ahead f inside apart e) =
-      rw e (next-neighbour (t .tree) (right .tree) (b .rank) (m .header .first) (right .rank) inside (λ s. apart (sym s)) .0)
+      let near = next-neighbour (t .tree) (right .tree) (b .rank) (m .header .first) (right .rank) inside (λ s. apart (sym s)) in
+      rw e (near .1, passes-neighbour t b (right .rank) (towards (t .tree) (b .rank) (m .header .first)) (near .1) (near .0))
 
   module _ (next : ℕ) (new : Message) (e : routed t b m ≡ answered (forwarded next new)) where
     goes : GoesTo t b m next

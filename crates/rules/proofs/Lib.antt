@@ -1,4 +1,5 @@
 -- The rules of specs/Rules.antt, from the laws on ways and outcomes.
+pub mod Neighbours
 pub mod Cases
 pub mod ErrorReplies
 pub mod Serving

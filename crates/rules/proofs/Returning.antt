@@ -1,7 +1,6 @@
 -- The rules on responses.
 -- Assumes nothing.
 use mathlib.Core.Path.{_≡_, refl, sym, ap, _∙_}
-use mathlib.Core.Bool.{true, false}
 use mathlib.Core.Logic.{inr, ⊎-elim}
 use Prim.Native.Nat.{ℕ, _+_, _<_}
 use native.Mathlib.Omega.{arith}
@@ -29,13 +28,14 @@ use Rattle.routing.specs.Routed.{Tables, forwarded, responded, routed}
 use Rattle.routing.proofs.Ways.{back-none, back-top, broker-near, broker-far}
 use Rattle.routing.proofs.Made.{popped-frame, popped-writable}
 use Rattle.routing.proofs.Outcomes.{backOf, clashing, routed-response, home-is, sent-is, stray-is, not-delivered, not-replied, not-silenced}
-use Rattle.rules.specs.Rules.{Right, Valid, Every, ErrorDue, Names, AtHome, Loses, GoesBack}
+use Rattle.rules.specs.Rules.{Right, Valid, Every, Neighbour, ErrorDue, Names, AtHome, Loses, GoesBack}
+use Rattle.rules.proofs.Neighbours.{neighbour-passes, passes-neighbour, neighbour-fails, fails-neighbour}
 
 -- which of the conditions holds
 data Whither (t : Tables) (b : Broker) (m : Message) : Type 0 where
   ended : AtHome t m → Whither t b m
-  near : (rank : ℕ) → Names t m rank → isNeighbour (t .tree) (b .rank) rank ≡ true → Whither t b m
-  far : (rank : ℕ) → Names t m rank → isNeighbour (t .tree) (b .rank) rank ≡ false → Whither t b m
+  near : (rank : ℕ) → Names t m rank → Neighbour t b rank → Whither t b m
+  far : (rank : ℕ) → Names t m rank → (Neighbour t b rank → ⊥) → Whither t b m
 
 module _ (t : Tables) (b : Broker) (right : Right t b) (m : Message) where
   abbrev way : Back
@@ -56,11 +56,11 @@ module _ (t : Tables) (b : Broker) (right : Right t b) (m : Message) where
   few : (rank : ℕ) → Names t m rank → rank < 1024
   few rank n = omega (arith, n .within, whole-few (t .tree) (good-whole (t .tree) (right .tree)))
 
-  way-near : (rank : ℕ) → Names t m rank → isNeighbour (t .tree) (b .rank) rank ≡ true → way ≡ To rank
-  way-near rank n e = way-names rank n ∙ broker-near (t .tree) (b .rank) rank (few rank n) e
+  way-near : (rank : ℕ) → Names t m rank → Neighbour t b rank → way ≡ To rank
+  way-near rank n e = way-names rank n ∙ broker-near (t .tree) (b .rank) rank (few rank n) (neighbour-passes t b (right .rank) rank (n .within) e)
 
-  way-far : (rank : ℕ) → Names t m rank → isNeighbour (t .tree) (b .rank) rank ≡ false → way ≡ Stray
-  way-far rank n e = way-names rank n ∙ broker-far (t .tree) (b .rank) rank (few rank n) e
+  way-far : (rank : ℕ) → Names t m rank → (Neighbour t b rank → ⊥) → way ≡ Stray
+  way-far rank n e = way-names rank n ∙ broker-far (t .tree) (b .rank) rank (few rank n) (neighbour-fails t b (right .rank) rank (n .within) e)
 
   -- the broker that is found is the one that is named
   found-names : (top : List ℕ) (below : List (List ℕ)) → m .routes ≡ top ∷ below → (rank : ℕ) → brokerOf (t .identities) top ≡ At rank → Names t m rank
@@ -86,7 +86,7 @@ module _ (t : Tables) (b : Broker) (right : Right t b) (m : Message) where
   -- ---- one of them holds
 
   named : (rank : ℕ) → Names t m rank → Whither t b m
-  named rank n = ⊎-elim (λ e. near rank n e) (λ e. far rank n e) (outcome (isNeighbour (t .tree) (b .rank) rank))
+  named rank n = ⊎-elim (λ e. near rank n (passes-neighbour t b (right .rank) rank (n .within) e)) (λ e. far rank n (fails-neighbour t b (right .rank) rank (n .within) e)) (outcome (isNeighbour (t .tree) (b .rank) rank))
 
   whither : Whither t b m
   whither = go (m .routes) refl
@@ -118,10 +118,10 @@ module _ (t : Tables) (b : Broker) (right : Right t b) (m : Message) where
       go (near rank n i) = let w = way-near rank n i in clashing cc
       go (far rank n i) = let w = way-far rank n i in clashing cc
 
-  near-only : (next : ℕ) → way ≡ To next → Names t m next × (isNeighbour (t .tree) (b .rank) next ≡ true)
+  near-only : (next : ℕ) → way ≡ To next → Names t m next × Neighbour t b next
   near-only next e = go whither
     where
-      go : Whither t b m → Names t m next × (isNeighbour (t .tree) (b .rank) next ≡ true)
+      go : Whither t b m → Names t m next × Neighbour t b next
       go (ended h) = let w = way-home h in clashing cc
       go (near rank n i) =
           let w = way-near rank n i in
@@ -129,10 +129,10 @@ module _ (t : Tables) (b : Broker) (right : Right t b) (m : Message) where
           rw (← same) (n, i)
       go (far rank n i) = let w = way-far rank n i in clashing cc
 
-  far-only : way ≡ Stray → (rank : ℕ) × Names t m rank × (isNeighbour (t .tree) (b .rank) rank ≡ false)
+  far-only : way ≡ Stray → (rank : ℕ) × Names t m rank × (Neighbour t b rank → ⊥)
   far-only e = go whither
     where
-      go : Whither t b m → (rank : ℕ) × Names t m rank × (isNeighbour (t .tree) (b .rank) rank ≡ false)
+      go : Whither t b m → (rank : ℕ) × Names t m rank × (Neighbour t b rank → ⊥)
       go (ended h) = let w = way-home h in clashing cc
       go (near rank n i) = let w = way-near rank n i in clashing cc
       go (far rank n i) = (rank, n, i)
@@ -159,7 +159,7 @@ module _ (t : Tables) (b : Broker) (right : Right t b) (m : Message) where
       sent : (way ≡ To next) × (new ≡ popped m)
       sent = sent-is m way next new (sym step ∙ e)
 
-      names : Names t m next × (isNeighbour (t .tree) (b .rank) next ≡ true)
+      names : Names t m next × Neighbour t b next
       names = near-only next (sent .0)
 
       -- popped, by the routes that are left
@@ -184,7 +184,7 @@ module _ (t : Tables) (b : Broker) (right : Right t b) (m : Message) where
                 λ c. step ∙ ap (responded m) (way-near next (c .0) (c .1)) ∙ ap (λ (new : Message). answered (forwarded next new)) (sym (loses-popped new (c .2))),
               );
           no-neighbour = (λ e. far-only (stray-is m way NoNeighbour (sym step ∙ e) .0), λ c. step ∙ ap (responded m) (way-far (c .0) (c .1) (c .2)));
-          itself = λ n. step ∙ ap (responded m) (way-far (b .rank) n (not-itself (t .tree) (right .tree) (b .rank) (right .rank)));
+          itself = λ n. step ∙ ap (responded m) (way-far (b .rank) n (fails-neighbour t b (right .rank) (b .rank) (right .rank) (not-itself (t .tree) (right .tree) (b .rank) (right .rank))));
           refusal = λ r e. stray-is m way r (sym step ∙ e) .1;
           shrinks = λ next new e. omega (arith, new-shrinks next new e);
           valid = new-valid;

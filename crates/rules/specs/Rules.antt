@@ -16,7 +16,7 @@ use Rattle.message.specs.Frame.{bodyOf, frameOf}
 use Rattle.message.specs.Writing.{writing}
 use Rattle.tree.specs.Tree.{ranksIn, parentOf}
 use Rattle.tree.specs.Depths.{treeGood}
-use Rattle.hops.specs.Towards.{isNeighbour, towards}
+use Rattle.hops.specs.Towards.{towards}
 use Rattle.services.specs.Services.{servicesIn, serviceAt, rankIn, nameIn, servicesGood}
 use Rattle.lookup.specs.Lookup.{serviceOf}
 use Rattle.identities.specs.Identities.{identityAt, sameIdentity, identitiesGood}
@@ -41,6 +41,11 @@ pub record Valid (type : ℕ) (m : Message) : Type 0 where
 -- a rule for every valid message of a type, in right tables
 abbrev pub Every : ℕ → (Tables → Broker → Message → Type 0) → Tables → Broker → Type 0
 Every type Rule t b = Right t b → (m : Message) → Valid type m → Rule t b m
+
+-- "a neighbour (parent or child)", of a rank of the tree
+pub data Neighbour (t : Tables) (b : Broker) (rank : ℕ) : Type 0 where
+  parent : parentOf (t .tree) (b .rank) ≡ rank → Neighbour t b rank
+  child : parentOf (t .tree) rank ≡ b .rank → Neighbour t b rank
 
 -- ---- which request it is
 
@@ -94,7 +99,7 @@ pub data GoesUp (t : Tables) (b : Broker) (m : Message) : Type 0 where
 pub data GoesTo (t : Tables) (b : Broker) (m : Message) (next : ℕ) : Type 0 where
   -- "else forward to the parent"
   up : GoesUp t b m → (b .rank ≡ 0 → ⊥) → next ≡ parentOf (t .tree) (b .rank) → GoesTo t b m next
-  -- "Otherwise forward to the next broker on the tree path."
+  -- "Otherwise forward to the next broker on the tree path.": that `towards` is this broker is the claim `EveryWay` (the crate claims' specs/Ways.antt)
   ahead : ForRank m → m .header .first < ranksIn (t .tree) → (m .header .first ≡ b .rank → ⊥) → next ≡ towards (t .tree) (b .rank) (m .header .first) → GoesTo t b m next
 
 -- when no service is there
@@ -152,8 +157,8 @@ pub record Forwards (t : Tables) (b : Broker) (m : Message) : Type 0 where
   -- "its length grows by 38"
   pub grows : (next : ℕ) (new : Message) → routed t b m ≡ answered (forwarded next new) → length (frameOf new) ≡ length (frameOf m) + 38
   pub valid : (next : ℕ) (new : Message) → routed t b m ≡ answered (forwarded next new) → Valid 1 new
-  -- the next broker is the parent or a child
-  pub neighbour : (next : ℕ) (new : Message) → routed t b m ≡ answered (forwarded next new) → isNeighbour (t .tree) (b .rank) next ≡ true
+  -- the next broker is one of the tree, and a neighbour
+  pub neighbour : (next : ℕ) (new : Message) → routed t b m ≡ answered (forwarded next new) → (next < ranksIn (t .tree)) × Neighbour t b next
 
 -- ---- the error reply and noresponse
 
@@ -235,9 +240,9 @@ pub record Loses (m new : Message) : Type 0 where
 pub record GoesBack (t : Tables) (b : Broker) (m : Message) : Type 0 where
   pub homeward : (routed t b m ≡ answered home) ↔ AtHome t m
   -- "If it names a neighbour (parent or child), remove it and forward there."
-  pub forward : (next : ℕ) (new : Message) → (routed t b m ≡ answered (forwarded next new)) ↔ (Names t m next × (isNeighbour (t .tree) (b .rank) next ≡ true) × Loses m new)
+  pub forward : (next : ℕ) (new : Message) → (routed t b m ≡ answered (forwarded next new)) ↔ (Names t m next × Neighbour t b next × Loses m new)
   -- 19: "a response's top route is a broker that is no neighbour, itself included"
-  pub no-neighbour : (routed t b m ≡ refused NoNeighbour) ↔ ((rank : ℕ) × Names t m rank × (isNeighbour (t .tree) (b .rank) rank ≡ false))
+  pub no-neighbour : (routed t b m ≡ refused NoNeighbour) ↔ ((rank : ℕ) × Names t m rank × (Neighbour t b rank → ⊥))
   pub itself : Names t m (b .rank) → routed t b m ≡ refused NoNeighbour
   pub refusal : (r : Refusal) → routed t b m ≡ refused r → r ≡ NoNeighbour
   pub shrinks : (next : ℕ) (new : Message) → routed t b m ≡ answered (forwarded next new) → length (frameOf new) + 38 ≡ length (frameOf m)
