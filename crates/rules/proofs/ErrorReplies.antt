@@ -8,14 +8,13 @@ use native.Mathlib.Omega.{arith}
 use borrow.Author.Tests.{eqb-true, eqb-false, eq-eqb}
 use lib.Dec.{eqb, ltb}
 use lib.ListN.{length}
-use Rattle.octets.proofs.Truth.{outcome, clash}
+use Rattle.octets.proofs.Truth.{outcome}
 use Rattle.message.specs.declared.Header.{Header}
 use Rattle.message.specs.Answer.{answered}
 use Rattle.message.specs.Header.{hasTopic, hasPayload, hasRoute, noResponse, isUpstream}
 use Rattle.message.specs.Message.{Message}
 use Rattle.message.specs.Frame.{bodyOf}
 use Rattle.message.specs.Writing.{mostRoutes}
-use Rattle.message.proofs.Answers.{not-answered}
 use Rattle.identities.specs.Identities.{identityAt}
 use Rattle.routing.specs.declared.Broker.{Broker}
 use Rattle.routing.specs.declared.Way.{Way}
@@ -24,11 +23,11 @@ use Rattle.routing.specs.declared.Back.{Back}
 use Rattle.routing.specs.declared.Back.the-variants.{Home, To, Stray}
 use Rattle.routing.specs.Requests.{requestWay}
 use Rattle.routing.specs.Messages.{pushed, errorReply, tooLarge}
-use Rattle.routing.specs.Routed.{Tables, replied, silenced, requested, responded, routed}
+use Rattle.routing.specs.Routed.{Tables, replied, requested, responded, routed}
 use Rattle.routing.proofs.Bodies.{body-length}
 use Rattle.routing.proofs.Made.{reply-frame, reply-writable}
-use Rattle.routing.proofs.Outcomes.{wayOf, backOf, Came, came, routed-request, routed-response, routed-neither, forward-fits, forward-large, replied-is, silenced-is, not-replied, not-silenced}
-use Rattle.rules.specs.Rules.{Valid, Every, Replies, hushed, silently, Silence}
+use Rattle.routing.proofs.Outcomes.{wayOf, backOf, Came, came, routed-request, routed-response, routed-neither, forward-fits, forward-large, replied-is, silenced-is}
+use Rattle.rules.specs.Rules.{Valid, Replies, Heard, hushed, silently}
 
 -- ---- the error reply
 
@@ -37,7 +36,7 @@ module _ (t : Tables) (b : Broker) (m : Message) (v : Valid 1 m) where
   pub request-came : Came t b m (wayOf t b m) (routed t b m)
   request-came = rw (routed-request t b m (v .typed)) (came t b m (wayOf t b m))
 
-  replies : Replies t b m
+  pub replies : Replies b m (routed t b m)
   replies =
       record {
         reply = λ errnum reply e. rw (made errnum reply e) (record { kind = refl; routes = refl; topic = refl; matchtag = refl; error = refl; userid = refl; rolemask = refl; flags = refl; payload = refl });
@@ -51,8 +50,8 @@ module _ (t : Tables) (b : Broker) (m : Message) (v : Valid 1 m) where
       made : (errnum : ℕ) (reply : Message) → routed t b m ≡ answered (replied errnum reply) → reply ≡ errorReply (b .userid) (b .rolemask) errnum m
       made errnum reply e = replied-is request-came errnum reply e .2
 
-pub every-reply : (t : Tables) (b : Broker) → Every 1 Replies t b
-every-reply t b right m v = replies t b m v
+  pub heard : Heard m (routed t b m)
+  heard = record { reply = λ errnum reply e. replied-is request-came errnum reply e .1; silence = λ errnum e. silenced-is request-came errnum e .1 }
 
 -- ---- noresponse
 
@@ -134,26 +133,9 @@ module _ (t : Tables) (b : Broker) (m : Message) where
     response-silently (To broker) = refl
     response-silently Stray = refl
 
-  changes : noResponse f ≡ false → routed t b (hushed m) ≡ silently (routed t b m)
-  changes clear =
+  pub only-silence : noResponse f ≡ false → routed t b (hushed m) ≡ silently (routed t b m)
+  only-silence clear =
       by-type (m .header)
       (λ one. routed-request t b (hushed m) one ∙ ap (requested t b (hushed m)) (same-way clear) ∙ request-silently clear (wayOf t b m) ∙ sym (ap silently (routed-request t b m one)))
       (λ n two. routed-response t b (hushed m) n two ∙ response-silently clear (backOf t b m) ∙ sym (ap silently (routed-response t b m n two)))
       (λ n k. routed-neither t b (hushed m) n k ∙ sym (ap silently (routed-neither t b m n k)))
-
-  never-replied : noResponse f ≡ true → (errnum : ℕ) (reply : Message) → routed t b m ≡ answered (replied errnum reply) → ⊥
-  never-replied set errnum reply e =
-      by-type (m .header)
-      (λ one. clash (noResponse f) set (replied-is (came t b m (wayOf t b m)) errnum reply (sym (routed-request t b m one) ∙ e) .1))
-      (λ n two. not-replied m (backOf t b m) errnum reply (sym (routed-response t b m n two) ∙ e))
-      (λ n k. not-answered (sym (routed-neither t b m n k) ∙ e))
-
-  never-silenced : noResponse f ≡ false → (errnum : ℕ) → routed t b m ≡ answered (silenced errnum) → ⊥
-  never-silenced clear errnum e =
-      by-type (m .header)
-      (λ one. clash (noResponse f) (silenced-is (came t b m (wayOf t b m)) errnum (sym (routed-request t b m one) ∙ e) .1) clear)
-      (λ n two. not-silenced m (backOf t b m) errnum (sym (routed-response t b m n two) ∙ e))
-      (λ n k. not-answered (sym (routed-neither t b m n k) ∙ e))
-
-  pub silence : Silence t b m
-  silence = record { changes = λ clear. changes clear; never-replied = λ set. never-replied set; never-silenced = λ clear. never-silenced clear }

@@ -29,7 +29,7 @@ use Rattle.routing.specs.Messages.{pushed, tooLarge}
 use Rattle.routing.specs.Routed.{Tables, forwarded, requested, routed}
 use Rattle.routing.proofs.Made.{pushed-body, pushed-frame, pushed-writable}
 use Rattle.routing.proofs.Outcomes.{routed-request, forward-fits, forward-large, forwarded-is, refused-is}
-use Rattle.rules.specs.Rules.{Right, Valid, Every, Neighbour, GoesTo, Gains, Fits, TooLarge, Forwards}
+use Rattle.rules.specs.Rules.{Right, Valid, Neighbour, GoesTo, Gains, Fits, TooLarge, Forwards}
 use Rattle.rules.proofs.ErrorReplies.{request-came}
 use Rattle.rules.proofs.Neighbours.{passes-neighbour}
 use Rattle.rules.proofs.Cases.{way-goes, goes-only}
@@ -54,7 +54,7 @@ module _ (t : Tables) (b : Broker) (right : Right t b) (m : Message) (v : Valid 
       or-neither (ltb 64 (length (grown .routes))) (ltb 32768 (length (bodyOf grown))) (le-ltb 64 (length (grown .routes)) (omega (arith, f .routes)))
       (le-ltb 32768 (length (bodyOf grown)) (omega (arith, f .body, grown-body)))
 
-  not-fits : tooLarge grown ≡ false → Fits m
+  pub not-fits : tooLarge grown ≡ false → Fits m
   not-fits e =
       record {
         routes = omega (arith, ltb-false 64 (length (grown .routes)) (or-left (ltb 64 (length (grown .routes))) (ltb 32768 (length (bodyOf grown))) e));
@@ -68,7 +68,7 @@ module _ (t : Tables) (b : Broker) (right : Right t b) (m : Message) (v : Valid 
   large-test : TooLarge m → tooLarge grown ≡ true
   large-test l = ⊎-elim (λ e. e) (λ e. absurd (large-not-fits l (not-fits e))) (outcome (tooLarge grown))
 
-  test-large : tooLarge grown ≡ true → TooLarge m
+  pub test-large : tooLarge grown ≡ true → TooLarge m
   test-large e =
       ⊎-elim
       (λ many. TooLarge.routes (omega (arith, ltb-true 63 (length (m .routes)) many, routes-few (m .routes) (written m (frameOf m) (v .writable) .passes .routes))))
@@ -84,7 +84,7 @@ module _ (t : Tables) (b : Broker) (right : Right t b) (m : Message) (v : Valid 
   gains-grown : (new : Message) → Gains identity m new → new ≡ grown
   gains-grown new g = λ i. record { header = g .header i; routes = g .routes i; topic = g .topic i; payload = g .payload i }
 
-  grown-gains : (new : Message) → new ≡ grown → Gains identity m new
+  pub grown-gains : (new : Message) → new ≡ grown → Gains identity m new
   grown-gains new e = rw e (record { header = refl; routes = refl; topic = refl; payload = refl })
 
   onwards : (next : ℕ) → GoesTo t b m next → routed t b m ≡ requested t b m (Forward next)
@@ -114,7 +114,7 @@ module _ (t : Tables) (b : Broker) (right : Right t b) (m : Message) (v : Valid 
     new-grows : length (frameOf new) ≡ length (frameOf m) + 38
     new-grows = rw new-is (pushed-frame m (v .writable) (inl (v .typed)) identity is)
 
-  forwards : Forwards t b m
+  pub forwards : Forwards t b m (routed t b m)
   forwards =
       record {
         forward =
@@ -133,6 +133,3 @@ module _ (t : Tables) (b : Broker) (right : Right t b) (m : Message) (v : Valid 
         valid = new-valid;
         neighbour = λ next new e. neighbour-next next (goes next new e);
       }
-
-pub every-forwarding : (t : Tables) (b : Broker) → Every 1 Forwards t b
-every-forwarding t b right m v = forwards t b right m v

@@ -6,3 +6,4 @@ pub mod Serving
 pub mod Forwarding
 pub mod Returning
 pub mod Neither
+pub mod Deciding

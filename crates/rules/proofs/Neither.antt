@@ -17,7 +17,7 @@ use Rattle.message.proofs.Messages.{written}
 use Rattle.routing.specs.declared.Broker.{Broker}
 use Rattle.routing.specs.Routed.{Tables, routed}
 use Rattle.routing.proofs.Outcomes.{wayOf, backOf, clashing, came, routed-request, routed-response, routed-neither, refused-is, stray-is}
-use Rattle.rules.specs.Rules.{EventOrControl, EveryUnrouted}
+use Rattle.rules.specs.Rules.{EventOrControl, OthersByTheRules}
 use Rattle.rules.proofs.ErrorReplies.{by-type}
 
 -- "1 request, 2 response, 4 event, 8 control", and no other
@@ -54,5 +54,5 @@ module _ (t : Tables) (b : Broker) (m : Message) where
   neither-routed (EventOrControl.event e) = routed-neither t b m (λ f. omega arith) (λ f. omega arith)
   neither-routed (EventOrControl.control e) = routed-neither t b m (λ f. omega arith) (λ f. omega arith)
 
-pub every-unrouted : (t : Tables) (b : Broker) → EveryUnrouted t b
-every-unrouted t b m w = record { neither = (not-routed t b m (written m (frameOf m) w .passes .known), neither-routed t b m) }
+pub others-by-the-rules : (t : Tables) (b : Broker) → OthersByTheRules t b
+others-by-the-rules t b m w = record { neither = (not-routed t b m (written m (frameOf m) w .passes .known), neither-routed t b m) }

@@ -28,11 +28,11 @@ use Rattle.routing.specs.Routed.{Tables, forwarded, responded, routed}
 use Rattle.routing.proofs.Ways.{back-none, back-top, broker-near, broker-far}
 use Rattle.routing.proofs.Made.{popped-frame, popped-writable}
 use Rattle.routing.proofs.Outcomes.{backOf, clashing, routed-response, home-is, sent-is, stray-is, not-delivered, not-replied, not-silenced}
-use Rattle.rules.specs.Rules.{Right, Valid, Every, Neighbour, ErrorDue, Names, AtHome, Loses, GoesBack}
+use Rattle.rules.specs.Rules.{Right, Valid, Neighbour, ErrorDue, Names, AtHome, Loses, GoesBack}
 use Rattle.rules.proofs.Neighbours.{neighbour-passes, passes-neighbour, neighbour-fails, fails-neighbour}
 
 -- which of the conditions holds
-data Whither (t : Tables) (b : Broker) (m : Message) : Type 0 where
+pub data Whither (t : Tables) (b : Broker) (m : Message) : Type 0 where
   ended : AtHome t m → Whither t b m
   near : (rank : ℕ) → Names t m rank → Neighbour t b rank → Whither t b m
   far : (rank : ℕ) → Names t m rank → (Neighbour t b rank → ⊥) → Whither t b m
@@ -88,7 +88,7 @@ module _ (t : Tables) (b : Broker) (right : Right t b) (m : Message) where
   named : (rank : ℕ) → Names t m rank → Whither t b m
   named rank n = ⊎-elim (λ e. near rank n (passes-neighbour t b (right .rank) rank (n .within) e)) (λ e. far rank n (fails-neighbour t b (right .rank) rank (n .within) e)) (outcome (isNeighbour (t .tree) (b .rank) rank))
 
-  whither : Whither t b m
+  pub whither : Whither t b m
   whither = go (m .routes) refl
     where
       -- no other rank is named where none is found
@@ -143,7 +143,7 @@ module _ (t : Tables) (b : Broker) (right : Right t b) (m : Message) where
   loses-popped : (new : Message) → Loses m new → new ≡ popped m
   loses-popped new l = λ i. record { header = l .header i; routes = ap (drop 1) (sym (l .routes)) i; topic = l .topic i; payload = l .payload i }
 
-  popped-loses : (new : Message) → new ≡ popped m → (rank : ℕ) → Names t m rank → Loses m new
+  pub popped-loses : (new : Message) → new ≡ popped m → (rank : ℕ) → Names t m rank → Loses m new
   popped-loses new e rank n =
       rw e (record { header = refl; top = n .top; routes = n .routes ∙ ap (λ (rs : List (List ℕ)). n .top ∷ rs) (sym (ap (drop 1) (n .routes))); topic = refl; payload = refl })
 
@@ -151,7 +151,7 @@ module _ (t : Tables) (b : Broker) (right : Right t b) (m : Message) where
     step : routed t b m ≡ responded m way
     step = routed-response t b m (λ k. omega (arith, v .typed)) (v .typed)
 
-    no-error : (errnum : ℕ) → ErrorDue t b m errnum → ⊥
+    no-error : (errnum : ℕ) → ErrorDue (routed t b m) errnum → ⊥
     no-error errnum (ErrorDue.made reply e) = not-replied m way errnum reply (sym step ∙ e)
     no-error errnum (ErrorDue.silent e) = not-silenced m way errnum (sym step ∙ e)
 
@@ -174,7 +174,7 @@ module _ (t : Tables) (b : Broker) (right : Right t b) (m : Message) where
           rw new-is
           (record { typed = v .typed; writable = popped-writable m (v .writable) (inr (v .typed)) (names .0 .top) (names .0 .below) (names .0 .routes) })
 
-    returns : GoesBack t b m
+    pub returns : GoesBack t b m (routed t b m)
     returns =
         record {
           homeward = (λ e. home-only (home-is m way (sym step ∙ e)), λ h. step ∙ ap (responded m) (way-home h));
@@ -191,6 +191,3 @@ module _ (t : Tables) (b : Broker) (right : Right t b) (m : Message) where
           not-delivered = λ number e. not-delivered m way number (sym step ∙ e);
           no-error = no-error;
         }
-
-pub every-return : (t : Tables) (b : Broker) → Every 2 GoesBack t b
-every-return t b right m v = returns t b right m v

@@ -13,16 +13,16 @@ use Rattle.routing.specs.declared.Way.the-variants.{Fail}
 use Rattle.routing.specs.Messages.{errorReply}
 use Rattle.routing.specs.Routed.{Tables, failed, requested, routed}
 use Rattle.routing.proofs.Outcomes.{wayOf, routed-request, failed-loud, failed-quiet, delivered-is, replied-is, silenced-is, not-home}
-use Rattle.rules.specs.Rules.{Right, Valid, Every, NoService, NoRank, ErrorDue, Served}
+use Rattle.rules.specs.Rules.{Right, Valid, NoService, NoRank, ErrorDue, Served}
 use Rattle.rules.proofs.ErrorReplies.{request-came}
 use Rattle.rules.proofs.Cases.{Fails, by-service, by-rank, way-served, way-no-service, way-no-rank, served-only, fails-only}
 
 module _ (t : Tables) (b : Broker) (right : Right t b) (m : Message) (v : Valid 1 m) where
-  due-way : (errnum : ℕ) → ErrorDue t b m errnum → wayOf t b m ≡ Fail errnum
+  due-way : (errnum : ℕ) → ErrorDue (routed t b m) errnum → wayOf t b m ≡ Fail errnum
   due-way errnum (ErrorDue.made reply e) = replied-is (request-came t b m v) errnum reply e .0
   due-way errnum (ErrorDue.silent e) = silenced-is (request-came t b m v) errnum e .0
 
-  way-due : (errnum : ℕ) → wayOf t b m ≡ Fail errnum → ErrorDue t b m errnum
+  way-due : (errnum : ℕ) → wayOf t b m ≡ Fail errnum → ErrorDue (routed t b m) errnum
   way-due errnum w =
       let fails : routed t b m ≡ answered (failed b errnum m) = routed-request t b m (v .typed) ∙ ap (requested t b m) w in
       ⊎-elim
@@ -42,7 +42,7 @@ module _ (t : Tables) (b : Broker) (right : Right t b) (m : Message) (v : Valid 
   one-of-two errnum (by-service e s) = inl e
   one-of-two errnum (by-rank e o) = inr e
 
-  served : Served t b m
+  pub served : Served t b m (routed t b m)
   served =
       record {
         delivery =
@@ -55,6 +55,3 @@ module _ (t : Tables) (b : Broker) (right : Right t b) (m : Message) (v : Valid 
         no-other = λ errnum e. one-of-two errnum (fails-only t b m right errnum (due-way errnum e));
         not-home = not-home (request-came t b m v);
       }
-
-pub every-serving : (t : Tables) (b : Broker) → Every 1 Served t b
-every-serving t b right m v = served t b right m v

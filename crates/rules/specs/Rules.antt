@@ -1,5 +1,6 @@
--- Demand 2 of one broker's step: what `routed` (the crate routing's specs/Routed.antt) answers, rule by rule, and only in the case that the paper names.
--- The conditions speak of the tables and of the message, and not of the tests that `routed` makes. Assumes nothing.
+-- Demand 2 of one broker's step, rule by rule: each answer comes exactly in the case that the paper names. A rule speaks of the tables, the broker, the
+-- message and an answer a; that the answer of `routed` (the crate routing's specs/Routed.antt) meets all of them, and no other does, are the claims at
+-- the end. Assumes nothing.
 use mathlib.Core.Path.{_≡_}
 use mathlib.Core.Bool.{true, false, cond}
 use mathlib.Core.Logic.{_⊎_, _↔_}
@@ -37,10 +38,6 @@ pub record Right (t : Tables) (b : Broker) : Type 0 where
 pub record Valid (type : ℕ) (m : Message) : Type 0 where
   pub typed : m .header .kind ≡ type
   pub writable : writing m ≡ answered (frameOf m)
-
--- a rule for every valid message of a type, in right tables
-abbrev pub Every : ℕ → (Tables → Broker → Message → Type 0) → Tables → Broker → Type 0
-Every type Rule t b = Right t b → (m : Message) → Valid type m → Rule t b m
 
 -- "a neighbour (parent or child)", of a rank of the tree
 pub data Neighbour (t : Tables) (b : Broker) (rank : ℕ) : Type 0 where
@@ -117,18 +114,18 @@ pub record NoRank (t : Tables) (m : Message) : Type 0 where
 -- ---- delivery, 38 and 113
 
 -- "3 error reply made, with the error number; 4 silenced (an error was due, noresponse set), with that number"
-pub data ErrorDue (t : Tables) (b : Broker) (m : Message) (errnum : ℕ) : Type 0 where
-  made : (reply : Message) → routed t b m ≡ answered (replied errnum reply) → ErrorDue t b m errnum
-  silent : routed t b m ≡ answered (silenced errnum) → ErrorDue t b m errnum
+pub data ErrorDue (a : Answer Outcome) (errnum : ℕ) : Type 0 where
+  made : (reply : Message) → a ≡ answered (replied errnum reply) → ErrorDue a errnum
+  silent : a ≡ answered (silenced errnum) → ErrorDue a errnum
 
-pub record Served (t : Tables) (b : Broker) (m : Message) : Type 0 where
+pub record Served (t : Tables) (b : Broker) (m : Message) (a : Answer Outcome) : Type 0 where
   -- "1 delivered, with the record's number, counted from 0"
-  pub delivery : (number : ℕ) → (routed t b m ≡ answered (delivered number)) ↔ (Tries b m × Registers t b m number)
-  pub error-38 : ErrorDue t b m 38 ↔ NoService t b m
-  pub error-113 : ErrorDue t b m 113 ↔ NoRank t m
-  pub no-other : (errnum : ℕ) → ErrorDue t b m errnum → (errnum ≡ 38) ⊎ (errnum ≡ 113)
+  pub delivery : (number : ℕ) → (a ≡ answered (delivered number)) ↔ (Tries b m × Registers t b m number)
+  pub error-38 : ErrorDue a 38 ↔ NoService t b m
+  pub error-113 : ErrorDue a 113 ↔ NoRank t m
+  pub no-other : (errnum : ℕ) → ErrorDue a errnum → (errnum ≡ 38) ⊎ (errnum ≡ 113)
   -- "5 home" is for responses
-  pub not-home : routed t b m ≡ answered home → ⊥
+  pub not-home : a ≡ answered home → ⊥
 
 -- ---- forwarding and 12
 
@@ -148,17 +145,17 @@ pub data TooLarge (m : Message) : Type 0 where
   routes : length (m .routes) ≡ 64 → TooLarge m
   body : 32730 < length (bodyOf m) → TooLarge m
 
-pub record Forwards (t : Tables) (b : Broker) (m : Message) : Type 0 where
+pub record Forwards (t : Tables) (b : Broker) (m : Message) (a : Answer Outcome) : Type 0 where
   -- "2 forward, with the rank"
-  pub forward : (next : ℕ) (new : Message) → (routed t b m ≡ answered (forwarded next new)) ↔ (GoesTo t b m next × Fits m × Gains (identityAt (t .identities) (b .rank)) m new)
-  pub too-large : (routed t b m ≡ refused NoForwarding) ↔ (((next : ℕ) × GoesTo t b m next) × TooLarge m)
+  pub forward : (next : ℕ) (new : Message) → (a ≡ answered (forwarded next new)) ↔ (GoesTo t b m next × Fits m × Gains (identityAt (t .identities) (b .rank)) m new)
+  pub too-large : (a ≡ refused NoForwarding) ↔ (((next : ℕ) × GoesTo t b m next) × TooLarge m)
   -- and no other refusal
-  pub refusal : (r : Refusal) → routed t b m ≡ refused r → r ≡ NoForwarding
+  pub refusal : (r : Refusal) → a ≡ refused r → r ≡ NoForwarding
   -- "its length grows by 38"
-  pub grows : (next : ℕ) (new : Message) → routed t b m ≡ answered (forwarded next new) → length (frameOf new) ≡ length (frameOf m) + 38
-  pub valid : (next : ℕ) (new : Message) → routed t b m ≡ answered (forwarded next new) → Valid 1 new
+  pub grows : (next : ℕ) (new : Message) → a ≡ answered (forwarded next new) → length (frameOf new) ≡ length (frameOf m) + 38
+  pub valid : (next : ℕ) (new : Message) → a ≡ answered (forwarded next new) → Valid 1 new
   -- the next broker is one of the tree, and a neighbour
-  pub neighbour : (next : ℕ) (new : Message) → routed t b m ≡ answered (forwarded next new) → (next < ranksIn (t .tree)) × Neighbour t b next
+  pub neighbour : (next : ℕ) (new : Message) → a ≡ answered (forwarded next new) → (next < ranksIn (t .tree)) × Neighbour t b next
 
 -- ---- the error reply and noresponse
 
@@ -175,10 +172,90 @@ pub record IsReply (b : Broker) (m : Message) (errnum : ℕ) (reply : Message) :
   pub flags : reply .header .flags ≡ cond (isStreaming (m .header .flags)) 0x49 0x09
   pub payload : reply .payload ≡ []
 
-pub record Replies (t : Tables) (b : Broker) (m : Message) : Type 0 where
-  pub reply : (errnum : ℕ) (reply : Message) → routed t b m ≡ answered (replied errnum reply) → IsReply b m errnum reply
-  pub no-longer : (errnum : ℕ) (reply : Message) → routed t b m ≡ answered (replied errnum reply) → length (frameOf reply) ≤ length (frameOf m)
-  pub valid : (errnum : ℕ) (reply : Message) → routed t b m ≡ answered (replied errnum reply) → Valid 2 reply
+pub record Replies (b : Broker) (m : Message) (a : Answer Outcome) : Type 0 where
+  pub reply : (errnum : ℕ) (reply : Message) → a ≡ answered (replied errnum reply) → IsReply b m errnum reply
+  pub no-longer : (errnum : ℕ) (reply : Message) → a ≡ answered (replied errnum reply) → length (frameOf reply) ≤ length (frameOf m)
+  pub valid : (errnum : ℕ) (reply : Message) → a ≡ answered (replied errnum reply) → Valid 2 reply
+
+-- "4 silenced (an error was due, noresponse set)": a reply where noresponse is clear, silence where it is set
+pub record Heard (m : Message) (a : Answer Outcome) : Type 0 where
+  pub reply : (errnum : ℕ) (reply : Message) → a ≡ answered (replied errnum reply) → noResponse (m .header .flags) ≡ false
+  pub silence : (errnum : ℕ) → a ≡ answered (silenced errnum) → noResponse (m .header .flags) ≡ true
+
+-- ---- responses
+
+-- the top route is the identity of the broker of a rank
+pub record Names (t : Tables) (m : Message) (rank : ℕ) : Type 0 where
+  pub within : rank < ranksIn (t .tree)
+  pub top : List ℕ
+  pub below : List (List ℕ)
+  pub routes : m .routes ≡ top ∷ below
+  pub same : sameIdentity (identityAt (t .identities) rank) top ≡ true
+
+-- "if there are no routes, or the top route is no broker's identity, the response is home"
+pub data AtHome (t : Tables) (m : Message) : Type 0 where
+  no-routes : m .routes ≡ [] → AtHome t m
+  no-broker : ((rank : ℕ) → Names t m rank → ⊥) → AtHome t m
+
+-- "remove it": the top route, and all else stays
+pub record Loses (m new : Message) : Type 0 where
+  pub header : new .header ≡ m .header
+  pub top : List ℕ
+  pub routes : m .routes ≡ top ∷ new .routes
+  pub topic : new .topic ≡ m .topic
+  pub payload : new .payload ≡ m .payload
+
+pub record GoesBack (t : Tables) (b : Broker) (m : Message) (a : Answer Outcome) : Type 0 where
+  pub homeward : (a ≡ answered home) ↔ AtHome t m
+  -- "If it names a neighbour (parent or child), remove it and forward there."
+  pub forward : (next : ℕ) (new : Message) → (a ≡ answered (forwarded next new)) ↔ (Names t m next × Neighbour t b next × Loses m new)
+  -- 19: "a response's top route is a broker that is no neighbour, itself included"
+  pub no-neighbour : (a ≡ refused NoNeighbour) ↔ ((rank : ℕ) × Names t m rank × (Neighbour t b rank → ⊥))
+  pub itself : Names t m (b .rank) → a ≡ refused NoNeighbour
+  pub refusal : (r : Refusal) → a ≡ refused r → r ≡ NoNeighbour
+  pub shrinks : (next : ℕ) (new : Message) → a ≡ answered (forwarded next new) → length (frameOf new) + 38 ≡ length (frameOf m)
+  pub valid : (next : ℕ) (new : Message) → a ≡ answered (forwarded next new) → Valid 2 new
+  -- a response is not delivered, and no error comes of it
+  pub not-delivered : (number : ℕ) → a ≡ answered (delivered number) → ⊥
+  pub no-error : (errnum : ℕ) → ErrorDue a errnum → ⊥
+
+-- ---- 18
+
+-- "4 event", "8 control"
+pub data EventOrControl (h : Header) : Type 0 where
+  event : h .kind ≡ 4 → EventOrControl h
+  control : h .kind ≡ 8 → EventOrControl h
+
+-- 18: "step or walk given an event or control"
+pub record Unrouted (m : Message) (a : Answer Outcome) : Type 0 where
+  pub neither : (a ≡ refused NotRouted) ↔ EventOrControl (m .header)
+
+-- ---- the claims: what `routed` answers meets the rules
+
+-- of a valid request
+pub record RequestRules (t : Tables) (b : Broker) (m : Message) (a : Answer Outcome) : Type 0 where
+  pub served : Served t b m a
+  pub forwards : Forwards t b m a
+  pub replies : Replies b m a
+  pub heard : Heard m a
+
+abbrev pub RequestsByTheRules : Tables → Broker → Type 0
+RequestsByTheRules t b = Right t b → (m : Message) → Valid 1 m → RequestRules t b m (routed t b m)
+
+-- of a valid response
+abbrev pub ResponsesByTheRules : Tables → Broker → Type 0
+ResponsesByTheRules t b = Right t b → (m : Message) → Valid 2 m → GoesBack t b m (routed t b m)
+
+-- of every message that can be written, whatever the tables
+abbrev pub OthersByTheRules : Tables → Broker → Type 0
+OthersByTheRules t b = (m : Message) → writing m ≡ answered (frameOf m) → Unrouted m (routed t b m)
+
+-- and the rules leave no choice: an answer that meets them is that of `routed`
+pub record NoOtherAnswer (t : Tables) (b : Broker) : Type 0 where
+  pub request : Right t b → (m : Message) → Valid 1 m → (a : Answer Outcome) → RequestRules t b m a → a ≡ routed t b m
+  pub response : Right t b → (m : Message) → Valid 2 m → (a : Answer Outcome) → GoesBack t b m a → a ≡ routed t b m
+
+-- ---- one request with noresponse and without
 
 -- the message with flag 04 added, and nothing else changed
 abbrev pub hushed : Message → Message
@@ -207,60 +284,6 @@ silently (answered (replied errnum reply)) = answered (silenced errnum)
 silently (answered (silenced errnum)) = answered (silenced errnum)
 silently (answered home) = answered home
 
--- "noresponse changes only answer 3 into 4", of any tables and any message
-pub record Silence (t : Tables) (b : Broker) (m : Message) : Type 0 where
-  pub changes : noResponse (m .header .flags) ≡ false → routed t b (hushed m) ≡ silently (routed t b m)
-  -- "4 silenced (an error was due, noresponse set)"
-  pub never-replied : noResponse (m .header .flags) ≡ true → (errnum : ℕ) (reply : Message) → routed t b m ≡ answered (replied errnum reply) → ⊥
-  pub never-silenced : noResponse (m .header .flags) ≡ false → (errnum : ℕ) → routed t b m ≡ answered (silenced errnum) → ⊥
-
--- ---- responses
-
--- the top route is the identity of the broker of a rank
-pub record Names (t : Tables) (m : Message) (rank : ℕ) : Type 0 where
-  pub within : rank < ranksIn (t .tree)
-  pub top : List ℕ
-  pub below : List (List ℕ)
-  pub routes : m .routes ≡ top ∷ below
-  pub same : sameIdentity (identityAt (t .identities) rank) top ≡ true
-
--- "if there are no routes, or the top route is no broker's identity, the response is home"
-pub data AtHome (t : Tables) (m : Message) : Type 0 where
-  no-routes : m .routes ≡ [] → AtHome t m
-  no-broker : ((rank : ℕ) → Names t m rank → ⊥) → AtHome t m
-
--- "remove it": the top route, and all else stays
-pub record Loses (m new : Message) : Type 0 where
-  pub header : new .header ≡ m .header
-  pub top : List ℕ
-  pub routes : m .routes ≡ top ∷ new .routes
-  pub topic : new .topic ≡ m .topic
-  pub payload : new .payload ≡ m .payload
-
-pub record GoesBack (t : Tables) (b : Broker) (m : Message) : Type 0 where
-  pub homeward : (routed t b m ≡ answered home) ↔ AtHome t m
-  -- "If it names a neighbour (parent or child), remove it and forward there."
-  pub forward : (next : ℕ) (new : Message) → (routed t b m ≡ answered (forwarded next new)) ↔ (Names t m next × Neighbour t b next × Loses m new)
-  -- 19: "a response's top route is a broker that is no neighbour, itself included"
-  pub no-neighbour : (routed t b m ≡ refused NoNeighbour) ↔ ((rank : ℕ) × Names t m rank × (Neighbour t b rank → ⊥))
-  pub itself : Names t m (b .rank) → routed t b m ≡ refused NoNeighbour
-  pub refusal : (r : Refusal) → routed t b m ≡ refused r → r ≡ NoNeighbour
-  pub shrinks : (next : ℕ) (new : Message) → routed t b m ≡ answered (forwarded next new) → length (frameOf new) + 38 ≡ length (frameOf m)
-  pub valid : (next : ℕ) (new : Message) → routed t b m ≡ answered (forwarded next new) → Valid 2 new
-  -- a response is not delivered, and no error comes of it
-  pub not-delivered : (number : ℕ) → routed t b m ≡ answered (delivered number) → ⊥
-  pub no-error : (errnum : ℕ) → ErrorDue t b m errnum → ⊥
-
--- ---- 18
-
--- "4 event", "8 control"
-pub data EventOrControl (h : Header) : Type 0 where
-  event : h .kind ≡ 4 → EventOrControl h
-  control : h .kind ≡ 8 → EventOrControl h
-
--- 18: "step or walk given an event or control", of any tables and every message that can be written
-pub record Unrouted (t : Tables) (b : Broker) (m : Message) : Type 0 where
-  pub neither : (routed t b m ≡ refused NotRouted) ↔ EventOrControl (m .header)
-
-abbrev pub EveryUnrouted : Tables → Broker → Type 0
-EveryUnrouted t b = (m : Message) → writing m ≡ answered (frameOf m) → Unrouted t b m
+-- noresponse makes silence of a reply, and changes nothing else: of any tables and any message
+abbrev pub OnlySilence : Tables → Broker → Type 0
+OnlySilence t b = (m : Message) → noResponse (m .header .flags) ≡ false → routed t b (hushed m) ≡ silently (routed t b m)
