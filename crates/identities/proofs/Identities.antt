@@ -76,10 +76,6 @@ pub same-self : (a : List ℕ) → sameIdentity a a ≡ true
 unfolding sameIdentity
 same-self a = same-refl a
 
-pub same-back : (a b : List ℕ) → sameIdentity a b ≡ true → sameIdentity b a ≡ true
-unfolding sameIdentity
-same-back a b h = rw (same-equal a b h) (same-refl b)
-
 -- two that are the same as a third
 pub same-through : (a b route : List ℕ) → sameIdentity a route ≡ true → sameIdentity b route ≡ true → sameIdentity a b ≡ true
 unfolding sameIdentity
