@@ -41,6 +41,11 @@ header-part : (h : Header) → length (partBytes (headerBytes h)) ≡ 21
 unfolding headerBytes
 header-part h = refl
 
+-- where 12 is not due, the new route is at most the 64th
+pub pushed-few : (identity : List ℕ) (m : Message) → tooLarge (pushed identity m) ≡ false → length (identity ∷ m .routes) ≤ 64
+pushed-few identity m small =
+    ltb-false 64 (length (identity ∷ m .routes)) (or-left (ltb 64 (length (identity ∷ m .routes))) (ltb 32768 (length (bodyOf (pushed identity m)))) small)
+
 -- a message that can be written, and whose header's numbers have four bytes each: what the reader makes of bytes, and all that a frame can hold
 pub record Sound (m : Message) : Type 0 where
   pub fits : FieldsFit (m .header)

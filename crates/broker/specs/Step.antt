@@ -2,7 +2,7 @@
 -- front." The step on the message itself is `routed` (routing/specs/Routed.antt). Assumes nothing.
 use mathlib.Core.Path.{_≡_}
 use Prim.Native.Nat.{ℕ}
-use mathlib.Core.Bool.{not}
+use mathlib.Core.Bool.{true, not}
 use mathlib.Core.List.{List}
 use lib.Dec.{ltb}
 use lib.ListN.{length}
@@ -28,6 +28,12 @@ behindTables t next =
     refuseIf (not (treeGood (t .tree))) WrongTree
     (refuseIf (not (servicesGood (t .tree) (t .services))) WrongServices
     (refuseIf (not (identitiesGood (t .tree) (t .identities))) WrongIdentities next))
+
+-- "Valid tables are those to which 14, 15 and 16 below do not apply."
+pub record ValidTables (t : Tables) : Type 0 where
+  pub tree : treeGood (t .tree) ≡ true
+  pub services : servicesGood (t .tree) (t .services) ≡ true
+  pub identities : identitiesGood (t .tree) (t .identities) ≡ true
 
 -- 11: a message that goes on needs room for its frame, and nothing else does: an error reply is never longer than its request
 abbrev pub roomFor : ℕ → Outcome → Answer Outcome

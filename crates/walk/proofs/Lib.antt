@@ -1,2 +1,3 @@
 -- The laws of the walk.
 pub mod Walking
+pub mod Running

@@ -16,11 +16,10 @@ use Rattle.routing.specs.Routed.{Tables, Outcome, delivered, forwarded, replied
 use Rattle.broker.specs.declared.Stepped.{Stepped}
 use Rattle.broker.proofs.Stepped.{the-type}
 use Rattle.broker.specs.declared.Stepped.the-variants.{Forwarded}
-use Rattle.broker.specs.Step.{passOf, stepOf, leftBy, toldAs}
+use Rattle.broker.specs.Step.{ValidTables, passOf, stepOf, leftBy, toldAs}
 use Rattle.broker.proofs.Passing.{step-pass, step-took}
 use Rattle.walk.specs.declared.Walked.{Walked}
 use Rattle.walk.specs.Walk.{Walk, onward, restsAt, afterStep, walkFrom, walkOf, Walks}
-use Rattle.walk.specs.Working.{Right}
 
 -- the numbers of the answers at which a walk rests, as the code tells them apart: all but the third, Forwarded
 abbrev pub restingTags : List ℕ
@@ -82,7 +81,7 @@ module _ (t : Tables) (who : Broker) (links : ℕ) (buffer : List ℕ) where
   walk-out (suc n) e = absurd (omega arith)
 
   -- where the tables are right, a step is the pass behind their checks
-  pub walk-pass : (n : ℕ) → 0 < n → Right t → walkFrom n t who links buffer ≡ afterStep (walkFrom (n - 1) t) who links buffer (passOf t who buffer)
+  pub walk-pass : (n : ℕ) → 0 < n → ValidTables t → walkFrom n t who links buffer ≡ afterStep (walkFrom (n - 1) t) who links buffer (passOf t who buffer)
   walk-pass n h r = walk-turn n h ∙ ap (afterStep (walkFrom (n - 1) t) who links buffer) (step-pass t who buffer (r .tree) (r .services) (r .identities))
 
 module _ (t : Tables) (who : Broker) (buffer : List ℕ) where
@@ -100,7 +99,7 @@ walks-as {r = r} {left} e x = subst⁻¹ (λ (u : Walk). Walks u r left) e x
 
 -- ---- a step that forwards has found the tables right
 
-pub forwards-right : (t : Tables) (who : Broker) (buffer : List ℕ) {s : Stepped} {next : ℕ} → s ≡ toldAs (stepOf t who buffer) → s ≡ Forwarded next → Right t
+pub forwards-right : (t : Tables) (who : Broker) (buffer : List ℕ) {s : Stepped} {next : ℕ} → s ≡ toldAs (stepOf t who buffer) → s ≡ Forwarded next → ValidTables t
 forwards-right t who buffer {next = next} says is =
     let on = told-on (stepOf t who buffer) says is in
     let took = step-took t who buffer (forwarded next (on .message)) (on .is) in

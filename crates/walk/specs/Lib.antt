@@ -1,4 +1,4 @@
--- A walk through the tables: steps one after another. To be believed: Walk, to be read behind the crate broker's specs.
+-- A walk through the tables: steps one after another. To be believed, and to be read behind the crate broker's specs: Walk, which the promise of the code
+-- cites, and Runs, which says the same of a walk of any length.
 pub mod Walk
--- Only for the proofs of the code's own steps: nothing here has to be believed.
-pub mod Working
+pub mod Runs

@@ -4,7 +4,7 @@ use message::Refusal;
 use routing::Broker;
 ghost use Rattle.routing.specs.Routed.{tablesOf};
 ghost use Rattle.walk.specs.Walk.{onward, walkFrom, walkOf, Walks};
-ghost use Rattle.walk.specs.Working.{Right};
+ghost use Rattle.broker.specs.Step.{ValidTables};
 
 // The least that a walk's buffer has: the longest frame.
 const LEAST: usize = 32776;
@@ -27,7 +27,7 @@ fn go_on(
     b: Broker,
     buffer: &mut [u8],
 ) -> Walked
-    requires { ⌜ Right (tablesOf (now tree) (now services) (now identities)) ⌝ }
+    requires { ⌜ ValidTables (tablesOf (now tree) (now services) (now identities)) ⌝ }
     ensures { λ r. ⌜ Walks (walkFrom 64 (tablesOf (now (tree .entry)) (now (services .entry)) (now (identities .entry))) (onward first b) 1 (now (buffer .entry))) r (now (buffer .exit)) ⌝ }
 {
     let mut rank = first;

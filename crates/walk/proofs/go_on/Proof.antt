@@ -10,7 +10,6 @@ use Rattle.routing.specs.declared.Broker.{Broker}
 use Rattle.routing.specs.Routed.{Tables, tablesOf}
 use Rattle.broker.specs.Step.{passOf}
 use Rattle.walk.specs.Walk.{Walk, onward, afterStep, walkFrom}
-use Rattle.walk.specs.Working.{Right}
 use Rattle.walk.proofs.Walking.{goes-on, rests-here, walk-out, walk-pass, walks-as}
 use Rattle.walk.proofs.go_on.Statement.{statement}
 use Rattle.walk.proofs.go_on.Tie as tie
