@@ -4,3 +4,4 @@ pub mod Records
 pub mod Frames
 pub mod Trees
 pub mod Ways
+pub mod Stepping

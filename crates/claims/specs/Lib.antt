@@ -5,3 +5,4 @@ pub mod Records
 pub mod Frames
 pub mod Trees
 pub mod Ways
+pub mod Demand3

@@ -52,7 +52,7 @@ no-refusal (replied errnum m) = refl
 no-refusal (silenced errnum) = refl
 no-refusal home = refl
 
-four-numbers : (o : Outcome) (n : ℕ) → length (stepRow (toldAs (answered o)) n) ≡ 4
+pub four-numbers : (o : Outcome) (n : ℕ) → length (stepRow (toldAs (answered o)) n) ≡ 4
 four-numbers (delivered number) n = refl
 four-numbers (forwarded next m) n = refl
 four-numbers (replied errnum m) n = refl

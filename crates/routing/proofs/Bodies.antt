@@ -10,6 +10,7 @@ use Rattle.message.specs.Header.{hasTopic, hasPayload, hasRoute, headerBytes}
 use Rattle.message.specs.Message.{Message}
 use Rattle.message.specs.Frame.{partBytes, joined, partIf, groupIf, partsOf, bodyOf, frameOf}
 use Rattle.message.proofs.Parts.{joined-append, part-short}
+use Rattle.routing.specs.Messages.{withRoutes}
 
 -- the frame is eight bytes and the body
 pub frame-length : (m : Message) → length (frameOf m) ≡ length (bodyOf m) + 8
@@ -17,10 +18,6 @@ unfolding frameOf
 frame-length m = omega arith
 
 -- ---- a route on top
-
--- the message with these routes
-abbrev pub withRoutes : Message → List (List ℕ) → Message
-withRoutes m routes = record { header = m .header; routes = routes; topic = m .topic; payload = m .payload }
 
 module _ (m : Message) (group : hasRoute (m .header .flags) ≡ true) (route : List ℕ) (routes : List (List ℕ)) where
   -- the route is the body's first part

@@ -19,8 +19,8 @@ use Rattle.message.specs.Writing.{allRoutes, routesGood, writing}
 use Rattle.message.proofs.Fields.{known-in, call-fits, free-fields}
 use Rattle.message.proofs.Forms.{route-length, routes-few}
 use Rattle.message.proofs.Messages.{Written, written, given-fit, fit-given, write}
-use Rattle.routing.specs.Messages.{pushed, errorReply}
-use Rattle.routing.proofs.Bodies.{frame-length, withRoutes, body-grows, body-length}
+use Rattle.routing.specs.Messages.{withRoutes, pushed, errorReply}
+use Rattle.routing.proofs.Bodies.{frame-length, body-grows, body-length}
 
 -- ---- one route more, one route less
 

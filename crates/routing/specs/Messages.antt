@@ -10,13 +10,17 @@ use Rattle.message.specs.Message.{Message}
 use Rattle.message.specs.Frame.{mostBody, bodyOf}
 use Rattle.message.specs.Writing.{mostRoutes}
 
+-- a message with these routes, and all else as it was
+abbrev pub withRoutes : Message → List (List ℕ) → Message
+withRoutes m routes = record { header = m .header; routes = routes; topic = m .topic; payload = m .payload }
+
 -- "A forwarded request gains this broker's identity on top"
 abbrev pub pushed : List ℕ → Message → Message
-pushed identity m = record { header = m .header; routes = identity ∷ m .routes; topic = m .topic; payload = m .payload }
+pushed identity m = withRoutes m (identity ∷ m .routes)
 
 -- "remove it": the response without its top route
 abbrev pub popped : Message → Message
-popped m = record { header = m .header; routes = drop 1 (m .routes); topic = m .topic; payload = m .payload }
+popped m = withRoutes m (drop 1 (m .routes))
 
 -- "The error reply has type 2, the request's routes, topic and matchtag, the error number, userid FFFFFFFF, rolemask 0, flags 09, or 49 if streaming
 -- was set, no payload." Userid and rolemask are the caller's to give.

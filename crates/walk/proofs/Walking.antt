@@ -89,9 +89,12 @@ module _ (t : Tables) (who : Broker) (buffer : List ℕ) where
   unfolding walkOf
   walk-short h = rw (lt-ltb (length buffer) 32776 h)
 
-  pub walk-begins : 32776 ≤ length buffer → walkOf t who buffer ≡ afterStep (walkFrom 64 t) who 0 buffer (stepOf t who buffer)
+  pub walk-whole : 32776 ≤ length buffer → walkOf t who buffer ≡ walkFrom 65 t who 0 buffer
   unfolding walkOf
-  walk-begins h = rw (le-ltb (length buffer) 32776 h) (walk-turn t who 0 buffer 65 (omega arith))
+  walk-whole h = rw (le-ltb (length buffer) 32776 h)
+
+  pub walk-begins : 32776 ≤ length buffer → walkOf t who buffer ≡ afterStep (walkFrom 64 t) who 0 buffer (stepOf t who buffer)
+  walk-begins h = walk-whole h ∙ walk-turn t who 0 buffer 65 (omega arith)
 
 -- a walk that is equal to another says and leaves the same
 pub walks-as : {w v : Walk} {r : Walked} {left : List ℕ} → w ≡ v → Walks v r left → Walks w r left
