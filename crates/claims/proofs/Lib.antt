@@ -5,3 +5,5 @@ pub mod Frames
 pub mod Trees
 pub mod Ways
 pub mod Stepping
+pub mod There
+pub mod Homeward
