@@ -152,25 +152,24 @@ module _ (m : Message) (s : Sound m) (call : (m .header .kind ≡ 1) ⊎ (m .hea
       let head = partBytes (headerBytes (replyHeader userid rolemask errnum (m .header))) in
       omega (arith, ap length body, length-append (frontOf m) head, header-part (replyHeader userid rolemask errnum (m .header)), ap length (front-body m), length-append (frontOf m) tail, header-last m)
 
-  pub reply-sound : userid < 4294967296 → rolemask < 4294967296 → errnum < 4294967296 → Sound reply
-  reply-sound u r e =
-      record {
-        fits = record { userid = u; rolemask = r; first = e; second = s .fits .second };
-        writes =
-            write reply
+  pub reply-writes : writing reply ≡ answered (frameOf reply)
+  reply-writes =
+      write reply
+      (record {
+        known = replying .known;
+        fit = replying .fit;
+        given =
+            fit-given reply
             (record {
-              known = replying .known;
-              fit = replying .fit;
-              given =
-                  fit-given reply
-                  (record {
-                    routes = ap (λ (t : Bool). t || isEmpty (m .routes)) (replying .route);
-                    topic = ap (λ (t : Bool). t || isEmpty (m .topic)) (replying .topic);
-                    payload = or-right-holds (hasPayload (reply .header .flags)) refl;
-                  });
-              routes = passes m s .routes;
-              topic = λ t. passes m s .topic (sound-topic m s call);
-              fields = replying .fields;
-            })
-            (omega (arith, reply-shorter, sound-short m s));
-      }
+              routes = ap (λ (t : Bool). t || isEmpty (m .routes)) (replying .route);
+              topic = ap (λ (t : Bool). t || isEmpty (m .topic)) (replying .topic);
+              payload = or-right-holds (hasPayload (reply .header .flags)) refl;
+            });
+        routes = passes m s .routes;
+        topic = λ t. passes m s .topic (sound-topic m s call);
+        fields = replying .fields;
+      })
+      (omega (arith, reply-shorter, sound-short m s))
+
+  pub reply-sound : userid < 4294967296 → rolemask < 4294967296 → errnum < 4294967296 → Sound reply
+  reply-sound u r e = record { fits = record { userid = u; rolemask = r; first = e; second = s .fits .second }; writes = reply-writes }

@@ -4,9 +4,10 @@ use mathlib.Core.Path.{_≡_, refl, sym, ap, _∙_, subst}
 use mathlib.Core.Bool.{Bool, true, false}
 use mathlib.Core.Logic.{inr}
 use Prim.Native.Nat.{ℕ, suc, _+_, _-_, _<_, _≤_}
-use mathlib.Core.List.{List, [], _∷_, _++_, map}
+use mathlib.Core.List.{List, [], _∷_, _++_, map, reverse, reverseAux}
 use native.Mathlib.Omega.{arith}
-use borrow.Author.Tests.{le-ltb}
+use borrow.Author.Tests.{le-ltb, ne-eqb}
+use lib.Dec.{eqb}
 use lib.ListN.{length, drop, length-append}
 use Rattle.octets.proofs.Truth.{true-false}
 use Rattle.message.specs.Answer.{Answer, answered, andThen}
@@ -21,6 +22,8 @@ use Rattle.tree.proofs.Depths.{good-whole}
 use Rattle.hops.specs.Towards.{isNeighbour}
 use Rattle.identities.specs.Identities.{identityAt, sameIdentity, brokerOf}
 use Rattle.identities.proofs.Identities.{good-identities, found-holds, found-own}
+use Rattle.path.specs.Leading.{Linked}
+use Rattle.path.proofs.Leading.{linked-rank, linked-neighbour, linked-on}
 use Rattle.rewrite.specs.Renewed.{cleared}
 use Rattle.routing.specs.declared.Broker.{Broker}
 use Rattle.routing.specs.declared.Back.{Back}
@@ -35,6 +38,7 @@ use Rattle.broker.proofs.Buffers.{frame-long}
 use Rattle.broker.proofs.Passing.{routed-response, pass-as, step-pass}
 use Rattle.broker.proofs.Keeping.{Sound, sound-route, sound-short, popped-sound, read-cleared}
 use Rattle.walk.specs.Runs.{Run, rests, goes}
+use Rattle.claims.specs.Demand3.{leftOf}
 use Rattle.claims.proofs.There.{cleared-length, cleared-again}
 
 -- a list of routes whose first is no broker's identity
@@ -158,3 +162,34 @@ module _ (t : Tables) (valid : ValidTables t) (userid rolemask : ℕ) (routes : 
       subst (λ (left : List ℕ). Run t b buffer (r ∷ s ∷ rs) (answered home) left) (home-left rs m buffer (ap (drop 1) stack) fits)
       (goes b buffer s (popped m) (s ∷ rs) (answered home) (homeBuffer rs (popped m) routes after)
       (on-step t valid b m buffer sound kind read inside s below stack there near long) on)
+
+  -- at home it can be written
+  pub home-sound : (rs : List ℕ) (m : Message) → m .routes ≡ names rs ++ routes → Sound m → m .header .kind ≡ 2 → Sound (withRoutes m routes)
+  home-sound [] m stack sound kind = subst (λ (l : List (List ℕ)). Sound (withRoutes m l)) stack sound
+  home-sound (s ∷ rs) m stack sound kind =
+      home-sound rs (popped m) (ap (drop 1) stack) (popped-sound m sound (inr kind) (identityAt (t .identities) s) (names rs ++ routes) stack) kind
+
+-- what is left, by the number of links
+pub home-left-of : (rs : List ℕ) (m : Message) (routes : List (List ℕ)) (buffer : List ℕ) → homeBuffer rs m routes buffer ≡ leftOf (eqb (length rs) 0) (withRoutes m routes) buffer
+home-left-of [] m routes buffer = refl
+home-left-of (s ∷ rs) m routes buffer = sym (rw (ne-eqb (length (s ∷ rs)) 0 (λ e. omega arith)))
+
+-- ---- the way home is the way there, from its end
+
+module _ (tree : List ℕ) where
+  back-last : (r : ℕ) → r < ranksIn tree → Back-linked tree (r ∷ [])
+  unfolding Back-linked
+  back-last r h = h
+
+  back-next : (r s : ℕ) (rs : List ℕ) → r < ranksIn tree → isNeighbour tree r s ≡ true → Back-linked tree (s ∷ rs) → Back-linked tree (r ∷ s ∷ rs)
+  unfolding Back-linked
+  back-next r s rs h n l = (h, n, l)
+
+  back-along : (r : ℕ) (xs ys : List ℕ) → Linked tree (r ∷ xs) → Back-linked tree (r ∷ ys) → Back-linked tree (reverseAux xs (r ∷ ys))
+  back-along r [] ys linked back = back
+  back-along r (s ∷ xs) ys linked back =
+      let rest = linked-on tree r s xs linked in
+      back-along s xs (r ∷ ys) rest (back-next s r ys (linked-rank tree s xs rest) (linked-neighbour tree r s xs linked) back)
+
+  pub back-linked : (r : ℕ) (rs : List ℕ) → Linked tree (r ∷ rs) → Back-linked tree (reverse (r ∷ rs))
+  back-linked r rs linked = back-along r rs [] linked (back-last r (linked-rank tree r rs linked))

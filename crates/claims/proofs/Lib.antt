@@ -7,3 +7,4 @@ pub mod Ways
 pub mod Stepping
 pub mod There
 pub mod Homeward
+pub mod Demand3

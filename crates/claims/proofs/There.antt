@@ -155,6 +155,19 @@ module _ (t : Tables) (valid : ValidTables t) (userid rolemask : ℕ) where
       (request-run false s rs end n (cleared (frameOf n) buffer) (leads-on (t .tree) (t .services) (m .header) (m .topic) client r s rs end leads) (linked-on (t .tree) r s rs linked)
       next-is kind (read-cleared n next-is buffer) (omega arith) (omega (arith, grown)) (omega (arith, cleared-length (frameOf n) buffer whole)))
 
+  -- the request at rest can be written
+  pub end-sound : (r : ℕ) (rs : List ℕ) (m : Message) → Linked (t .tree) (r ∷ rs) → Sound m → m .header .kind ≡ 1 →
+      length (m .routes) + length rs ≤ 64 → length (bodyOf m) + 38 * length rs ≤ 32768 → Sound (atEnd (t .identities) r rs m)
+  end-sound r [] m linked sound kind few short = sound
+  end-sound r (s ∷ rs) m linked sound kind few short =
+      let name = identityAt (t .identities) r in
+      let route = good-identities (t .tree) (t .identities) (valid .identities) .form r (linked-rank (t .tree) r (s ∷ rs) linked) in
+      let grown : length (bodyOf (pushed name m)) ≡ length (bodyOf m) + 38 = body-grows m (sound-route m sound (inl kind)) name (m .routes) (route-length name route) in
+      let small =
+      or-neither (ltb 64 (length (name ∷ m .routes))) (ltb 32768 (length (bodyOf (pushed name m))))
+      (le-ltb 64 (length (name ∷ m .routes)) (omega arith)) (le-ltb 32768 (length (bodyOf (pushed name m))) (omega (arith, grown))) in
+      end-sound s rs (pushed name m) (linked-on (t .tree) r s rs linked) (pushed-sound m sound (inl kind) name route small) kind (omega arith) (omega (arith, grown))
+
 -- ---- what is left
 
 -- the request at rest has the identities of all brokers but the last on top, the latest first
@@ -181,14 +194,24 @@ at-end identities r (s ∷ rs) m =
 
 -- the buffer behind the first link holds its frame, and zeros behind that
 module _ (t : Tables) (valid : ValidTables t) where
-  pub buffer-at : (r : ℕ) (rs : List ℕ) (m : Message) (buffer : List ℕ) → Linked (t .tree) (r ∷ rs) → hasRoute (m .header .flags) ≡ true →
+  grows : (r : ℕ) (m : Message) → r < ranksIn (t .tree) → hasRoute (m .header .flags) ≡ true → length (bodyOf (pushed (identityAt (t .identities) r) m)) ≡ length (bodyOf m) + 38
+  grows r m inside group =
+      body-grows m group (identityAt (t .identities) r) (m .routes) (route-length (identityAt (t .identities) r) (good-identities (t .tree) (t .identities) (valid .identities) .form r inside))
+
+  buffer-at : (r : ℕ) (rs : List ℕ) (m : Message) (buffer : List ℕ) → Linked (t .tree) (r ∷ rs) → hasRoute (m .header .flags) ≡ true →
       length (bodyOf m) + 38 * length rs ≤ 32768 → 32776 ≤ length buffer →
       bufferAt (t .identities) r rs m (cleared (frameOf m) buffer) ≡ cleared (frameOf (atEnd (t .identities) r rs m)) buffer
   buffer-at r [] m buffer linked group short long = refl
   buffer-at r (s ∷ rs) m buffer linked group short long =
       let name = identityAt (t .identities) r in
       let n = pushed name m in
-      let route = route-length name (good-identities (t .tree) (t .identities) (valid .identities) .form r (linked-rank (t .tree) r (s ∷ rs) linked)) in
-      let grown : length (bodyOf n) ≡ length (bodyOf m) + 38 = body-grows m group name (m .routes) route in
+      let grown = grows r m (linked-rank (t .tree) r (s ∷ rs) linked) group in
       ap (bufferAt (t .identities) s rs n) (cleared-again (frameOf n) (frameOf m) buffer (omega (arith, frame-long m)))
       ∙ buffer-at s rs n buffer (linked-on (t .tree) r s rs linked) group (omega (arith, grown)) long
+
+  pub buffer-behind : (r s : ℕ) (rs : List ℕ) (m : Message) (buffer : List ℕ) → Linked (t .tree) (r ∷ s ∷ rs) → hasRoute (m .header .flags) ≡ true →
+      length (bodyOf m) + 38 * length (s ∷ rs) ≤ 32768 → 32776 ≤ length buffer →
+      bufferAt (t .identities) r (s ∷ rs) m buffer ≡ cleared (frameOf (atEnd (t .identities) r (s ∷ rs) m)) buffer
+  buffer-behind r s rs m buffer linked group short long =
+      let grown = grows r m (linked-rank (t .tree) r (s ∷ rs) linked) group in
+      buffer-at s rs (pushed (identityAt (t .identities) r) m) buffer (linked-on (t .tree) r s rs linked) group (omega (arith, grown)) long
