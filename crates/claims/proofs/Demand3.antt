@@ -145,7 +145,7 @@ module _ (t : Tables) (entry : ℕ) (buffer : List ℕ) (m : Message) (enters : 
   rested-is : atEnd (t .identities) entry rest m ≡ rested
   rested-is = at-end (t .identities) entry rest m
 
-  rested-sound : Sound rested
+  pub rested-sound : Sound rested
   rested-sound = subst (λ (x : Message). Sound x) rested-is (end-sound t valid 4294967295 0 entry rest m linked sound kind routes-fit body-fits)
 
   abbrev path : Path
@@ -173,12 +173,9 @@ module _ (t : Tables) (entry : ℕ) (buffer : List ℕ) (m : Message) (enters : 
 
   -- ---- and home
 
-  module _ (back : List ℕ) (back-bytes : Bytes back) (n : Message) (responds : Responds (routesAtRest (t .identities) (entry ∷ rest) (m .routes)) m back n) where
+  module _ (back : List ℕ) (n : Message) (reply-sound : Sound n) (responds : Responds (routesAtRest (t .identities) (entry ∷ rest) (m .routes)) m back n) where
     abbrev behind : List ℕ
     behind = reverse (front (entry ∷ rest))
-
-    reply-sound : Sound n
-    reply-sound = sound-read back n back-bytes (responds .held .read)
 
     stack : n .routes ≡ map (λ rank. identityAt (t .identities) rank) behind ++ m .routes
     stack = responds .routes ∙ ap (λ (l : List (List ℕ)). l ++ m .routes) (sym (map-aux (λ rank. identityAt (t .identities) rank) (front (entry ∷ rest)) []))
@@ -191,7 +188,7 @@ module _ (t : Tables) (entry : ℕ) (buffer : List ℕ) (m : Message) (enters : 
         let count : length behind ≡ linksOf path = front-length entry rest ∙ omega arith in
         home-left-of behind n (m .routes) back ∙ ap (λ (k : ℕ). leftOf (eqb k 0) (withRoutes n (m .routes)) back) count
 
-    response-goes : Goes t (final 0 (entry ∷ rest)) back (reverse (entry ∷ rest)) Home (leftOf (eqb (linksOf path) 0) (withRoutes n (m .routes)) back)
+    pub response-goes : Goes t (final 0 (entry ∷ rest)) back (reverse (entry ∷ rest)) Home (leftOf (eqb (linksOf path) 0) (withRoutes n (m .routes)) back)
     response-goes =
         let last = final 0 (entry ∷ rest) in
         let linked-back = subst (λ (l : List ℕ). Back-linked (t .tree) l) way-back (back-linked (t .tree) entry rest linked) in
@@ -215,17 +212,41 @@ module _ (t : Tables) (entry : ℕ) (buffer : List ℕ) (m : Message) (enters : 
             let holds = found-holds (t .services) (final 0 (entry ∷ rest)) (serviceOf (m .topic)) number (ends number e) in
             record { within = holds .0; rank = holds .1; name = holds .2 };
         written = end-writes end rested rested-sound kind;
-        home = λ n responds. (response-goes back back-bytes n responds, response-written back back-bytes n responds);
+        home = λ n responds.
+            let whole = sound-read back n back-bytes (responds .held .read) in
+            (response-goes back n whole responds, response-written back n whole responds);
       }
+
+-- ---- the path of a request that enters is followed
+
+pub record Along (t : Tables) (entry : ℕ) (m : Message) (path : Path) : Type 0 where
+  pub rest : List ℕ
+  pub starts : path ≡ record { brokers = entry ∷ rest; end = path .end }
+  pub leads : Leads (t .tree) (t .services) (m .header) (m .topic) true (entry ∷ rest) (path .end)
+  pub linked : Linked (t .tree) (entry ∷ rest)
+  pub few : length (entry ∷ rest) ≤ 2 * treeDepth (t .tree) + 1
+  pub ends : (number : ℕ) → path .end ≡ delivers number → registeredAs (t .services) (final 0 (entry ∷ rest)) (serviceOf (m .topic)) ≡ At number
+
+abbrev pub pathIn : Tables → ℕ → Message → Path
+pathIn t entry m = pathOf (t .tree) (t .services) entry (m .header) (m .topic)
+
+pub along : (t : Tables) (entry : ℕ) (buffer : List ℕ) (m : Message) → Enters t entry buffer m → Along t entry m (pathIn t entry m)
+along t entry buffer m enters =
+    let path = pathIn t entry m in
+    let f = followed (t .tree) (t .services) entry (m .header) (m .topic) (enters .tables .tree) (enters .inside) in
+    record {
+      rest = f .rest;
+      starts = λ i. record { brokers = f .starts i; end = path .end };
+      leads = subst (λ (l : List ℕ). Leads (t .tree) (t .services) (m .header) (m .topic) true l (path .end)) (f .starts) (f .leads);
+      linked = subst (λ (l : List ℕ). Linked (t .tree) l) (f .starts) (f .linked);
+      few = subst (λ (l : List ℕ). length l ≤ 2 * treeDepth (t .tree) + 1) (f .starts) (f .few);
+      ends = subst (λ (l : List ℕ). (number : ℕ) → path .end ≡ delivers number → registeredAs (t .services) (final 0 l) (serviceOf (m .topic)) ≡ At number) (f .starts) (f .ends);
+    }
 
 -- "A release with step and walk has this whole, or it isn't a release."
 pub demand-three : (t : Tables) (entry : ℕ) (buffer back : List ℕ) → Bytes buffer → Bytes back → DemandThree t entry buffer back
 demand-three t entry buffer back bytes back-bytes m enters =
-    let path = pathOf (t .tree) (t .services) entry (m .header) (m .topic) in
-    let f = followed (t .tree) (t .services) entry (m .header) (m .topic) (enters .tables .tree) (enters .inside) in
-    let whole : path ≡ record { brokers = entry ∷ f .rest; end = path .end } = λ i. record { brokers = f .starts i; end = path .end } in
-    let leads = subst (λ (l : List ℕ). Leads (t .tree) (t .services) (m .header) (m .topic) true l (path .end)) (f .starts) (f .leads) in
-    let linked = subst (λ (l : List ℕ). Linked (t .tree) l) (f .starts) (f .linked) in
-    let few = subst (λ (l : List ℕ). length l ≤ 2 * treeDepth (t .tree) + 1) (f .starts) (f .few) in
-    let ends = subst (λ (l : List ℕ). (number : ℕ) → path .end ≡ delivers number → registeredAs (t .services) (final 0 l) (serviceOf (m .topic)) ≡ At number) (f .starts) (f .ends) in
-    subst⁻¹ (λ (p : Path). ThereAndHome t entry buffer m p back) whole (both-walks t entry buffer m enters bytes (f .rest) (path .end) leads linked few back back-bytes ends)
+    let path = pathIn t entry m in
+    let f = along t entry buffer m enters in
+    subst⁻¹ (λ (p : Path). ThereAndHome t entry buffer m p back) (f .starts)
+    (both-walks t entry buffer m enters bytes (f .rest) (path .end) (f .leads) (f .linked) (f .few) back back-bytes (f .ends))

@@ -8,3 +8,4 @@ pub mod Stepping
 pub mod There
 pub mod Homeward
 pub mod Demand3
+pub mod Corollaries

@@ -6,3 +6,4 @@ pub mod Frames
 pub mod Trees
 pub mod Ways
 pub mod Demand3
+pub mod Corollaries

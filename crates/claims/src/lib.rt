@@ -1,12 +1,16 @@
 // The claims, for every slice and number that a call can get. Each function does nothing: its parameters are those of the call that the claim is
 // about, and its promise is the claim. So the premises of a law, that bytes are below 256 and that a field has four bytes, are met here once and for
 // all, and nothing is left for a caller to check.
+use routing::Broker;
 ghost use Rattle.octets.specs.Number.{Bytes};
 ghost use Rattle.message.specs.Writing.{givenMessage};
 ghost use Rattle.lampreycoil.specs.Calls.{headerOf};
 ghost use Rattle.claims.specs.Frames.{RecordHoldsMessage, AcceptedIsWrittenBack, WrittenIsReadBack};
 ghost use Rattle.claims.specs.Trees.{TreeIsChecked};
 ghost use Rattle.claims.specs.Ways.{EveryWay};
+ghost use Rattle.routing.specs.Routed.{tablesOf};
+ghost use Rattle.claims.specs.Demand3.{DemandThree};
+ghost use Rattle.claims.specs.Corollaries.{EveryReplyComesHome, AtMost32Links, EveryWalkIsRun};
 
 // Takes any slice.
 fn lend(_bytes: &[u8]) {}
@@ -56,3 +60,43 @@ pub fn tree_is_checked(tree: &[u8])
 pub fn every_way(tree: &[u8])
     ensures { λ _. ⌜ EveryWay (now (tree .entry)) ⌝ }
 {}
+
+// Demand 3: a request's walk along its path, and the walk home of every response to it, by steps and by the walk call.
+pub fn demand_three(
+    tree: &[u8],
+    services: &[u8],
+    identities: &[u8],
+    entry: u32,
+    buffer: &[u8],
+    back: &[u8],
+)
+    ensures { λ _. ⌜ DemandThree (tablesOf (now (tree .entry)) (now (services .entry)) (now (identities .entry))) entry (now (buffer .entry)) (now (back .entry)) ⌝ }
+{
+    are_bytes(buffer);
+    are_bytes(back);
+}
+
+// An error reply that is left at rest comes home.
+pub fn every_reply_comes_home(
+    tree: &[u8],
+    services: &[u8],
+    identities: &[u8],
+    entry: u32,
+    buffer: &[u8],
+)
+    ensures { λ _. ⌜ EveryReplyComesHome (tablesOf (now (tree .entry)) (now (services .entry)) (now (identities .entry))) entry (now (buffer .entry)) ⌝ }
+{
+    are_bytes(buffer);
+}
+
+// No request that meets the premises of demand 3 crosses more than 32 links.
+pub fn at_most_32_links(tree: &[u8], services: &[u8], identities: &[u8], entry: u32, buffer: &[u8])
+    ensures { λ _. ⌜ AtMost32Links (tablesOf (now (tree .entry)) (now (services .entry)) (now (identities .entry))) entry (now (buffer .entry)) ⌝ }
+{}
+
+// Whatever the tables and the buffer hold, a walk is its steps one after another, and ends otherwise than with a message that goes on.
+pub fn every_walk_is_run(tree: &[u8], services: &[u8], identities: &[u8], b: Broker, buffer: &[u8])
+    ensures { λ _. ⌜ EveryWalkIsRun (tablesOf (now (tree .entry)) (now (services .entry)) (now (identities .entry))) b (now (buffer .entry)) ⌝ }
+{
+    are_bytes(buffer);
+}

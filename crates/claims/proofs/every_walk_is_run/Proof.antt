@@ -1,0 +1,17 @@
+-- `claims::every_walk_is_run` meets its contract.
+-- Assumes nothing.
+use borrow.Author.Needs.{needs}
+use Rattle.routing.specs.Routed.{tablesOf}
+use Rattle.claims.proofs.Corollaries.{every-walk-is-run}
+use Rattle.claims.proofs.every_walk_is_run.Statement.{statement}
+use Rattle.claims.proofs.every_walk_is_run.Tie as tie
+
+are-bytes-requires : tie.Need-are-bytes-requires
+are-bytes-requires c κs = search needs
+
+returns : tie.Need-returns
+returns c = let s = c .before .before .before .before .before .args in
+    every-walk-is-run (tablesOf (s .tree .now) (s .services .now) (s .identities .now)) (s .b) (s .buffer .now) (c .are-bytes .ensures)
+
+pub every-walk-is-run-spec : {M : Type 1} → statement M
+every-walk-is-run-spec = tie.close (tie.spec are-bytes-requires returns)
