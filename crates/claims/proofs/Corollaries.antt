@@ -1,22 +1,22 @@
 -- What follows from demand 3, by its parts; and that a walk is a run, by the law of the crate walk.
 -- Assumes nothing.
-use mathlib.Core.Path.{_≡_, refl, subst⁻¹}
+use mathlib.Core.Path.{_≡_, refl, ap, _∙_, subst⁻¹}
 use mathlib.Core.Bool.{Bool, true, false, cond}
 use mathlib.Core.Logic.{inl}
-use Prim.Native.Nat.{ℕ, _≤_}
+use Prim.Native.Nat.{ℕ, _-_, _≤_}
 use mathlib.Core.List.{List, [], _∷_}
 use native.Mathlib.Omega.{arith}
 use lib.Dec.{eqb, ltb}
 use lib.ListN.{length}
 use Rattle.octets.specs.Number.{Bytes}
-use Rattle.message.specs.Header.{isUpstream}
+use Rattle.message.specs.Header.{noResponse, isUpstream}
 use Rattle.message.specs.Message.{Message}
 use Rattle.message.specs.Frame.{frameOf}
 use Rattle.message.specs.Reading.{final}
 use Rattle.records.specs.declared.Found.{Found}
 use Rattle.records.specs.declared.Found.the-variants.{At, Nothing}
 use Rattle.tree.specs.Tree.{ranksIn, parentOf}
-use Rattle.path.specs.Path.{fails, Path, recordOf, upPath, rankPath, endAt, ending, stopping, anyPath, upstreamPath, targetPath, pathOf, linksOf}
+use Rattle.path.specs.Path.{End, fails, Path, recordOf, upPath, rankPath, endAt, ending, stopping, anyPath, upstreamPath, targetPath, pathOf, linksOf}
 use Rattle.path.proofs.Chains.{tree-depth-most}
 use Rattle.rewrite.specs.Renewed.{cleared}
 use Rattle.routing.specs.declared.Broker.{Broker}
@@ -28,7 +28,7 @@ use Rattle.walk.specs.Walk.{Walk}
 use Rattle.walk.specs.Runs.{IsRun}
 use Rattle.walk.proofs.Walking.{walk-whole}
 use Rattle.walk.proofs.Running.{walk-is-run}
-use Rattle.claims.specs.Demand3.{Enters, Responds, routesAtRest}
+use Rattle.claims.specs.Demand3.{Responds, routesAtRest, messageAt, asOnEntry, leftOf}
 use Rattle.claims.specs.Corollaries.{ReplyComesHome, EveryReplyComesHome, AtMost32Links, EveryWalkIsRun}
 use Rattle.claims.proofs.There.{cleared-length}
 use Rattle.claims.proofs.Demand3.{rested-sound, response-goes, along, pathIn}
@@ -65,6 +65,11 @@ path-error t entry m errnum =
 
 -- ---- the reply comes home
 
+reply-rests : (end : End) (m : Message) (links : ℕ) (buffer : List ℕ) (errnum : ℕ) → end ≡ fails errnum → noResponse (m .header .flags) ≡ false →
+    leftOf (asOnEntry end (noResponse (m .header .flags)) links) (messageAt end m) buffer ≡ cleared (frameOf (errorReply 4294967295 0 errnum m)) buffer
+reply-rests end m links buffer errnum e loud =
+    ap (λ (x : End). leftOf (asOnEntry x (noResponse (m .header .flags)) links) (messageAt x m) buffer) e ∙ rw loud
+
 pub every-reply-comes-home : (t : Tables) (entry : ℕ) (buffer : List ℕ) → Bytes buffer → EveryReplyComesHome t entry buffer
 every-reply-comes-home t entry buffer bytes m enters loud errnum fails-so =
     let path = pathIn t entry m in
@@ -86,6 +91,7 @@ every-reply-comes-home t entry buffer bytes m enters loud errnum fails-so =
     } in
     subst⁻¹ (λ (p : Path). ReplyComesHome t buffer m p errnum) (f .starts)
     (record {
+      rests = reply-rests (path .end) rested (length ranks - 1) buffer errnum fails-so loud;
       responds = responds;
       goes = response-goes t entry buffer m enters bytes (f .rest) (path .end) (f .leads) (f .linked) (f .few) left reply made responds;
     })

@@ -17,13 +17,18 @@ use Rattle.routing.specs.Routed.{Tables}
 use Rattle.broker.specs.declared.Stepped.the-variants.{Home}
 use Rattle.walk.specs.Walk.{leastBuffer, walkOf}
 use Rattle.walk.specs.Runs.{IsRun}
-use Rattle.claims.specs.Demand3.{Enters, Responds, Goes, routesAtRest, leftOf}
+use Rattle.claims.specs.Demand3.{Enters, Responds, Goes, routesAtRest, messageAt, asOnEntry, leftOf}
 
 -- ---- "an error reply left at rest is one such response"
 
 -- where a request with noresponse clear ends in an error on the path p: the reply that it left is such a response, in the buffer as it was left, and
 -- comes home
 pub record ReplyComesHome (t : Tables) (buffer : List ℕ) (m : Message) (p : Path) (errnum : ℕ) : Type 0 where
+  -- what the request's walk leaves is the reply's frame, and zeros behind it
+  pub rests :
+      let rested = withRoutes m (routesAtRest (t .identities) (p .brokers) (m .routes)) in
+      leftOf (asOnEntry (p .end) (noResponse (m .header .flags)) (linksOf p)) (messageAt (p .end) rested) buffer
+      ≡ cleared (frameOf (errorReply 4294967295 0 errnum rested)) buffer
   pub responds :
       let routes = routesAtRest (t .identities) (p .brokers) (m .routes) in
       let reply = errorReply 4294967295 0 errnum (withRoutes m routes) in
