@@ -130,6 +130,9 @@ module _ (t : Tables) (entry : ℕ) (buffer : List ℕ) (m : Message) (enters : 
   kind : m .header .kind ≡ 1
   kind = enters .held .typed
 
+  long : 32776 ≤ length buffer
+  long = omega (arith, enters .held .room)
+
   links-few : length rest ≤ 32
   links-few = omega (arith, few, tree-depth-most (t .tree) (valid .tree))
 
@@ -161,19 +164,22 @@ module _ (t : Tables) (entry : ℕ) (buffer : List ℕ) (m : Message) (enters : 
   request-goes =
       let o = outcomeOf end rested in
       let ranks = entry ∷ rest in
-      let along = request-run t valid 4294967295 0 true entry rest end m buffer leads linked sound kind (enters .held .read) routes-fit body-fits (enters .held .room) in
+      let along = request-run t valid 4294967295 0 true entry rest end m buffer leads linked sound kind (enters .held .read) routes-fit body-fits long in
       let first : Bool → Broker = λ client. record { rank = entry; client = client; userid = 4294967295; rolemask = 0 } in
       let there = subst (λ (x : Message). Run t (first true) buffer ranks (answered (outcomeOf end x)) (leftAfter (outcomeOf end x) (bufferAt (t .identities) entry rest m buffer))) rested-is along in
-      let leaves = left-along t valid entry rest m buffer end linked (sound-route m sound (inl kind)) body-fits (enters .held .room) (omega (arith, frame-long rested, sound-short rested rested-sound, enters .held .room)) in
+      let leaves = left-along t valid entry rest m buffer end linked (sound-route m sound (inl kind)) body-fits long (omega (arith, frame-long rested, sound-short rested rested-sound, long)) in
       let run = subst (λ (l : List ℕ). Run t (first true) buffer ranks (answered o) l) leaves there in
       subst (λ (s : Stepped). Goes t entry buffer ranks s left) (end-told end rested)
       (run-goes t entry buffer ranks left o
       (λ client some. subst⁻¹ (λ (c : Bool). Run t (first c) buffer ranks (answered o) left) (ap not (ne-eqb client 0 some)) run)
-      (enters .held .room) (omega (arith, links-few)))
+      long (omega (arith, links-few)))
 
   -- ---- and home
 
   module _ (back : List ℕ) (n : Message) (reply-sound : Sound n) (responds : Responds (routesAtRest (t .identities) (entry ∷ rest) (m .routes)) m back n) where
+    back-long : 32776 ≤ length back
+    back-long = omega (arith, responds .held .room)
+
     abbrev behind : List ℕ
     behind = reverse (front (entry ∷ rest))
 
@@ -193,10 +199,10 @@ module _ (t : Tables) (entry : ℕ) (buffer : List ℕ) (m : Message) (enters : 
         let last = final 0 (entry ∷ rest) in
         let linked-back = subst (λ (l : List ℕ). Back-linked (t .tree) l) way-back (back-linked (t .tree) entry rest linked) in
         let run : (client : Bool) → Run t (record { rank = last; client = client; userid = 4294967295; rolemask = 0 }) back (last ∷ behind) (answered home) (homeBuffer behind n (m .routes) back) =
-        λ client. response-run t valid 4294967295 0 (m .routes) (enters .stranger) client last behind n back linked-back stack reply-sound (responds .held .typed) (responds .held .read) (responds .held .room) in
+        λ client. response-run t valid 4294967295 0 (m .routes) (enters .stranger) client last behind n back linked-back stack reply-sound (responds .held .typed) (responds .held .read) back-long in
         subst⁻¹ (λ (l : List ℕ). Goes t last back l Home (leftOf (eqb (linksOf path) 0) (withRoutes n (m .routes)) back)) way-back
         (subst (λ (l : List ℕ). Goes t last back (last ∷ behind) Home l) back-left
-        (run-goes t last back (last ∷ behind) (homeBuffer behind n (m .routes) back) home (λ client some. run (not (eqb client 0))) (responds .held .room) (omega (arith, front-length entry rest, links-few))))
+        (run-goes t last back (last ∷ behind) (homeBuffer behind n (m .routes) back) home (λ client some. run (not (eqb client 0))) back-long (omega (arith, front-length entry rest, links-few))))
 
     response-written : writing (withRoutes n (m .routes)) ≡ answered (frameOf (withRoutes n (m .routes)))
     response-written = home-sound t valid 4294967295 0 (m .routes) (enters .stranger) behind n stack reply-sound (responds .held .typed) .writes
