@@ -101,7 +101,8 @@ every-reply-comes-home t entry buffer bytes m enters loud errnum fails-so =
 pub at-most-32-links : (t : Tables) (entry : ℕ) (buffer : List ℕ) → AtMost32Links t entry buffer
 at-most-32-links t entry buffer m enters =
     let f = along t entry buffer m enters in
-    subst⁻¹ (λ (p : Path). linksOf p ≤ 32) (f .starts) (omega (arith, f .few, tree-depth-most (t .tree) (enters .tables .tree)))
+    let most = subst⁻¹ (λ (p : Path). linksOf p ≤ 32) (f .starts) (omega (arith, f .few, tree-depth-most (t .tree) (enters .tables .tree))) in
+    omega (arith, most)
 
 -- ---- a walk is a run
 
