@@ -18,6 +18,7 @@ use Rattle.message.proofs.Forms.{routes-each}
 use Rattle.message.proofs.Messages.{Written, written, Given, given-fit}
 use Rattle.octets.proofs.Truth.{true-false, outcome}
 use Rattle.body.proofs.Sorting.{routes-joined}
+use Rattle.message.proofs.Frames.{frame-long}
 use Rattle.message.proofs.RoundTrip.{WrittenBack}
 use Rattle.body.specs.Places.{stretch, dataAt, placesOf}
 use Rattle.body.proofs.Cursors.{at-behind, at-data}
@@ -56,15 +57,11 @@ module _ (m : Message) where
   unfolding frameOf
   behind-start n = sym (drop-drop n 8 (frameOf m))
 
-  pub frame-length : length (frameOf m) ≡ 8 + length (bodyOf m)
-  unfolding frameOf
-  frame-length = omega arith
-
   pub data-within : (before : List (List ℕ)) (p : List ℕ) (behind : List (List ℕ)) → partsOf m ≡ before ++ p ∷ behind → dataAt before p + length p ≤ length (frameOf m)
   unfolding bodyOf
   data-within before p behind parts =
       let body : bodyOf m ≡ joined before ++ joined (p ∷ behind) = ap joined parts ∙ joined-append before (p ∷ behind) in
-      omega (arith, frame-length, ap length body, length-append (joined before) (joined (p ∷ behind)), length-append (partBytes p) (joined behind), length-append (sizeBytes (length p)) p)
+      omega (arith, frame-long m, ap length body, length-append (joined before) (joined (p ∷ behind)), length-append (partBytes p) (joined behind), length-append (sizeBytes (length p)) p)
 
   pub parts-payload : hasPayload (m .header .flags) ≡ true → partsOf m ≡ (routing m ++ topicPart m) ++ m .payload ∷ headerBytes (m .header) ∷ []
   unfolding partsOf

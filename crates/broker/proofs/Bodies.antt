@@ -11,19 +11,15 @@ use Rattle.message.specs.Header.{hasTopic, hasPayload, hasRoute, isStreaming, h
 use Rattle.message.specs.Message.{Message}
 use Rattle.message.specs.Frame.{partBytes, joined, groupIf, partIf, routing, topicPart, payloadPart, partsOf, bodyOf, frameOf}
 use Rattle.message.proofs.Parts.{joined-append}
+use Rattle.routing.proofs.Bodies.{body-on-top}
 use Rattle.routing.specs.Messages.{pushed, popped, replyHeader, errorReply}
-
--- "A forwarded request gains this broker's identity on top": its part stands in front of the body
-pub pushed-body : (identity : List ℕ) (m : Message) → hasRoute (m .header .flags) ≡ true → bodyOf (pushed identity m) ≡ partBytes identity ++ bodyOf m
-unfolding bodyOf partsOf
-pushed-body identity m set = rw set
 
 -- a message whose top route was removed, with that route on top again
 pub popped-pushed : (m : Message) (top : List ℕ) (rest : List (List ℕ)) → m .routes ≡ top ∷ rest → pushed top (popped m) ≡ m
 popped-pushed m top rest e = λ i. record { header = m .header; routes = (ap (λ (rs : List (List ℕ)). top ∷ drop 1 rs) e ∙ sym e) i; topic = m .topic; payload = m .payload }
 
 pub popped-body : (m : Message) (top : List ℕ) (rest : List (List ℕ)) → hasRoute (m .header .flags) ≡ true → m .routes ≡ top ∷ rest → bodyOf m ≡ partBytes top ++ bodyOf (popped m)
-popped-body m top rest set e = ap bodyOf (sym (popped-pushed m top rest e)) ∙ pushed-body top (popped m) set
+popped-body m top rest set e = ap bodyOf (sym (popped-pushed m top rest e)) ∙ body-on-top (popped m) set top (popped m .routes)
 
 -- the parts in front of the payload
 abbrev pub frontOf : Message → List ℕ

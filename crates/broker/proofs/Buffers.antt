@@ -14,12 +14,14 @@ use Rattle.message.specs.Header.{hasTopic, hasRoute, headerBytes}
 use Rattle.message.specs.Message.{Message}
 use Rattle.message.specs.Frame.{partBytes, joined, payloadPart, framed, bodyOf, frameOf}
 use Rattle.message.specs.Reading.{readingOf}
+use Rattle.message.proofs.Frames.{frame-long}
 use Rattle.message.proofs.Messages.{written}
 use Rattle.message.proofs.RoundTrip.{WrittenBack, write-back}
 use Rattle.message.proofs.Parts.{part-short, joined-append}
 use Rattle.rewrite.specs.Renewed.{cleared, bodyIn, renewed, withPart, withoutFront, withHeader}
 use Rattle.routing.specs.Messages.{pushed, popped, replyHeader, errorReply}
-use Rattle.broker.proofs.Bodies.{pushed-body, popped-body, frontOf, front-body, reply-body}
+use Rattle.routing.proofs.Bodies.{body-on-top}
+use Rattle.broker.proofs.Bodies.{popped-body, frontOf, front-body, reply-body}
 
 -- a route's part
 route-part : (p : List ℕ) → length p ≡ 37 → length (partBytes p) ≡ 38
@@ -28,10 +30,6 @@ route-part p e = ap length (part-short p (omega arith)) ∙ omega arith
 frame-body : (m : Message) → frameOf m ≡ framed (bodyOf m)
 unfolding frameOf
 frame-body m = refl
-
-pub frame-long : (m : Message) → length (frameOf m) ≡ 8 + length (bodyOf m)
-unfolding frameOf
-frame-long m = omega arith
 
 -- behind the topic come at least the header's twenty bytes and their size
 pub header-last : (m : Message) → 21 ≤ length (joined (payloadPart m ++ (headerBytes (m .header) ∷ [])))
@@ -68,7 +66,7 @@ module _ (b : List ℕ) (m : Message) (back : WrittenBack b m) where
       let n = length (bodyOf m) in
       let room = and-both (lt-ltb (length identity) 255 short) (and-both (le-leb n 32768 body-short) (le-leb (9 + length identity + n) (length b) fits)) in
       ap (λ (t : Bool). cond t (renewed (partBytes identity ++ bodyIn n b) b) b) room
-      ∙ ap (λ (body : List ℕ). cleared (framed body) b) (ap (λ (l : List ℕ). partBytes identity ++ l) body-there ∙ sym (pushed-body identity m set))
+      ∙ ap (λ (body : List ℕ). cleared (framed body) b) (ap (λ (l : List ℕ). partBytes identity ++ l) body-there ∙ sym (body-on-top m set identity (m .routes)))
       ∙ ap (λ (f : List ℕ). cleared f b) (sym (frame-body (pushed identity m)))
 
   pub popped-left : (top : List ℕ) (rest : List (List ℕ)) → hasRoute (m .header .flags) ≡ true → m .routes ≡ top ∷ rest → length top ≡ 37 →

@@ -26,7 +26,7 @@ use Rattle.routing.specs.Requests.{requestWay}
 use Rattle.routing.specs.Responses.{responseWay}
 use Rattle.routing.specs.Messages.{pushed, popped, tooLarge}
 use Rattle.routing.specs.Routed.{Tables, Outcome, delivered, forwarded, replied, silenced, home, failed, requested, responded, routed}
-use Rattle.broker.proofs.Passing.{routed-request, routed-response, routed-neither}
+use Rattle.routing.proofs.Outcomes.{routed-request, routed-response, routed-neither}
 use Rattle.broker.proofs.Lying.{fails-silent, fails-reply}
 use Rattle.broker.proofs.Keeping.{Sound, pushed-sound, popped-sound}
 

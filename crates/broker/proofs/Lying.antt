@@ -20,7 +20,7 @@ use Rattle.message.specs.Frame.{sizeBytes, partBytes, joined, partIf, routing, 
 use Rattle.message.proofs.Lists.{each-at}
 use Rattle.message.proofs.Forms.{routes-each}
 use Rattle.message.proofs.Messages.{written}
-use Rattle.message.proofs.Fields.{call-fits}
+use Rattle.message.proofs.Frames.{frame-long}
 use Rattle.message.proofs.Parts.{part-short, joined-append}
 use Rattle.message.proofs.RoundTrip.{WrittenBack, write-back}
 use Rattle.body.specs.declared.Frame.{Frame}
@@ -40,8 +40,11 @@ use Rattle.broker.specs.declared.Stepped.{Stepped}
 use Rattle.broker.specs.declared.Stepped.the-variants.{Refused}
 use Rattle.broker.specs.Step.{roomFor, leftBy, toldAs, Makes}
 use Rattle.broker.specs.Working.{heldIn, Lies}
-use Rattle.broker.proofs.Bodies.{pushed-body, popped-body, frontOf}
-use Rattle.broker.proofs.Buffers.{frame-long, body-short, body-within, popped-left}
+use Rattle.routing.proofs.Bodies.{body-on-top}
+use Rattle.routing.proofs.Made.{has-group, has-topic as names-topic}
+use Rattle.routing.proofs.Outcomes.{failed-loud, failed-quiet}
+use Rattle.broker.proofs.Bodies.{popped-body, frontOf}
+use Rattle.broker.proofs.Buffers.{body-short, body-within, popped-left}
 
 pub or-right-holds : (a : Bool) {b : Bool} → b ≡ true → (a || b) ≡ true
 or-right-holds true e = refl
@@ -77,20 +80,14 @@ module _ (b : List ℕ) (f : Frame) (kind : ℕ) (l : Lies b f kind) where
 
   -- a request or a response has a routing group and a topic
   module _ (call : (kind ≡ 1) ⊎ (kind ≡ 2)) where
-    abbrev flags : ℕ
-    flags = heldIn b .header .flags
+    typed : (heldIn b .header .kind ≡ 1) ⊎ (heldIn b .header .kind ≡ 2)
+    typed = ⊎-elim (λ k. inl (l .type ∙ k)) (λ k. inr (l .type ∙ k)) call
 
-    fit : (hasRoute flags && hasTopic flags) ≡ true
-    fit =
-        let none : (n : ℕ) → 2 < n → heldIn b .header .kind ≡ n → ⊥ = λ n h e. ⊎-elim (λ k. omega (arith, l .type)) (λ k. omega (arith, l .type)) call in
-        sym (call-fits (heldIn b .header) {r = hasRoute flags} {t = hasTopic flags} refl refl refl (none 8 (omega arith)) (none 4 (omega arith)))
-        ∙ written (heldIn b) (frameOf (heldIn b)) (back-held .writable) .passes .fit
+    pub has-route : hasRoute (heldIn b .header .flags) ≡ true
+    has-route = has-group (heldIn b) (back-held .writable) typed
 
-    pub has-route : hasRoute flags ≡ true
-    has-route = and-left (hasRoute flags) (hasTopic flags) fit
-
-    pub has-topic : hasTopic flags ≡ true
-    has-topic = and-right (hasRoute flags) (hasTopic flags) fit
+    pub has-topic : hasTopic (heldIn b .header .flags) ≡ true
+    has-topic = names-topic (heldIn b) (back-held .writable) typed
 
     -- the topic ends where the front of the body does, with a zero byte that is not shown
     pub front-told : f .topic .start + f .topic .len + 1 ≡ 8 + length (frontOf (heldIn b))
@@ -125,7 +122,7 @@ module _ (b : List ℕ) (f : Frame) (l : Lies b f 1) (identity : List ℕ) (shor
   grown-told =
       omega (
         arith,
-        ap length (pushed-body identity (heldIn b) (has-route b f 1 l (inl refl))),
+        ap length (body-on-top (heldIn b) (has-route b f 1 l (inl refl)) identity (heldIn b .routes)),
         length-append (partBytes identity) (bodyOf (heldIn b)),
         ap length (part-short identity (omega arith)),
         taken-told b f 1 l,
@@ -156,10 +153,10 @@ module _ (b : List ℕ) (f : Frame) (l : Lies b f 1) (identity : List ℕ) (shor
 
 module _ (who : Broker) (errnum : ℕ) (m : Message) where
   pub fails-silent : noResponse (m .header .flags) ≡ true → answered (failed who errnum m) ≡ answered (silenced errnum)
-  fails-silent e = rw e
+  fails-silent e = ap answered (failed-quiet who errnum m e)
 
   pub fails-reply : noResponse (m .header .flags) ≡ false → answered (failed who errnum m) ≡ answered (replied errnum (errorReply (who .userid) (who .rolemask) errnum m))
-  fails-reply e = rw e
+  fails-reply e = ap answered (failed-loud who errnum m e)
 
   -- neither a reply nor silence asks for room
   pub fails-anyhow : (room : ℕ) → roomFor room (failed who errnum m) ≡ answered (failed who errnum m)

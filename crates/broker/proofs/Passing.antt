@@ -56,21 +56,6 @@ read-accepted b f e = go (readingOf b) refl e
         let held : heldIn b ≡ m = rw is in
         record { read = is ∙ ap answered (sym held); places = same ∙ ap placesOf (sym held) }
 
--- ---- a request, a response, or neither
-
-module _ (t : Tables) (who : Broker) (m : Message) where
-  pub routed-request : m .header .kind ≡ 1 → routed t who m ≡ requested t who m (requestWay (t .tree) (t .services) (who .rank) (who .client) (m .header) (m .topic))
-  unfolding routed
-  routed-request e = rw (eq-eqb (m .header .kind) 1 e)
-
-  pub routed-response : m .header .kind ≡ 2 → routed t who m ≡ responded m (responseWay (t .tree) (t .identities) (who .rank) (m .routes))
-  unfolding routed
-  routed-response e = rw (ne-eqb (m .header .kind) 1 (λ o. omega arith), eq-eqb (m .header .kind) 2 e)
-
-  pub routed-neither : (m .header .kind ≡ 1 → ⊥) → (m .header .kind ≡ 2 → ⊥) → routed t who m ≡ refused NotRouted
-  unfolding routed
-  routed-neither n k = rw (ne-eqb (m .header .kind) 1 n, ne-eqb (m .header .kind) 2 k)
-
 -- ---- the step where the tables are right
 
 module _ (t : Tables) (who : Broker) (b : List ℕ) where

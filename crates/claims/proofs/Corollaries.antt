@@ -22,7 +22,7 @@ use Rattle.rewrite.specs.Renewed.{cleared}
 use Rattle.routing.specs.declared.Broker.{Broker}
 use Rattle.routing.specs.Messages.{withRoutes, errorReply}
 use Rattle.routing.specs.Routed.{Tables}
-use Rattle.broker.proofs.Buffers.{frame-long}
+use Rattle.message.proofs.Frames.{frame-long}
 use Rattle.broker.proofs.Keeping.{sound-short, reply-sound, read-cleared}
 use Rattle.walk.specs.Walk.{Walk}
 use Rattle.walk.specs.Runs.{IsRun}

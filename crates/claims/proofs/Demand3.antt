@@ -32,11 +32,12 @@ use Rattle.rewrite.specs.Renewed.{cleared}
 use Rattle.routing.specs.declared.Broker.{Broker}
 use Rattle.routing.specs.Messages.{withRoutes, errorReply}
 use Rattle.routing.specs.Routed.{Tables, Outcome, delivered, replied, silenced, home}
+use Rattle.routing.proofs.Made.{reply-writable}
 use Rattle.broker.specs.declared.Stepped.{Stepped}
 use Rattle.broker.specs.declared.Stepped.the-variants.{Home}
 use Rattle.broker.specs.Step.{ValidTables, leftAfter, toldAs}
-use Rattle.broker.proofs.Buffers.{frame-long}
-use Rattle.broker.proofs.Keeping.{Sound, sound-read, sound-route, sound-short, reply-writes}
+use Rattle.message.proofs.Frames.{frame-long}
+use Rattle.broker.proofs.Keeping.{Sound, sound-read, sound-route, sound-short}
 use Rattle.walk.specs.Runs.{Run}
 use Rattle.lampreycoil.specs.Calls.{hostBroker}
 use Rattle.claims.specs.Demand3.{Enters, Responds, Goes, routesAtRest, answerAt, messageAt, asOnEntry, leftOf, ThereAndHome, DemandThree}
@@ -79,7 +80,7 @@ end-left-some (fails errnum) m links buffer some fits = error-some (noResponse (
 end-writes : (end : End) (m : Message) → Sound m → m .header .kind ≡ 1 → writing (messageAt end m) ≡ answered (frameOf (messageAt end m))
 end-writes (delivers number) m sound kind = sound .writes
 end-writes (fails errnum) m sound kind =
-    ⊎-elim (λ q. rw q (sound .writes)) (λ l. rw l (reply-writes m sound (inl kind) 4294967295 0 errnum)) (outcome (noResponse (m .header .flags)))
+    ⊎-elim (λ q. rw q (sound .writes)) (λ l. rw l (reply-writable m (sound .writes) (inl kind) 4294967295 0 errnum)) (outcome (noResponse (m .header .flags)))
 
 -- ---- lists
 

@@ -19,7 +19,8 @@ use Rattle.message.proofs.Forms.{routes-each}
 use Rattle.message.proofs.Messages.{write}
 use Rattle.message.proofs.RoundTrip.{write-back, read-back}
 use Rattle.body.specs.Places.{placesOf}
-use Rattle.body.proofs.Holding.{Begins, begins-read, begins-written, topic-told, payload-told, topic-absent, payload-absent, route-told, frame-length}
+use Rattle.message.proofs.Frames.{frame-long}
+use Rattle.body.proofs.Holding.{Begins, begins-read, begins-written, topic-told, payload-told, topic-absent, payload-absent, route-told}
 use Rattle.rows.specs.Rows.{readRow}
 use Rattle.lampreycoil.specs.Calls.{returned, recorded, wrote, Reads, Writes}
 use Rattle.lampreycoil.proofs.ReadCalls.{ReadDone, read-done, read-on}
@@ -153,7 +154,7 @@ module _ (header : Header) (fits : FieldsFit header) (routes topic payload : Lis
       let listed-is : listed ≡ laid (rowBytes (readRow (placesOf given))) row = reads .lists ∙ ap (λ (a : Answer (List ℕ)). recorded a row) on in
       let h : Holds filled listed given = subst (λ (l : List ℕ). Holds filled l given) (sym listed-is) (holds filled given begins given-fits row) in
       let counted-is : counted ≡ four (length frame) ++ drop 4 tally = writes .lists ∙ ap (λ (a : Answer (List ℕ)). recorded (wrote a) tally) (w .lists) in
-      let short : length frame < 4294967296 = omega (arith, frame-length given, w .whole .short) in
+      let short : length frame < 4294967296 = omega (arith, frame-long given, w .whole .short) in
       record {
         returns = reads .returns ∙ ap returned on;
         whole-frame = h .taken ∙ sym (ap (λ (l : List ℕ). numberIn l 0) counted-is ∙ number-four (length frame) (drop 4 tally) short);

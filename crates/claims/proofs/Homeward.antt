@@ -34,8 +34,9 @@ use Rattle.routing.specs.Routed.{Tables, Outcome, forwarded, home, responded}
 use Rattle.routing.proofs.Ways.{broker-near}
 use Rattle.broker.specs.Step.{ValidTables, roomFor, stepOf}
 use Rattle.broker.proofs.Bodies.{popped-body}
-use Rattle.broker.proofs.Buffers.{frame-long}
-use Rattle.broker.proofs.Passing.{routed-response, pass-as, step-pass}
+use Rattle.message.proofs.Frames.{frame-long}
+use Rattle.routing.proofs.Outcomes.{routed-response}
+use Rattle.broker.proofs.Passing.{pass-as, step-pass}
 use Rattle.broker.proofs.Keeping.{Sound, sound-route, sound-short, popped-sound, read-cleared}
 use Rattle.walk.specs.Runs.{Run, rests, goes}
 use Rattle.claims.specs.Demand3.{leftOf}

@@ -19,7 +19,8 @@ use Rattle.octets.proofs.Truth.{and-left, and-right, true-false}
 use Rattle.message.proofs.Lists.{Each, each-at}
 use Rattle.message.proofs.Forms.{routes-few}
 use Rattle.body.specs.Places.{placesOf}
-use Rattle.body.proofs.Holding.{Begins, frame-length, topic-within, payload-within, route-most}
+use Rattle.message.proofs.Frames.{frame-long}
+use Rattle.body.proofs.Holding.{Begins, topic-within, payload-within, route-most}
 use Rattle.rows.specs.Rows.{readRow}
 use Rattle.claims.specs.Records.{numberIn}
 
@@ -47,7 +48,7 @@ module _ (b : List ℕ) (m : Message) (back : Begins b m) (fits : FieldsFit (m .
   numbers = readRow (placesOf m)
 
   frame-most : length (frameOf m) ≤ 32776
-  frame-most = omega (arith, frame-length m, back .whole .short)
+  frame-most = omega (arith, frame-long m, back .whole .short)
 
   numbers-fit : Each (λ n. n < 4294967296) numbers
   unfolding placesOf

@@ -1,13 +1,14 @@
 -- Laws on the body and the frame of the message that the writer is given: the body is the routing group, the topic's part, the payload's
 -- part and the header's part, one after another.
 -- Assumes nothing.
-use mathlib.Core.Path.{_≡_}
+use mathlib.Core.Path.{_≡_, _∙_}
 use mathlib.Core.Bool.{Bool, true}
 use Prim.Native.Nat.{ℕ, _+_, _%_, _≤_}
 use mathlib.Core.List.{List, [], _∷_, _++_, append-nil, append-assoc}
 use native.Mathlib.Omega.{arith}
 use lib.ListN.{length, length-append}
 use Rattle.message.proofs.Parts.{joined-append}
+use Rattle.message.proofs.Frames.{frame-long}
 use Rattle.message.specs.declared.Header.{Header}
 use Rattle.message.specs.Header.{hasTopic, hasPayload, hasRoute, headerBytes}
 use Rattle.message.specs.Message.{Message}
@@ -35,5 +36,4 @@ module _ (h : Header) (routes topic payload : List ℕ) {r t p : Bool} (er : r �
 
 -- the frame is eight bytes and the body
 pub frame-length : (m : Message) → length (frameOf m) ≡ length (bodyOf m) + 8
-unfolding frameOf
-frame-length m = omega arith
+frame-length m = frame-long m ∙ omega arith

@@ -19,6 +19,11 @@ use Rattle.message.proofs.Headers.{four-places}
 use Rattle.octets.proofs.Truth.{and-left, and-right}
 use Rattle.message.proofs.Answers.{passed, pass}
 
+-- a frame is eight bytes and its body
+pub frame-long : (m : Message) → length (frameOf m) ≡ 8 + length (bodyOf m)
+unfolding frameOf
+frame-long m = omega arith
+
 -- ---- a frame read
 
 -- 1, 2, 3 and 1 pass, and what is left to do is done with the body's parts

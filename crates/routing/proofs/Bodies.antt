@@ -8,14 +8,9 @@ use native.Mathlib.Omega.{arith}
 use lib.ListN.{length, length-append}
 use Rattle.message.specs.Header.{hasTopic, hasPayload, hasRoute, headerBytes}
 use Rattle.message.specs.Message.{Message}
-use Rattle.message.specs.Frame.{partBytes, joined, partIf, groupIf, partsOf, bodyOf, frameOf}
+use Rattle.message.specs.Frame.{partBytes, joined, partIf, groupIf, partsOf, bodyOf}
 use Rattle.message.proofs.Parts.{joined-append, part-short}
 use Rattle.routing.specs.Messages.{withRoutes}
-
--- the frame is eight bytes and the body
-pub frame-length : (m : Message) → length (frameOf m) ≡ length (bodyOf m) + 8
-unfolding frameOf
-frame-length m = omega arith
 
 -- ---- a route on top
 

@@ -17,10 +17,11 @@ use Rattle.message.specs.Message.{Message}
 use Rattle.message.specs.Frame.{bodyOf, frameOf}
 use Rattle.message.specs.Writing.{allRoutes, routesGood, writing}
 use Rattle.message.proofs.Fields.{known-in, call-fits, free-fields}
+use Rattle.message.proofs.Frames.{frame-long}
 use Rattle.message.proofs.Forms.{route-length, routes-few}
 use Rattle.message.proofs.Messages.{Written, written, given-fit, fit-given, write}
 use Rattle.routing.specs.Messages.{withRoutes, pushed, errorReply}
-use Rattle.routing.proofs.Bodies.{frame-length, body-grows, body-length}
+use Rattle.routing.proofs.Bodies.{body-grows, body-length}
 
 -- ---- one route more, one route less
 
@@ -88,7 +89,7 @@ module _ (m : Message) (can : writing m ≡ answered (frameOf m)) (call : (m .he
     pushed-body = body-grows m has-group identity (m .routes) (route-length identity is)
 
     pub pushed-frame : length (frameOf (pushed identity m)) ≡ length (frameOf m) + 38
-    pushed-frame = omega (arith, pushed-body, frame-length m, frame-length (pushed identity m))
+    pushed-frame = omega (arith, pushed-body, frame-long m, frame-long (pushed identity m))
 
     pub pushed-writable : length (m .routes) < 64 → length (bodyOf m) ≤ 32730 → writing (pushed identity m) ≡ answered (frameOf (pushed identity m))
     pushed-writable few short = re-routed (identity ∷ m .routes) (routes-more identity (m .routes) is few (w .passes .routes)) (omega (arith, pushed-body))
@@ -101,7 +102,7 @@ module _ (m : Message) (can : writing m ≡ answered (frameOf m)) (call : (m .he
     popped-body = sym (ap (λ (rs : List (List ℕ)). length (bodyOf (withRoutes m rs))) routes ∙ body-grows m has-group top below (route-length top (route-first top below good)))
 
     pub popped-frame : length (frameOf (withRoutes m below)) + 38 ≡ length (frameOf m)
-    popped-frame = omega (arith, popped-body, frame-length m, frame-length (withRoutes m below))
+    popped-frame = omega (arith, popped-body, frame-long m, frame-long (withRoutes m below))
 
     pub popped-writable : writing (withRoutes m below) ≡ answered (frameOf (withRoutes m below))
     popped-writable = re-routed below (routes-fewer top below good) (omega (arith, popped-body, w .short))
@@ -119,7 +120,7 @@ module _ (m : Message) (can : writing m ≡ answered (frameOf m)) (call : (m .he
         omega (arith, body-length reply (sym (flagged .group)) (sym (flagged .topic)) (sym (flagged .payload)), body-length m (sym has-group) (sym has-topic) refl)
 
     pub reply-frame : length (frameOf (errorReply userid rolemask errnum m)) ≤ length (frameOf m)
-    reply-frame = omega (arith, reply-body, frame-length m, frame-length reply)
+    reply-frame = omega (arith, reply-body, frame-long m, frame-long reply)
 
     pub reply-writable : writing (errorReply userid rolemask errnum m) ≡ answered (frameOf (errorReply userid rolemask errnum m))
     reply-writable =

@@ -37,9 +37,9 @@ module _ (t : Tables) (b : Broker) (m : Message) where
   unfolding routed
   routed-request e = rw (eq-eqb (m .header .kind) 1 e)
 
-  pub routed-response : (m .header .kind ≡ 1 → ⊥) → m .header .kind ≡ 2 → routed t b m ≡ responded m (backOf t b m)
+  pub routed-response : m .header .kind ≡ 2 → routed t b m ≡ responded m (backOf t b m)
   unfolding routed
-  routed-response n e = rw (ne-eqb (m .header .kind) 1 n, eq-eqb (m .header .kind) 2 e)
+  routed-response e = rw (ne-eqb (m .header .kind) 1 (λ o. omega arith), eq-eqb (m .header .kind) 2 e)
 
   pub routed-neither : (m .header .kind ≡ 1 → ⊥) → (m .header .kind ≡ 2 → ⊥) → routed t b m ≡ refused NotRouted
   unfolding routed

@@ -137,5 +137,5 @@ module _ (t : Tables) (b : Broker) (m : Message) where
   only-silence clear =
       by-type (m .header)
       (λ one. routed-request t b (hushed m) one ∙ ap (requested t b (hushed m)) (same-way clear) ∙ request-silently clear (wayOf t b m) ∙ sym (ap silently (routed-request t b m one)))
-      (λ n two. routed-response t b (hushed m) n two ∙ response-silently clear (backOf t b m) ∙ sym (ap silently (routed-response t b m n two)))
+      (λ n two. routed-response t b (hushed m) two ∙ response-silently clear (backOf t b m) ∙ sym (ap silently (routed-response t b m two)))
       (λ n k. routed-neither t b (hushed m) n k ∙ sym (ap silently (routed-neither t b m n k)))

@@ -46,7 +46,7 @@ module _ (t : Tables) (b : Broker) (m : Message) where
       let other = refused-is (came t b m (wayOf t b m)) NotRouted (sym (routed-request t b m one) ∙ e) .2 in
       clashing cc)
       (λ n two.
-      let other = stray-is m (backOf t b m) NotRouted (sym (routed-response t b m n two) ∙ e) .1 in
+      let other = stray-is m (backOf t b m) NotRouted (sym (routed-response t b m two) ∙ e) .1 in
       clashing cc)
       (λ n k. type-left (m .header) known n k)
 

@@ -149,7 +149,7 @@ module _ (t : Tables) (b : Broker) (right : Right t b) (m : Message) where
 
   module _ (v : Valid 2 m) where
     step : routed t b m ≡ responded m way
-    step = routed-response t b m (λ k. omega (arith, v .typed)) (v .typed)
+    step = routed-response t b m (v .typed)
 
     no-error : (errnum : ℕ) → ErrorDue (routed t b m) errnum → ⊥
     no-error errnum (ErrorDue.made reply e) = not-replied m way errnum reply (sym step ∙ e)

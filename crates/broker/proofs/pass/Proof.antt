@@ -15,7 +15,8 @@ use Rattle.routing.specs.declared.Broker.{Broker}
 use Rattle.routing.specs.Routed.{Tables, tablesOf}
 use Rattle.broker.specs.Working.{heldIn, Lies}
 use Rattle.broker.proofs.Lying.{refuses, makes-as}
-use Rattle.broker.proofs.Passing.{Read, read-refused, read-accepted, routed-request, routed-response, routed-neither, pass-outside, pass-unread, pass-as}
+use Rattle.routing.proofs.Outcomes.{routed-request, routed-response, routed-neither}
+use Rattle.broker.proofs.Passing.{Read, read-refused, read-accepted, pass-outside, pass-unread, pass-as}
 use Rattle.broker.proofs.pass.Statement.{statement}
 use Rattle.broker.proofs.pass.Tie as tie
 
