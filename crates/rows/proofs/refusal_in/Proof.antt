@@ -1,7 +1,8 @@
 -- `rows::refusal_in` meets its contract.
 -- Assumes nothing.
 use borrow.Author.Needs.{needs}
-use mathlib.Core.Path.{_≡_, sym, ap, _∙_}
+use native.Mathlib.Omega.{arith}
+use mathlib.Core.Path.{_≡_, sym, ap}
 use Rattle.rows.specs.Steps.{refusalIn}
 use Rattle.rows.proofs.refusal_in.Statement.{statement}
 use Rattle.rows.proofs.refusal_in.Tie as tie
@@ -28,22 +29,22 @@ enum-told-5 : tie.Need-enum-told-5
 enum-told-5 c = search needs
 
 returns : tie.Need-returns
-returns c = c .number .ensures ∙ sym (ap refusalIn (c .before .before .s .given .1))
+returns c = let told = ap refusalIn (c .before .before .s .given .1) in omega (arith, c .number .ensures, told)
 
 returns-2 : tie.Need-returns-2
-returns-2 c = search needs
+returns-2 c = sym (ap refusalIn (c .enum-told .given .1))
 
 returns-3 : tie.Need-returns-3
-returns-3 c = search needs
+returns-3 c = sym (ap refusalIn (c .enum-told2 .given .1))
 
 returns-4 : tie.Need-returns-4
-returns-4 c = search needs
+returns-4 c = sym (ap refusalIn (c .enum-told3 .given .1))
 
 returns-5 : tie.Need-returns-5
-returns-5 c = search needs
+returns-5 c = sym (ap refusalIn (c .enum-told4 .given .1))
 
 returns-6 : tie.Need-returns-6
-returns-6 c = search needs
+returns-6 c = sym (ap refusalIn (c .enum-told5 .given .1))
 
 pub refusal-in-spec : {M : Type 1} → statement M
 refusal-in-spec =
