@@ -38,7 +38,7 @@ afterStep goOn b links buffer (answered (silenced errnum)) = restsAt (answered (
 afterStep goOn b links buffer (answered home) = restsAt (answered home) b links buffer
 
 -- so many steps at the most, from a broker that has the buffer, with so many links behind it. A walk never comes to the end of its steps: the law
--- `walk-settles` (proofs/Settling.antt) says that 65 are enough for whatever the buffer holds.
+-- `walk-settles` (proofs/Running.antt) says that 65 are enough for whatever the buffer holds.
 unfoldable pub walkFrom : ℕ → Tables → Broker → ℕ → List ℕ → Walk
 walkFrom zero t b links buffer = restsAt (refused NoForwarding) b links buffer
 walkFrom (suc n) t b links buffer = afterStep (walkFrom n t) b links buffer (stepOf t b buffer)
