@@ -1,6 +1,7 @@
 /*
  * lampreycoil.h: the C calls of Lampreycoil, which reads and writes framed Flux messages (RFC 3),
- * checks the tables of the brokers that pass them on, and makes one broker's step.
+ * checks the tables of the brokers that pass them on, makes one broker's step, and plays a whole
+ * walk.
  * The functions are in the archive liblampreycoil.a. Usable from C99 and from C++.
  *
  * How every call works
@@ -13,7 +14,7 @@
  * - A call's results are a record: a row of 4-byte big-endian numbers, which it writes to the
  *   front of a slice lent for it. lampreycoil_number() reads one of them. A record slice that is
  *   too short is refused with 11 before anything else; a longer one keeps its tail as it was.
- * - A refusal writes nothing, to any slice.
+ * - A refusal writes nothing, to any slice. lampreycoil_walk alone differs: see there.
  * - Nothing is allocated. A call takes less than LAMPREYCOIL_STACK_MAX bytes of stack, whatever it
  *   is given; this is measured (host/test.sh) and not proved.
  */
@@ -63,7 +64,7 @@ enum lampreycoil_refusal {
     LAMPREYCOIL_IDENTITIES_WRONG = 16,
     /* rank not in the tree */
     LAMPREYCOIL_RANK_WRONG = 17,
-    /* step given an event or control */
+    /* step or walk given an event or control */
     LAMPREYCOIL_NOT_ROUTED = 18,
     /* a response's top route is a broker that is no neighbour, itself included */
     LAMPREYCOIL_NO_NEIGHBOUR = 19
@@ -96,6 +97,7 @@ enum lampreycoil_size {
     LAMPREYCOIL_TOPIC_MAX = 255, /* without the zero byte */
     LAMPREYCOIL_BODY_MAX = 32768,
     LAMPREYCOIL_FRAME_MAX = 32776,   /* an output of this size is never too short */
+    LAMPREYCOIL_WALK_ROOM = 32776,   /* the least buffer that a walk takes */
     LAMPREYCOIL_RANKS_MAX = 1024,    /* ranks of a tree */
     LAMPREYCOIL_RANK_SIZE = 4,       /* a rank's record in a tree: its parent */
     LAMPREYCOIL_SERVICES_MAX = 1024, /* records of services */
@@ -166,6 +168,17 @@ enum lampreycoil_step_index {
     LAMPREYCOIL_STEP_ERROR = 2,  /* 3 and 4: enum lampreycoil_error; else 0 */
     LAMPREYCOIL_STEP_LENGTH = 3, /* of the frame that is now in the buffer */
     LAMPREYCOIL_STEP_RECORD = 16 /* no index: the record's size in bytes, 4 numbers */
+};
+
+/* The numbers of lampreycoil_walk's record, by index: the last step's four, then two more. */
+enum lampreycoil_walk_index {
+    LAMPREYCOIL_WALK_ANSWER = 0, /* enum lampreycoil_answer, never 2; 0 for a refused walk */
+    LAMPREYCOIL_WALK_NUMBER = 1, /* 1: the service's record, counted from 0; else 0 */
+    LAMPREYCOIL_WALK_ERROR = 2,  /* 3 and 4: enum lampreycoil_error; else 0 */
+    LAMPREYCOIL_WALK_LENGTH = 3, /* of the frame that is now in the buffer; 0 for a refused walk */
+    LAMPREYCOIL_WALK_RANK = 4,   /* of the broker that made the last step, or was refused it */
+    LAMPREYCOIL_WALK_LINKS = 5,  /* links crossed */
+    LAMPREYCOIL_WALK_RECORD = 24 /* no index: the record's size in bytes, 6 numbers */
 };
 
 /*
@@ -256,6 +269,36 @@ uint32_t lampreycoil_step(const uint8_t *tree, size_t tree_length, const uint8_t
                           size_t identities_length, uint32_t rank, uint32_t from_client,
                           uint8_t *buffer, size_t buffer_length, uint8_t *record,
                           size_t record_length);
+
+/*
+ * Plays a whole walk of the message whose frame begins at buffer's front: the step of the broker at
+ * rank, as from a local client, then that of the broker to which it forwards the message, as from
+ * another broker, and so on until an answer other than 2. Writes what came of it to record, which
+ * takes LAMPREYCOIL_WALK_RECORD bytes. It is there to try the tables of a whole tree: where a
+ * message ends, and over how many links. A broker's daemon acts for one broker, and calls
+ * lampreycoil_step.
+ *
+ * The tables are checked once. Each step is lampreycoil_step's, on the buffer that the one before
+ * left. After 1, 4 and 5 on 0 links no byte of buffer has changed; after any other answer every
+ * byte behind the frame is zero, to the end of buffer. A response goes home by a walk from the rank
+ * at which its request rested; so does the error reply that 3 leaves there.
+ *
+ * buffer takes LAMPREYCOIL_WALK_ROOM bytes or more, however short the message. Neither buffer nor
+ * record may overlap with each other or with a table.
+ *
+ * A refused walk still tells how far it came: its record has 0, 0, 0, 0, then the rank of the
+ * broker whose step was refused and the links crossed. Before any link these are the rank given,
+ * even one that is not in the tree, and 0. buffer is as the steps before left it. Where the record
+ * is too short, nothing is written at all.
+ *
+ * Refusals, in the order in which they are looked for: 11 for the record; 11 for buffer; then those
+ * of lampreycoil_step at each broker in turn. 12 and 19 can come anywhere on the way, the others
+ * only at the first broker.
+ */
+uint32_t lampreycoil_walk(const uint8_t *tree, size_t tree_length, const uint8_t *services,
+                          size_t services_length, const uint8_t *identities,
+                          size_t identities_length, uint32_t rank, uint8_t *buffer,
+                          size_t buffer_length, uint8_t *record, size_t record_length);
 
 /* The number at index of a record that a call has filled. */
 static inline uint32_t lampreycoil_number(const uint8_t *record, size_t index)
