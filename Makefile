@@ -1,4 +1,4 @@
-# Lampreycoil: framed Flux messages, the tables of their brokers and a broker's step, proved. `make` lists what can be made.
+# Lampreycoil: framed Flux messages, the tables of their brokers, a broker's step and the walk, proved. `make` lists what can be made.
 
 CC      = gcc
 CFLAGS  = -std=c99 -O2 -Wall -Wextra -Werror
@@ -44,7 +44,7 @@ test: deps
 	@tools/gate
 
 bench: deps archive
-	@cd tests/second && CARGO_TARGET_DIR='$(CURDIR)/target/cargo' cargo run --release --offline --features step --bin bench
+	@cd tests/second && CARGO_TARGET_DIR='$(CURDIR)/target/cargo' cargo run --release --offline --features walk --bin bench
 
 archive: $(ARCHIVE)
 
@@ -61,7 +61,7 @@ $(HOST): $(C_FILES) $(H_FILES) $(ARCHIVE)
 fmt:
 	rt fmt
 	@if command -v clang-format >/dev/null; then \
-	    clang-format -i --style=file:host/.clang-format $(C_FILES) $(H_FILES) host/test/*.c; \
+	    clang-format -i --style=file:host/.clang-format $(C_FILES) $(H_FILES) host/test/*.[ch]; \
 	else \
 	    echo 'make fmt: no clang-format here, so the C files stay as they are'; \
 	fi

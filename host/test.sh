@@ -1,6 +1,6 @@
 #!/usr/bin/env bash
 # Tests the host program: the bytes of paper 01, each refusal that it can meet, files and wrong usage.
-# Then the step through the header, the examples of README.md, and the stack that each call takes.
+# Then the step and the walk through the header, the examples of README.md, and the stack that each call takes.
 # The program is FLUX_FRAME, or else what `make host` builds. The last line is 'N passed, M failed'.
 set -u
 cd "$(dirname "$0")/.." || exit 2
@@ -280,13 +280,14 @@ wrong 'an output that cannot be made' "cannot write $room/no/where" write --type
 bytes 1048577 >"$room/huge"
 wrong 'an input that is too long' 'longer than 1048576 bytes' dump "$room/huge"
 
-# ---- the step, the examples of README.md, and the stack
+# ---- the step, the examples of README.md, the walk, and the stack
 
 awk '/^```c$/ { code = 1; next } /^```$/ { code = 0 } code' README.md >"$room/readme.c"
 "${CC:-gcc}" -std=c99 -Wall -Wextra -Werror -Iinclude -c -o "$room/readme.o" "$room/readme.c" >"$room/out" 2>"$room/err"
 status=$?
 report "$status" 'the examples of README.md compile'
 program step
+program walk
 program stack
 sed -n 's/^passed: stack of \(.*\): \([0-9]*\) bytes$/\2 bytes of stack: \1/p' "$room/out" | sort -n | tail -n 1
 

@@ -19,6 +19,8 @@ enum {
     RECORDS = LAMPREYCOIL_SERVICES_MAX,
     ROOM = LAMPREYCOIL_FRAME_MAX,
     LONG_BODY = 32730, /* the longest that still grows by a route */
+    LINKS = 32,        /* the most between two ranks */
+    WALK_BODY = 31552, /* the longest that grows by a route at each of them */
     CHAINS = 4096,
     CHAIN = 9, /* records in a chain of the library's hash, before it puts all in order */
     USED_CHAINS = RECORDS / CHAIN + 1
@@ -105,32 +107,30 @@ static void make_hostile(uint8_t *table, size_t width, void (*make)(uint8_t *, u
         abort();
 }
 
-/* ---- messages, each with the longest body that still grows by a route */
+/* ---- messages */
 
 static uint8_t payload[LAMPREYCOIL_BODY_MAX];
 static uint8_t frame[ROOM];
 static size_t frame_length;
 
-/* The topic is the name of the service at `service`, and `route` is the only route, if any. */
+/* The topic is the name of the service at `service`; the payload makes the body as long as told. */
 static void make_frame(uint8_t type, uint8_t more, uint32_t first, const uint8_t *service,
-                       const uint8_t *route)
+                       const uint8_t *routes, size_t count, size_t body)
 {
     const uint8_t flags = LAMPREYCOIL_TOPIC | LAMPREYCOIL_ROUTE | LAMPREYCOIL_PAYLOAD;
-    size_t routes = route ? LAMPREYCOIL_ROUTE_SIZE : 0;
-    size_t others =
-        (route ? LAMPREYCOIL_ROUTE_STEP : 0) + 1 + 1 + LAMPREYCOIL_NAME_MAX + 1 + 5 + 21;
+    size_t others = count * LAMPREYCOIL_ROUTE_STEP + 1 + 1 + LAMPREYCOIL_NAME_MAX + 1 + 5 + 21;
     uint8_t record[LAMPREYCOIL_WRITE_RECORD];
 
-    if (lampreycoil_write(type, flags | more, 1000, 0, first, 1, route ? route : payload, routes,
-                          service + 5, LAMPREYCOIL_NAME_MAX, payload, LONG_BODY - others, frame,
-                          ROOM, record, sizeof record))
+    if (lampreycoil_write(type, flags | more, 1000, 0, first, 1, routes,
+                          count * LAMPREYCOIL_ROUTE_SIZE, service + 5, LAMPREYCOIL_NAME_MAX,
+                          payload, body - others, frame, ROOM, record, sizeof record))
         abort();
     frame_length = lampreycoil_number(record, LAMPREYCOIL_WRITE_LENGTH);
-    if (frame_length != LONG_BODY + 8)
+    if (frame_length != body + 8)
         abort();
 }
 
-/* ---- the calls: each tells what came of it, a step its answer and 100 */
+/* ---- the calls: each tells what came of it, a step its answer and 100, a walk its links too */
 
 static uint8_t buffer[ROOM];
 static uint8_t record[LAMPREYCOIL_READ_RECORD];
@@ -179,6 +179,16 @@ static uint32_t step(void)
     return refusal ? refusal : 100 + lampreycoil_number(record, LAMPREYCOIL_STEP_ANSWER);
 }
 
+static uint32_t walk(void)
+{
+    uint32_t refusal =
+        lampreycoil_walk(tree, sizeof tree, lent_services, sizeof services, lent_identities,
+                         sizeof identities, at_rank, buffer, sizeof buffer, record, sizeof record);
+
+    return 1000 * lampreycoil_number(record, LAMPREYCOIL_WALK_LINKS) +
+           (refusal ? refusal : 100 + lampreycoil_number(record, LAMPREYCOIL_WALK_ANSWER));
+}
+
 /* ---- the measurement */
 
 static uint32_t (*volatile call)(void);
@@ -225,35 +235,55 @@ static void takes(const char *label, uint32_t (*what)(void), uint32_t expected)
 static void take_tables(const uint8_t *s, const uint8_t *i, const char *kind)
 {
     const uint8_t request = LAMPREYCOIL_REQUEST, response = LAMPREYCOIL_RESPONSE;
+    const uint8_t silent = LAMPREYCOIL_NORESPONSE;
     const uint8_t *last = i + (RANKS - 1) * LAMPREYCOIL_ROUTE_SIZE;
+    /* Those of a request from rank 16 that rests at 32, over rank 0. */
+    uint8_t passed[LINKS * LAMPREYCOIL_ROUTE_SIZE];
     const struct {
         const char *label;
-        uint32_t rank, answer;
+        uint32_t (*what)(void);
+        uint32_t rank, told;
         uint8_t type, more;
         uint32_t first;
-        const uint8_t *route;
-    } steps[] = {
-        {"a step that delivers", 0, 101, request, 0, 0, NULL},
-        {"a step that forwards up", 16, 102, request, 0, 32, NULL},
-        {"a step that forwards down", 0, 102, request, 0, 32, NULL},
-        {"a step that replies", 0, 103, request, 0, RANKS, NULL},
-        {"a step that is silent", 0, 104, request, LAMPREYCOIL_NORESPONSE, RANKS, NULL},
-        {"a step that sends home", 0, 102, response, 0, 0, last},
-        {"a step at home", 0, 105, response, 0, 0, NULL},
+        const uint8_t *routes;
+        size_t count, body;
+    } calls[] = {
+        {"a step that delivers", step, 0, 101, request, 0, 0, i, 0, LONG_BODY},
+        {"a step that forwards up", step, 16, 102, request, 0, 32, i, 0, LONG_BODY},
+        {"a step that forwards down", step, 0, 102, request, 0, 32, i, 0, LONG_BODY},
+        {"a step that replies", step, 0, 103, request, 0, RANKS, i, 0, LONG_BODY},
+        {"a step that is silent", step, 0, 104, request, silent, RANKS, i, 0, LONG_BODY},
+        {"a step that sends home", step, 0, 102, response, 0, 0, last, 1, LONG_BODY},
+        {"a step at home", step, 0, 105, response, 0, 0, i, 0, LONG_BODY},
+        {"a walk that delivers on 0 links", walk, 0, 101, request, 0, 0, i, 0, WALK_BODY},
+        {"a walk that delivers on 16 links", walk, 16, 16101, request, 0, 0, i, 0, WALK_BODY},
+        {"a walk that replies on 32 links", walk, 16, 32103, request, 0, 32, i, 0, WALK_BODY},
+        {"a walk that is silent on 32 links", walk, 16, 32104, request, silent, 32, i, 0,
+         WALK_BODY},
+        {"a walk home on 32 links", walk, 32, 32105, response, 0, 0, passed, LINKS,
+         LAMPREYCOIL_BODY_MAX},
+        {"a walk with 12 on its last link", walk, 16, 31012, request, 0, 32, i, 0, WALK_BODY + 1},
     };
     char label[100];
 
+    for (uint32_t n = 0; n < LINKS; n++) {
+        uint32_t rank = n < 15 ? 31 - n : n == 15 ? 0 : n - 15;
+
+        memcpy(passed + n * LAMPREYCOIL_ROUTE_SIZE, i + rank * LAMPREYCOIL_ROUTE_SIZE,
+               LAMPREYCOIL_ROUTE_SIZE);
+    }
     lent_services = s;
     lent_identities = i;
     snprintf(label, sizeof label, "check_services, %s", kind);
     takes(label, check_services, 0);
     snprintf(label, sizeof label, "check_identities, %s", kind);
     takes(label, check_identities, 0);
-    for (size_t n = 0; n < sizeof steps / sizeof steps[0]; n++) {
-        at_rank = steps[n].rank;
-        make_frame(steps[n].type, steps[n].more, steps[n].first, s, steps[n].route);
-        snprintf(label, sizeof label, "%s, %s", steps[n].label, kind);
-        takes(label, step, steps[n].answer);
+    for (size_t n = 0; n < sizeof calls / sizeof calls[0]; n++) {
+        at_rank = calls[n].rank;
+        make_frame(calls[n].type, calls[n].more, calls[n].first, s, calls[n].routes, calls[n].count,
+                   calls[n].body);
+        snprintf(label, sizeof label, "%s, %s", calls[n].label, kind);
+        takes(label, calls[n].what, calls[n].told);
     }
 }
 
@@ -283,7 +313,7 @@ int main(void)
     if (sigaltstack(&own, NULL) != 0 || sigaction(SIGUSR1, &action, NULL) != 0)
         return 2;
 
-    make_frame(LAMPREYCOIL_REQUEST, 0, LAMPREYCOIL_NODEID_ANY, services, identities);
+    make_frame(LAMPREYCOIL_REQUEST, 0, LAMPREYCOIL_NODEID_ANY, services, identities, 1, LONG_BODY);
     takes("read", read_frame, 0);
     takes("write", write_frame, 0);
     takes("check_tree", check_tree, 0);

@@ -1,77 +1,13 @@
 /*
- * Tests lampreycoil_step through the header, on the floor of paper 01: parents none,0,0,1,1,2,2;
- * services bench at 1 and 4, log at 0. Then gives messages to take_message, the example of
- * README.md, whose code stands in readme.c. Prints a line for each test, "passed" or "FAILED".
+ * Tests lampreycoil_step through the header, on the floor of paper 01. Then gives messages to
+ * take_message and is_delivered, the examples of README.md, whose code stands in readme.c. Prints a
+ * line for each test, "passed" or "FAILED".
  */
-#include <stdio.h>
-#include <string.h>
-
-#include "lampreycoil.h"
+#include "floor.h"
 #include "readme.c"
 
-enum { RANKS = 7, SERVICES = 3, ROOM = LAMPREYCOIL_FRAME_MAX + 100, FILL = 0xA5 };
-
-static uint8_t tree[RANKS * LAMPREYCOIL_RANK_SIZE];
-static uint8_t services[SERVICES * LAMPREYCOIL_SERVICE_SIZE];
-static uint8_t identities[(LAMPREYCOIL_ROUTES_MAX + 1) * LAMPREYCOIL_ROUTE_SIZE];
 static const struct broker at_rank_0 = {
     tree, services, identities, sizeof tree, sizeof services, RANKS *LAMPREYCOIL_ROUTE_SIZE, 0};
-
-static void set_parent(int rank, uint32_t parent)
-{
-    for (int i = 0; i < 4; i++)
-        tree[rank * 4 + i] = (uint8_t)(parent >> (24 - 8 * i));
-}
-
-static void set_service(int record, uint8_t rank, const char *name)
-{
-    uint8_t *at = services + record * LAMPREYCOIL_SERVICE_SIZE;
-
-    at[3] = rank;
-    at[4] = (uint8_t)strlen(name);
-    memcpy(at + 5, name, strlen(name));
-}
-
-static void make_floor(void)
-{
-    set_parent(0, LAMPREYCOIL_NO_PARENT);
-    for (int rank = 1; rank < RANKS; rank++)
-        set_parent(rank, (uint32_t)(rank - 1) / 2);
-    set_service(0, 1, "bench");
-    set_service(1, 4, "bench");
-    set_service(2, 0, "log");
-    /* Of the routes only the first RANKS are brokers'. */
-    for (unsigned i = 0; i <= LAMPREYCOIL_ROUTES_MAX; i++)
-        snprintf((char *)identities + i * LAMPREYCOIL_ROUTE_SIZE, LAMPREYCOIL_ROUTE_SIZE,
-                 "%08x-0123-4567-89ab-cdef01234567", i);
-}
-
-/* A message: its routes are so many in a row, from the one with the number top on. */
-struct message {
-    uint8_t type, flags;
-    uint32_t first;
-    const char *topic;
-    int top, routes;
-    size_t payload;
-};
-
-static uint8_t text[LAMPREYCOIL_BODY_MAX];
-
-/* Writes a message's frame into out, of which the rest is filled; tells its length. */
-static size_t write_message(const struct message *m, uint8_t *out)
-{
-    uint8_t record[LAMPREYCOIL_WRITE_RECORD] = {0};
-    uint32_t userid = m->type == LAMPREYCOIL_RESPONSE ? LAMPREYCOIL_USERID_UNKNOWN : 1000;
-
-    memset(out, FILL, ROOM);
-    if (lampreycoil_write(m->type, m->flags, userid, 0, m->first,
-                          m->type == LAMPREYCOIL_EVENT ? 0 : 5,
-                          identities + m->top * LAMPREYCOIL_ROUTE_SIZE,
-                          (size_t)m->routes * LAMPREYCOIL_ROUTE_SIZE, (const uint8_t *)m->topic,
-                          strlen(m->topic), text, m->payload, out, ROOM, record, sizeof record))
-        printf("FAILED: a message for '%s' is not written\n", m->topic);
-    return lampreycoil_number(record, LAMPREYCOIL_WRITE_LENGTH);
-}
 
 static uint32_t step(uint32_t rank, uint32_t from_client, uint8_t *buffer, size_t room,
                      uint8_t *record, size_t record_length)
@@ -79,11 +15,6 @@ static uint32_t step(uint32_t rank, uint32_t from_client, uint8_t *buffer, size_
     return lampreycoil_step(tree, sizeof tree, services, sizeof services, identities,
                             RANKS * LAMPREYCOIL_ROUTE_SIZE, rank, from_client, buffer, room, record,
                             record_length);
-}
-
-static void report(int good, const char *label)
-{
-    printf("%s: %s\n", good ? "passed" : "FAILED", label);
 }
 
 static uint8_t buffer[ROOM], want[ROOM];
@@ -168,6 +99,18 @@ void note_refusal(uint32_t refusal)
     tell("refusal", refusal, 0);
 }
 
+/* A request that enters at this rank ends so; where it is delivered, at rest. */
+static void ends(const char *label, uint32_t entry, const struct message *given, int delivered,
+                 uint32_t rest)
+{
+    struct broker b = at_rank_0;
+    uint32_t rank = RANKS;
+
+    b.rank = entry;
+    write_message(given, buffer);
+    report(is_delivered(&b, buffer, ROOM, &rank) == delivered && rank == rest, label);
+}
+
 /* The daemon of this rank does so with a message. */
 static void does(const char *label, uint32_t rank, uint32_t from_client,
                  const struct message *given, const char *so)
@@ -204,7 +147,6 @@ int main(void)
     const size_t bench_length = 8 + 1 + 11 + 21;
 
     make_floor();
-    memset(text, 'x', sizeof text);
 
     answers("1: delivered, with its record", 4, 1, &bench, LAMPREYCOIL_DELIVERED, 1, 0, NULL);
     answers("2: a request goes up, with our identity", 3, 1, &bench, LAMPREYCOIL_FORWARD, 1, 0,
@@ -239,5 +181,9 @@ int main(void)
     does("README.md: silenced", 0, 1, &quiet, "silence 38 (0); ");
     does("README.md: home", 3, 0, &back_home, "client 0 (344); ");
     does("README.md: refused", 7, 1, &bench, "refusal 17 (0); ");
+
+    ends("README.md: a walk that is delivered", 3, &bench, 1, 1);
+    ends("README.md: a walk that ends in an error", 3, &kvs, 0, RANKS);
+    ends("README.md: a walk that is refused", 7, &bench, 0, RANKS);
     return 0;
 }

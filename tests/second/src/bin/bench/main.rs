@@ -24,6 +24,8 @@ use std::env;
 #[cfg(feature = "tables")]
 use second::sample::OwnedTables;
 
+#[cfg(feature = "tables")]
+use turns::print_own_head;
 use turns::{print_head, ROUNDS};
 
 fn main() {
@@ -50,6 +52,18 @@ fn main() {
     #[cfg(feature = "tables")]
     if wanted("tables") {
         tables::measure(given.as_ref());
+    }
+    #[cfg(feature = "tables")]
+    if wanted("tables") || cfg!(feature = "walk") && wanted("walks") {
+        print_own_head();
+    }
+    #[cfg(feature = "tables")]
+    if wanted("tables") {
+        tables::measure_own(given.as_ref());
+    }
+    #[cfg(feature = "walk")]
+    if wanted("walks") {
+        walks::measure_own();
     }
 }
 

@@ -6,7 +6,7 @@ use second::sample::OwnedTables;
 use second::side::{Side, LIBRARY, SECOND};
 
 use crate::floors::{binary, crowded, hostile, nearly_equal};
-use crate::turns::{print_row, take_turns};
+use crate::turns::{print_own_row, print_row, take_turns};
 
 struct Check {
     name: &'static str,
@@ -47,37 +47,39 @@ pub fn measure(given: Option<&OwnedTables>) {
     }
     measure_check(&SERVICES, "1,024 ranks, all at rank 0", &crowded());
     measure_check(&ALL, "1,024 ranks, 1,024 services", &floors[1]);
-    let (near, slow) = (nearly_equal(), hostile());
-    let others = [
-        ("1,024 that differ in their last bytes", Some(&near)),
-        ("1,024 hostile ones", Some(&slow)),
-        ("1,024 given ones", given),
-    ];
-    for (input, tables) in others {
-        if let Some(tables) = tables {
-            measure_check(&SERVICES, input, tables);
-            measure_check(&IDENTITIES, input, tables);
-        }
+    for (input, tables) in &others(given) {
+        measure_check(&SERVICES, input, tables);
+        measure_check(&IDENTITIES, input, tables);
     }
-    println!();
-    println!("| check | of the library's times | median |");
-    println!("|---|---|---:|");
+}
+
+/// The same tables against each other.
+pub fn measure_own(given: Option<&OwnedTables>) {
+    let floors = [128, 1024].map(binary);
     for check in &[TREE, SERVICES, IDENTITIES] {
         compare(check, "1,024 ranks over 128", &floors[1], &floors[0]);
     }
-    for (input, tables) in others {
-        if let Some(tables) = tables {
-            let name = format!("{input} over any 1,024");
-            compare(&SERVICES, &name, tables, &floors[1]);
-            compare(&IDENTITIES, &name, tables, &floors[1]);
-        }
+    for (input, tables) in &others(given) {
+        let name = format!("{input} over any 1,024");
+        compare(&SERVICES, &name, tables, &floors[1]);
+        compare(&IDENTITIES, &name, tables, &floors[1]);
     }
+}
+
+/// Tables that are slower than others of their size, or may be.
+fn others(given: Option<&OwnedTables>) -> Vec<(&'static str, OwnedTables)> {
+    let mut tables = vec![
+        ("1,024 that differ in their last bytes", nearly_equal()),
+        ("1,024 hostile ones", hostile()),
+    ];
+    tables.extend(given.map(|given| ("1,024 given ones", given.clone())));
+    tables
 }
 
 /// One input against another, both by the library.
 fn compare(check: &Check, name: &str, slow: &OwnedTables, quick: &OwnedTables) {
     let times = take_turns(runner(check, LIBRARY, slow), runner(check, LIBRARY, quick));
-    println!("| {} | {name} | {:.2} |", check.name, times.middle_ratio);
+    print_own_row(check.name, name, &times);
 }
 
 fn measure_check(check: &Check, input: &str, floor: &OwnedTables) {

@@ -10,7 +10,7 @@ const ROUND_NANOS: u128 = 40_000;
 /// Times of one call, in nanoseconds, and the middle one of the rounds' ratios.
 pub struct Times {
     least: [f64; 2],
-    pub middle_ratio: f64,
+    middle_ratio: f64,
 }
 
 pub fn print_head() {
@@ -25,6 +25,19 @@ pub fn print_row(call: &str, input: &str, bytes: usize, times: &Times) {
     println!(
         "| {call} | {input} | {bytes} | {library:.1} | {other:.1} | {by_median:.2} | {by_least:.2} |"
     );
+}
+
+/// The table of what one input takes against another, both by the library.
+#[cfg(feature = "tables")]
+pub fn print_own_head() {
+    println!();
+    println!("| call | of the library's times | median |");
+    println!("|---|---|---:|");
+}
+
+#[cfg(feature = "tables")]
+pub fn print_own_row(call: &str, name: &str, times: &Times) {
+    println!("| {call} | {name} | {:.2} |", times.middle_ratio);
 }
 
 /// Runs both in turn. Each round has one stretch of calls of either, and the one that begins
