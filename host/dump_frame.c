@@ -4,32 +4,13 @@
 #include "files.h"
 #include "lampreycoil.h"
 #include "names.h"
+#include "quoted.h"
 
 /* How much of a payload is shown, and in rows of how many bytes. */
 enum { PAYLOAD_SHOWN = 64, ROW = 16 };
 
 /* The column of names, so that all values stand below each other. */
 #define NAME "%-14s"
-
-static int printable(uint8_t byte)
-{
-    return byte >= 0x20 && byte < 0x7F;
-}
-
-/* A topic may hold any byte but zero: what a terminal would not show as it is goes in hex. */
-static void print_quoted(const uint8_t *bytes, size_t length)
-{
-    putchar('"');
-    for (size_t i = 0; i < length; i++) {
-        if (!printable(bytes[i]))
-            printf("\\x%02X", bytes[i]);
-        else if (bytes[i] == '"' || bytes[i] == '\\')
-            printf("\\%c", bytes[i]);
-        else
-            putchar(bytes[i]);
-    }
-    putchar('"');
-}
 
 static void print_number(const char *name, uint32_t number, const char *note)
 {
@@ -85,7 +66,7 @@ static void print_topic(const uint8_t *frame, const uint8_t *record, uint32_t fl
         puts("none");
         return;
     }
-    print_quoted(frame + lampreycoil_number(record, LAMPREYCOIL_READ_TOPIC_START), length);
+    print_quoted(stdout, frame + lampreycoil_number(record, LAMPREYCOIL_READ_TOPIC_START), length);
     printf(" (%lu bytes)\n", (unsigned long)length);
 }
 
@@ -158,7 +139,7 @@ int command_dump(int count, char **words)
     } else {
         print_frame(bytes, length, record);
     }
-    if (fflush(stdout) != 0 || ferror(stdout))
-        return trouble("cannot write standard output");
+    if (flush_output() != 0)
+        return EXIT_TROUBLE;
     return refusal == LAMPREYCOIL_OK ? EXIT_DONE : EXIT_REFUSED;
 }

@@ -9,7 +9,7 @@ int trouble(const char *format, ...)
 {
     va_list values;
 
-    fputs("flux_frame: ", stderr);
+    fprintf(stderr, "%s: ", program);
     va_start(values, format);
     vfprintf(stderr, format, values);
     va_end(values);
@@ -39,6 +39,13 @@ int read_all(const char *name, uint8_t *bytes, size_t *length)
     int status = read_stream(stream, name, bytes, length);
     fclose(stream);
     return status;
+}
+
+int flush_output(void)
+{
+    if (fflush(stdout) != 0 || ferror(stdout))
+        return trouble("cannot write standard output");
+    return 0;
 }
 
 int write_all(const char *name, const uint8_t *bytes, size_t length)

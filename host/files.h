@@ -11,7 +11,10 @@ enum { EXIT_DONE = 0, EXIT_REFUSED = 1, EXIT_TROUBLE = 2 };
 /* Far above the largest frame, so that the library and not this program judges a long input. */
 enum { INPUT_MAX = 1048576 };
 
-/* Prints "flux_frame: " and the message to standard error, and returns EXIT_TROUBLE. */
+/* The program's own name, which each program gives. */
+extern const char program[];
+
+/* Prints the program's name and the message to standard error, and returns EXIT_TROUBLE. */
 int trouble(const char *format, ...);
 
 /*
@@ -19,6 +22,9 @@ int trouble(const char *format, ...);
  * room for INPUT_MAX + 1, so that a longer input shows. Returns 0, or has said what is wrong.
  */
 int read_all(const char *name, uint8_t *bytes, size_t *length);
+
+/* Sees that all of standard output was written. Returns 0, or has said what is wrong. */
+int flush_output(void);
 
 /* Writes the file, or standard output if name is NULL. Returns 0, or has said what is wrong. */
 int write_all(const char *name, const uint8_t *bytes, size_t length);

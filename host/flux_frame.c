@@ -8,6 +8,8 @@
 #include "commands.h"
 #include "files.h"
 
+const char program[] = "flux_frame";
+
 static const char usage[] =
     "flux_frame: writes and reads framed Flux messages (RFC 3)\n"
     "\n"

@@ -35,6 +35,14 @@ static const char *const words[] = {
     [LAMPREYCOIL_TOPIC_WRONG] = "topic not of the form",
     [LAMPREYCOIL_FIELD_WRONG] = "request nodeid 4294967294; event's unused field not zero",
     [LAMPREYCOIL_OUTPUT_SHORT] = "a lent output too short",
+    [LAMPREYCOIL_FORWARD_LONG] = "forwarding would make 65 routes or a body above 32,768",
+    [LAMPREYCOIL_TREE_WRONG] = "tree wrong",
+    [LAMPREYCOIL_SERVICES_WRONG] = "services wrong",
+    [LAMPREYCOIL_IDENTITIES_WRONG] = "identities wrong",
+    [LAMPREYCOIL_RANK_WRONG] = "rank not in the tree",
+    [LAMPREYCOIL_NOT_ROUTED] = "step or walk given an event or control",
+    [LAMPREYCOIL_NO_NEIGHBOUR] =
+        "a response's top route is a broker that is no neighbour, itself included",
 };
 
 const struct type_names *type_by_number(uint32_t number)
@@ -57,7 +65,7 @@ const struct type_names *type_by_name(const char *name)
 
 const char *refusal_words(uint32_t number)
 {
-    if (number < sizeof words / sizeof words[0])
+    if (number < sizeof words / sizeof words[0] && words[number] != NULL)
         return words[number];
     return "a number that this program does not know";
 }

@@ -1,79 +1,42 @@
-#include <stdint.h>
-#include <string.h>
-
 #include "commands.h"
 #include "files.h"
 #include "lampreycoil.h"
-#include "names.h"
+#include "make_frame.h"
+#include "words.h"
 #include "write_options.h"
 
-/* A slice to lend. */
-struct stretch {
-    const uint8_t *bytes;
-    size_t length;
-};
-
-/* The pointer of an empty slice is never followed, but the library asks that it is not NULL. */
-static struct stretch text_stretch(const char *text)
+static int take_words(struct words *words, struct write_options *options, const char **output)
 {
-    struct stretch stretch = {(const uint8_t *)"", 0};
+    enum word_kind kind;
 
-    if (text != NULL) {
-        stretch.bytes = (const uint8_t *)text;
-        stretch.length = strlen(text);
+    while ((kind = next_word(words)) != WORD_NONE) {
+        int status;
+
+        if (kind == WORD_PLAIN)
+            return trouble("write takes options alone, not '%s'", words->word);
+        if (word_is(words, "-o"))
+            status = word_once(words, output);
+        else
+            status = take_write_option(options, words);
+        if (status == NO_SUCH_OPTION)
+            return trouble("unknown option '%s' of write (see %s --help)", words->name, program);
+        if (status != 0)
+            return status;
     }
-    return stretch;
-}
-
-/* The flags for the parts that were given: an empty payload or topic counts as given. */
-static uint8_t flags_for(const struct write_options *options)
-{
-    uint8_t flags = options->marks;
-
-    if (options->flags_given)
-        return options->flags;
-    if (options->topic != NULL)
-        flags |= LAMPREYCOIL_TOPIC;
-    if (options->payload_text != NULL || options->payload_file != NULL)
-        flags |= LAMPREYCOIL_PAYLOAD;
-    if (options->routes_length != 0 || options->type == LAMPREYCOIL_REQUEST ||
-        options->type == LAMPREYCOIL_RESPONSE)
-        flags |= LAMPREYCOIL_ROUTE;
-    return flags;
-}
-
-static int write_frame(const struct write_options *options, struct stretch payload)
-{
-    static uint8_t frame[LAMPREYCOIL_FRAME_MAX];
-    uint8_t record[LAMPREYCOIL_WRITE_RECORD];
-    struct stretch topic = text_stretch(options->topic);
-
-    uint32_t refusal = lampreycoil_write(
-        options->type, flags_for(options), options->userid, options->rolemask, options->first.value,
-        options->second.value, options->routes, options->routes_length, topic.bytes, topic.length,
-        payload.bytes, payload.length, frame, sizeof frame, record, sizeof record);
-    if (refusal != LAMPREYCOIL_OK) {
-        trouble("refused, %lu: %s", (unsigned long)refusal, refusal_words(refusal));
-        return EXIT_REFUSED;
-    }
-    return write_all(options->output, frame, lampreycoil_number(record, LAMPREYCOIL_WRITE_LENGTH));
+    return check_write_options(options);
 }
 
 int command_write(int count, char **words)
 {
     static struct write_options options;
-    static uint8_t bytes[INPUT_MAX + 1];
+    static uint8_t frame[LAMPREYCOIL_FRAME_MAX];
+    struct words reading = {.words = words, .count = count};
+    const char *output = NULL;
+    size_t length;
 
-    int status = parse_write_options(&options, count, words);
-    if (status != 0)
-        return status;
-
-    struct stretch payload = text_stretch(options.payload_text);
-    if (options.payload_file != NULL) {
-        payload.bytes = bytes;
-        status = read_all(options.payload_file, bytes, &payload.length);
-        if (status != 0)
-            return status;
-    }
-    return write_frame(&options, payload);
+    start_write_options(&options);
+    int status = take_words(&reading, &options, &output);
+    if (status == 0)
+        status = make_frame(&options, frame, &length);
+    return status == 0 ? write_all(output, frame, length) : status;
 }

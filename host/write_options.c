@@ -1,11 +1,11 @@
 #include "write_options.h"
 
-#include <stdlib.h>
 #include <string.h>
 
 #include "files.h"
 #include "lampreycoil.h"
 #include "names.h"
+#include "words.h"
 
 enum {
     REQUEST = LAMPREYCOIL_REQUEST,
@@ -22,24 +22,6 @@ struct option {
     int has_value;
     uint8_t bits; /* the flag that it sets, or the types to which a field belongs */
 };
-
-/* Decimal, or hexadecimal behind 0x or where base is 16. */
-static int parse_number(const char *text, int base, uint32_t max, uint32_t *number)
-{
-    if (text[0] == '0' && (text[1] == 'x' || text[1] == 'X')) {
-        base = 16;
-        text += 2;
-    }
-    /* digits alone: strtoull would also take spaces, signs and a prefix */
-    size_t digits = strspn(text, base == 16 ? "0123456789abcdefABCDEF" : "0123456789");
-    if (digits == 0 || text[digits] != '\0')
-        return -1;
-    unsigned long long value = strtoull(text, NULL, base);
-    if (value > max)
-        return -1;
-    *number = (uint32_t)value;
-    return 0;
-}
 
 static int take_number(const struct option *option, const char *value, uint32_t max,
                        uint32_t *number)
@@ -174,14 +156,6 @@ static int take_payload_text(struct write_options *options, const struct option 
     return 0;
 }
 
-static int take_output(struct write_options *options, const struct option *option,
-                       const char *value)
-{
-    (void)option;
-    options->output = value;
-    return 0;
-}
-
 static const struct option known[] = {
     {"--type", take_type, 1, 0},
     {"--type-number", take_type_number, 1, 0},
@@ -204,17 +178,7 @@ static const struct option known[] = {
     {"--topic", take_topic, 1, 0},
     {"--payload", take_payload_file, 1, 0},
     {"--payload-text", take_payload_text, 1, 0},
-    {"-o", take_output, 1, 0},
 };
-
-static const struct option *find_option(const char *name)
-{
-    for (size_t i = 0; i < sizeof known / sizeof known[0]; i++) {
-        if (strcmp(known[i].name, name) == 0)
-            return &known[i];
-    }
-    return NULL;
-}
 
 /* A type given as a number is meant as it stands, so any field's option goes with it. */
 static int check_field(const struct write_options *options, const struct field_value *field)
@@ -224,7 +188,7 @@ static int check_field(const struct write_options *options, const struct field_v
     return trouble("%s does not belong to a message of type %s", field->option, options->type_name);
 }
 
-static int check_options(struct write_options *options)
+int check_write_options(struct write_options *options)
 {
     int status;
 
@@ -241,25 +205,37 @@ static int check_options(struct write_options *options)
     return 0;
 }
 
-int parse_write_options(struct write_options *options, int count, char **words)
+void start_write_options(struct write_options *options)
 {
     memset(options, 0, sizeof *options);
     options->userid = LAMPREYCOIL_USERID_UNKNOWN;
+}
 
-    for (int i = 0; i < count; i++) {
-        const struct option *option = find_option(words[i]);
-        const char *value = NULL;
+/* A route is the only option that may come again: every other says one thing of the message. */
+static int take_known(struct write_options *options, struct words *words, size_t index)
+{
+    const struct option *option = &known[index];
+    const uint32_t bit = (uint32_t)1 << index;
+    const char *value = NULL;
+    int status;
 
-        if (option == NULL)
-            return trouble("unknown option '%s' of write (see flux_frame --help)", words[i]);
-        if (option->has_value) {
-            if (i + 1 == count)
-                return trouble("%s needs a value", option->name);
-            value = words[++i];
-        }
-        int status = option->take(options, option, value);
-        if (status != 0)
-            return status;
+    if ((options->given & bit) != 0 && option->take != take_route)
+        return trouble("%s is given twice", option->name);
+    options->given |= bit;
+    if (option->has_value) {
+        if ((value = word_value(words)) == NULL)
+            return EXIT_TROUBLE;
+    } else if ((status = word_alone(words)) != 0) {
+        return status;
     }
-    return check_options(options);
+    return option->take(options, option, value);
+}
+
+int take_write_option(struct write_options *options, struct words *words)
+{
+    for (size_t i = 0; i < sizeof known / sizeof known[0]; i++) {
+        if (word_is(words, known[i].name))
+            return take_known(options, words, i);
+    }
+    return NO_SUCH_OPTION;
 }

@@ -1,4 +1,4 @@
-/* What `flux_frame write` was asked to write. */
+/* The message that `flux_frame write` was asked to write, or `flux_floor` to play. */
 #ifndef HOST_WRITE_OPTIONS_H
 #define HOST_WRITE_OPTIONS_H
 
@@ -16,6 +16,7 @@ struct field_value {
 };
 
 struct write_options {
+    uint32_t given;        /* the options that came, as bits */
     const char *type_name; /* NULL where --type-number gave the type */
     int type_given;
     uint8_t type;
@@ -31,10 +32,20 @@ struct write_options {
     const char *topic; /* here and below: NULL where not given */
     const char *payload_text;
     const char *payload_file;
-    const char *output;
 };
 
-/* Fills options from the words. Returns 0, or has said what is wrong. */
-int parse_write_options(struct write_options *options, int count, char **words);
+struct words;
+
+/* What take_write_option says of an option that is not one of a message's. */
+enum { NO_SUCH_OPTION = -1 };
+
+void start_write_options(struct write_options *options);
+
+/* Takes the option that `words` has come to. Returns 0, NO_SUCH_OPTION, or has said what is wrong.
+ */
+int take_write_option(struct write_options *options, struct words *words);
+
+/* Looks at all of them, once they are taken. Returns 0, or has said what is wrong. */
+int check_write_options(struct write_options *options);
 
 #endif

@@ -1,0 +1,67 @@
+#include "make_frame.h"
+
+#include <string.h>
+
+#include "files.h"
+#include "lampreycoil.h"
+#include "names.h"
+
+/* A slice to lend. */
+struct stretch {
+    const uint8_t *bytes;
+    size_t length;
+};
+
+/* The pointer of an empty slice is never followed, but the library asks that it is not NULL. */
+static struct stretch text_stretch(const char *text)
+{
+    struct stretch stretch = {(const uint8_t *)"", 0};
+
+    if (text != NULL) {
+        stretch.bytes = (const uint8_t *)text;
+        stretch.length = strlen(text);
+    }
+    return stretch;
+}
+
+/* The flags for the parts that were given: an empty payload or topic counts as given. */
+static uint8_t flags_for(const struct write_options *options)
+{
+    uint8_t flags = options->marks;
+
+    if (options->flags_given)
+        return options->flags;
+    if (options->topic != NULL)
+        flags |= LAMPREYCOIL_TOPIC;
+    if (options->payload_text != NULL || options->payload_file != NULL)
+        flags |= LAMPREYCOIL_PAYLOAD;
+    if (options->routes_length != 0 || options->type == LAMPREYCOIL_REQUEST ||
+        options->type == LAMPREYCOIL_RESPONSE)
+        flags |= LAMPREYCOIL_ROUTE;
+    return flags;
+}
+
+int make_frame(const struct write_options *options, uint8_t *frame, size_t *length)
+{
+    static uint8_t bytes[INPUT_MAX + 1];
+    uint8_t record[LAMPREYCOIL_WRITE_RECORD];
+    struct stretch topic = text_stretch(options->topic);
+    struct stretch payload = text_stretch(options->payload_text);
+
+    if (options->payload_file != NULL) {
+        payload.bytes = bytes;
+        int status = read_all(options->payload_file, bytes, &payload.length);
+        if (status != 0)
+            return status;
+    }
+    uint32_t refusal = lampreycoil_write(
+        options->type, flags_for(options), options->userid, options->rolemask, options->first.value,
+        options->second.value, options->routes, options->routes_length, topic.bytes, topic.length,
+        payload.bytes, payload.length, frame, LAMPREYCOIL_FRAME_MAX, record, sizeof record);
+    if (refusal != LAMPREYCOIL_OK) {
+        trouble("refused, %lu: %s", (unsigned long)refusal, refusal_words(refusal));
+        return EXIT_REFUSED;
+    }
+    *length = lampreycoil_number(record, LAMPREYCOIL_WRITE_LENGTH);
+    return 0;
+}
