@@ -3,7 +3,10 @@
 CC      = gcc
 CFLAGS  = -std=c99 -O2 -Wall -Wextra -Werror
 ARCHIVE = target/staticlib/liblampreycoil.a
-HOST    = target/host/flux_frame
+HOST    = target/host/flux_frame target/host/flux_floor
+
+# Says whether the header has the walk, for host/walk_call.h.
+WALK := $(if $(shell grep -s lampreycoil_walk include/lampreycoil.h),-DHEADER_HAS_WALK)
 
 # An install of Rust by its own installer may not be on the path.
 export PATH := $(PATH):$(HOME)/.cargo/bin
@@ -12,6 +15,10 @@ export PATH := $(PATH):$(HOME)/.cargo/bin
 RATTLE := $(wildcard crates.txt) $(shell find crates -path crates/examples -prune -o -name must-fail -prune \
             -o \( -name '*.rt' -o -name '*.antt' \) -print 2>/dev/null)
 C_FILES := $(wildcard host/*.c)
+# What only one of the host programs has; the other C files are in both.
+FRAME_C := $(addprefix host/, flux_frame.c write_frame.c dump_frame.c)
+FLOOR_C := $(wildcard host/flux_floor.c host/floor_*.c)
+BOTH_C  := $(filter-out $(FRAME_C) $(FLOOR_C), $(C_FILES))
 H_FILES := $(wildcard host/*.h) include/lampreycoil.h
 
 .PHONY: help run test bench archive host fmt deps clean
@@ -22,7 +29,7 @@ help:
 	@echo 'make test     the whole gate: every proof, must-fail edit and test'
 	@echo 'make bench    the library beside the second program, as ratios'
 	@echo 'make archive  the library for C: $(ARCHIVE)'
-	@echo 'make host     the C host program: $(HOST)'
+	@echo 'make host     the C host programs: $(HOST)'
 	@echo 'make fmt      format the Rattle and the C files'
 	@echo 'make deps     install the compilers that are missing (Debian packages)'
 	@echo 'make clean    remove target/'
@@ -34,11 +41,11 @@ run: deps
 	@cat target/log/examples.stdout
 	@printf '\n== a request for "log", written and dumped by the C host program\n'
 	@printf '$$ flux_frame write --type request --topic log --matchtag 1 -o target/host/log.frame\n'
-	@$(HOST) write --type request --topic log --matchtag 1 -o target/host/log.frame
+	@target/host/flux_frame write --type request --topic log --matchtag 1 -o target/host/log.frame
 	@printf '$$ od -A d -t x1 target/host/log.frame\n'
 	@od -A d -t x1 target/host/log.frame
 	@printf '$$ flux_frame dump target/host/log.frame\n'
-	@$(HOST) dump target/host/log.frame
+	@target/host/flux_frame dump target/host/log.frame
 
 test: deps
 	@tools/gate
@@ -53,9 +60,11 @@ $(ARCHIVE): $(RATTLE)
 
 host: $(HOST)
 
-$(HOST): $(C_FILES) $(H_FILES) $(ARCHIVE)
+target/host/flux_frame: $(FRAME_C) $(BOTH_C)
+target/host/flux_floor: $(FLOOR_C) $(BOTH_C)
+$(HOST): $(H_FILES) $(ARCHIVE)
 	@mkdir -p $(@D)
-	$(CC) $(CFLAGS) -Iinclude -o $@ $(C_FILES) $(ARCHIVE)
+	$(CC) $(CFLAGS) $(WALK) -Iinclude -o $@ $(filter %.c,$^) $(ARCHIVE)
 
 # The C layout is clang-format's, where it is installed.
 fmt:

@@ -6,7 +6,7 @@
 #include <stdint.h>
 
 /* What the program exits with. */
-enum { EXIT_DONE = 0, EXIT_REFUSED = 1, EXIT_TROUBLE = 2 };
+enum { EXIT_DONE = 0, EXIT_REFUSED = 1, EXIT_TROUBLE = 2, EXIT_DIFFERS = 3 };
 
 /* Far above the largest frame, so that the library and not this program judges a long input. */
 enum { INPUT_MAX = 1048576 };

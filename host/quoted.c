@@ -24,6 +24,19 @@ size_t print_plain(FILE *stream, const uint8_t *bytes, size_t length)
     return characters;
 }
 
+const char *plain_text(char *room, size_t size, const char *text)
+{
+    size_t used = 0;
+
+    for (; *text != '\0' && size - used > 4; text++) {
+        uint8_t byte = (uint8_t)*text;
+        used +=
+            (size_t)snprintf(room + used, size - used, printable(byte) ? "%c" : "\\x%02X", byte);
+    }
+    room[used] = '\0';
+    return room;
+}
+
 void print_quoted(FILE *stream, const uint8_t *bytes, size_t length)
 {
     putc('"', stream);

@@ -12,6 +12,9 @@ int printable(uint8_t byte);
 /* The bytes, those that a terminal would not show as they are in hex; returns the characters. */
 size_t print_plain(FILE *stream, const uint8_t *bytes, size_t length);
 
+/* The text in the same form, in so much room; what has none is left out. Returns room. */
+const char *plain_text(char *room, size_t size, const char *text);
+
 /* The same between quotes, with a quote inside of them marked. */
 void print_quoted(FILE *stream, const uint8_t *bytes, size_t length);
 

@@ -211,6 +211,15 @@ void start_write_options(struct write_options *options)
     options->userid = LAMPREYCOIL_USERID_UNKNOWN;
 }
 
+void default_type(struct write_options *options, uint8_t type)
+{
+    if (options->type_given)
+        return;
+    options->type_given = 1;
+    options->type = type;
+    options->type_name = type_by_number(type)->name;
+}
+
 /* A route is the only option that may come again: every other says one thing of the message. */
 static int take_known(struct write_options *options, struct words *words, size_t index)
 {

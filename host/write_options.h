@@ -45,6 +45,9 @@ void start_write_options(struct write_options *options);
  */
 int take_write_option(struct write_options *options, struct words *words);
 
+/* The type of a message whose options do not give one. */
+void default_type(struct write_options *options, uint8_t type);
+
 /* Looks at all of them, once they are taken. Returns 0, or has said what is wrong. */
 int check_write_options(struct write_options *options);
 

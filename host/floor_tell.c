@@ -1,0 +1,167 @@
+#include "floor_tell.h"
+
+#include <string.h>
+
+#include "names.h"
+#include "quoted.h"
+
+uint32_t see(struct seen *seen, const struct floor *floor, const uint8_t *frame, size_t length)
+{
+    uint8_t record[LAMPREYCOIL_READ_RECORD];
+    uint32_t refusal = lampreycoil_read(frame, length, record, sizeof record);
+    const uint8_t *period;
+
+    if (refusal != LAMPREYCOIL_OK)
+        return refusal;
+    seen->length = lampreycoil_number(record, LAMPREYCOIL_READ_TOOK);
+    seen->type = lampreycoil_number(record, LAMPREYCOIL_READ_TYPE);
+    seen->flags = lampreycoil_number(record, LAMPREYCOIL_READ_FLAGS);
+    seen->first = lampreycoil_number(record, LAMPREYCOIL_READ_FIRST);
+    seen->second = lampreycoil_number(record, LAMPREYCOIL_READ_SECOND);
+    seen->routes = lampreycoil_number(record, LAMPREYCOIL_READ_ROUTES);
+    seen->top = LAMPREYCOIL_NO_PARENT;
+    if (seen->routes != 0)
+        seen->top =
+            find_identity(floor, frame + lampreycoil_number(record, LAMPREYCOIL_READ_ROUTE_START));
+    seen->topic_length = lampreycoil_number(record, LAMPREYCOIL_READ_TOPIC_LENGTH);
+    memcpy(seen->topic, frame + lampreycoil_number(record, LAMPREYCOIL_READ_TOPIC_START),
+           seen->topic_length);
+    period = memchr(seen->topic, '.', seen->topic_length);
+    seen->service_length = period == NULL ? seen->topic_length : (size_t)(period - seen->topic);
+    return LAMPREYCOIL_OK;
+}
+
+void tell_message(const struct seen *seen)
+{
+    const struct type_names *names = type_by_number(seen->type);
+
+    printf("%s ", names->name);
+    print_quoted(stdout, seen->topic, seen->topic_length);
+    if (seen->type == LAMPREYCOIL_REQUEST && seen->first == LAMPREYCOIL_NODEID_ANY)
+        printf(", %s any", names->first);
+    else
+        printf(", %s %lu", names->first, (unsigned long)seen->first);
+    printf(", %s %lu", names->second, (unsigned long)seen->second);
+    for (size_t i = 0; i < FLAG_NAMES; i++) {
+        uint8_t part = LAMPREYCOIL_TOPIC | LAMPREYCOIL_PAYLOAD | LAMPREYCOIL_ROUTE;
+
+        if ((seen->flags & flag_names[i].bit & ~part) != 0)
+            printf(", %s", flag_names[i].name);
+    }
+    printf(": %lu bytes, %lu routes\n", (unsigned long)seen->length, (unsigned long)seen->routes);
+}
+
+static void tell_service(const struct seen *seen, const char *before)
+{
+    printf("%s ", before);
+    print_quoted(stdout, seen->topic, seen->service_length);
+}
+
+/* Whether the request looks for its service on the way up, and not at the rank of its nodeid. */
+static int goes_up(const struct seen *seen)
+{
+    return seen->first == LAMPREYCOIL_NODEID_ANY || (seen->flags & LAMPREYCOIL_UPSTREAM) != 0;
+}
+
+/* Why the services of this broker did not serve a request that goes up. */
+static void tell_passed_over(const struct seen *seen, uint32_t from_client)
+{
+    if (from_client != 0 && seen->first != LAMPREYCOIL_NODEID_ANY)
+        printf("upstream from a client of its own: its services are not tried");
+    else
+        tell_service(seen, "it has no service");
+}
+
+static void tell_forward(const struct floor *floor, const struct seen *seen, uint32_t rank,
+                         uint32_t from_client, uint32_t to)
+{
+    int up = floor->rank[rank].parent == to;
+
+    printf("forwards it to rank %lu, its %s: ", (unsigned long)to, up ? "parent" : "child");
+    if (seen->type == LAMPREYCOIL_RESPONSE)
+        printf("the top route is rank %lu's, and is taken off", (unsigned long)seen->top);
+    else if (goes_up(seen))
+        tell_passed_over(seen, from_client);
+    else if (to == seen->first)
+        printf("that is the request's rank");
+    else if (is_under(floor, to, seen->first))
+        printf("the way to rank %lu goes down there", (unsigned long)seen->first);
+    else
+        printf("rank %lu is not below rank %lu", (unsigned long)seen->first, (unsigned long)rank);
+    putchar('\n');
+}
+
+static void tell_error(const struct seen *seen, uint32_t from_client, uint32_t error)
+{
+    if (error == LAMPREYCOIL_NO_RANK) {
+        printf("rank %lu is not on this floor", (unsigned long)seen->first);
+    } else if (goes_up(seen)) {
+        tell_passed_over(seen, from_client);
+        printf(", and it has no parent");
+    } else {
+        tell_service(seen, "it is the request's rank, and has no service");
+    }
+    printf(" (error %lu, %s)\n", (unsigned long)error,
+           error == LAMPREYCOIL_NO_RANK ? "EHOSTUNREACH" : "ENOSYS");
+}
+
+static void tell_home(const struct seen *seen)
+{
+    printf("has it home: %s\n", seen->routes == 0
+                                    ? "no route is left, so it is for this broker itself"
+                                    : "the top route is no broker's, so it is a client's");
+}
+
+void tell_step(const struct floor *floor, const struct seen *seen, uint32_t rank,
+               uint32_t from_client, uint32_t refusal, const uint8_t *record)
+{
+    uint32_t number = lampreycoil_number(record, LAMPREYCOIL_STEP_NUMBER);
+    uint32_t error = lampreycoil_number(record, LAMPREYCOIL_STEP_ERROR);
+
+    printf("rank %lu ", (unsigned long)rank);
+    if (refusal != LAMPREYCOIL_OK) {
+        printf("refuses it, %lu: %s\n", (unsigned long)refusal, refusal_words(refusal));
+        return;
+    }
+    switch (lampreycoil_number(record, LAMPREYCOIL_STEP_ANSWER)) {
+    case LAMPREYCOIL_DELIVERED:
+        tell_service(seen, goes_up(seen) ? "delivers it: it has the service"
+                                         : "delivers it: it is the request's rank, and has");
+        printf(" (record %lu)\n", (unsigned long)number);
+        break;
+    case LAMPREYCOIL_FORWARD:
+        tell_forward(floor, seen, rank, from_client, number);
+        break;
+    case LAMPREYCOIL_REPLIED:
+        printf("makes the error reply: ");
+        tell_error(seen, from_client, error);
+        break;
+    case LAMPREYCOIL_SILENCED:
+        printf("drops it in silence, for noresponse is set: ");
+        tell_error(seen, from_client, error);
+        break;
+    default:
+        tell_home(seen);
+    }
+}
+
+void tell_routes(const struct floor *floor, const uint8_t *frame, size_t length)
+{
+    uint8_t record[LAMPREYCOIL_READ_RECORD];
+
+    if (lampreycoil_read(frame, length, record, sizeof record) != LAMPREYCOIL_OK)
+        return;
+    uint32_t routes = lampreycoil_number(record, LAMPREYCOIL_READ_ROUTES);
+    size_t start = lampreycoil_number(record, LAMPREYCOIL_READ_ROUTE_START);
+
+    for (uint32_t i = 0; i < routes; i++) {
+        const uint8_t *route = frame + start + (size_t)i * LAMPREYCOIL_ROUTE_STEP;
+        uint32_t rank = find_identity(floor, route);
+
+        printf("  route %-3lu %s  ", (unsigned long)i, (const char *)route);
+        if (rank == LAMPREYCOIL_NO_PARENT)
+            puts("no broker's");
+        else
+            printf("rank %lu\n", (unsigned long)rank);
+    }
+}

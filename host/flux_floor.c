@@ -1,0 +1,77 @@
+/*
+ * flux_floor: checks and shows a floor, a tree of brokers with their services, and plays the walk
+ * of a message over it, step by step. The steps are those of the library that the brokers call.
+ */
+#include <stdio.h>
+#include <string.h>
+
+#include "files.h"
+#include "floor_commands.h"
+#include "version.h"
+
+const char program[] = "flux_floor";
+
+static const char usage[] =
+    "flux_floor: checks and shows a floor of brokers, and plays walks over it\n"
+    "\n"
+    "  flux_floor check FLOOR      say whether the floor is valid, and if not, why\n"
+    "  flux_floor show FLOOR       draw the tree, with identities and services\n"
+    "  flux_floor walk --enter RANK [-o FILE] FLOOR (FRAME | OPTIONS)\n"
+    "                              play a message that a client gives to RANK\n"
+    "  flux_floor home --from RANK [-o FILE] FLOOR (FRAME | OPTIONS)\n"
+    "                              play a response on its way home from RANK\n"
+    "  flux_floor --help           show this text\n"
+    "  flux_floor --version        show the version\n"
+    "\n"
+    "FLOOR is a text file; - is standard input. A line for each rank, in any order:\n"
+    "  RANK PARENT IDENTITY [SERVICE...]\n"
+    "PARENT is a rank, or 'none' for rank 0; IDENTITY a UUID in lower case; a SERVICE\n"
+    "has no period and no space. A word that begins with # begins a comment.\n"
+    "\n"
+    "FRAME is a file with a framed message; - is standard input. OPTIONS describe one\n"
+    "in its place, as for flux_frame write (see flux_frame --help): --topic TEXT,\n"
+    "--nodeid N, --matchtag N, --upstream, --noresponse, --route UUID and so on. The\n"
+    "type is request for walk and response for home, where --type gives no other.\n"
+    "  -o FILE              write the frame that is at rest to FILE\n"
+    "\n"
+    "A walk is played by the step call, and then compared with the walk call.\n"
+    "Exit status: 0 done; 1 the library refused the floor or the message, and its\n"
+    "number and words are printed; 2 wrong usage, or a file that cannot be used; 3 two\n"
+    "calls of the library differ, which must not be: please report it.\n";
+
+static int is_help(const char *word)
+{
+    return strcmp(word, "--help") == 0 || strcmp(word, "-h") == 0;
+}
+
+static int show(const char *text)
+{
+    fputs(text, stdout);
+    return flush_output();
+}
+
+int main(int argc, char **argv)
+{
+    static const struct {
+        const char *name;
+        int (*run)(int count, char **words);
+    } commands[] = {{"check", command_check},
+                    {"show", command_show},
+                    {"walk", command_walk},
+                    {"home", command_home}};
+
+    if (argc < 2) {
+        fputs(usage, stderr);
+        return EXIT_TROUBLE;
+    }
+    if (is_help(argv[1]) || (argc == 3 && is_help(argv[2])))
+        return show(usage);
+    if (strcmp(argv[1], "--version") == 0 && argc == 2)
+        return show("flux_floor " HOST_VERSION "\n");
+    for (size_t i = 0; i < sizeof commands / sizeof commands[0]; i++) {
+        if (strcmp(argv[1], commands[i].name) == 0)
+            return commands[i].run(argc - 2, argv + 2);
+    }
+    return trouble("unknown command '%s': check, show, walk or home (see flux_floor --help)",
+                   argv[1]);
+}
