@@ -75,13 +75,7 @@ size_t print_services(const struct floor *floor, uint32_t rank);
 /* Whether the rank has any service. */
 int has_services(const struct floor *floor, uint32_t rank);
 
-/* The record of the service at this rank, or -1. */
-long find_service(const struct floor *floor, uint32_t rank, const uint8_t *name, size_t length);
-
 /* The rank whose identity this route is, or LAMPREYCOIL_NO_PARENT. */
 uint32_t find_identity(const struct floor *floor, const uint8_t *route);
-
-/* Whether `below` is `rank`, or in the tree under it. */
-int is_under(const struct floor *floor, uint32_t rank, uint32_t below);
 
 #endif

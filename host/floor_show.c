@@ -39,16 +39,6 @@ int has_services(const struct floor *floor, uint32_t rank)
     return 0;
 }
 
-long find_service(const struct floor *floor, uint32_t rank, const uint8_t *name, size_t length)
-{
-    for (size_t i = 0; i < floor->services; i++) {
-        if (floor->service[i].rank == rank && strlen(floor->service[i].name) == length &&
-            memcmp(floor->service[i].name, name, length) == 0)
-            return (long)i;
-    }
-    return -1;
-}
-
 uint32_t find_identity(const struct floor *floor, const uint8_t *route)
 {
     for (uint32_t rank = 0; rank < floor->ranks; rank++) {
@@ -57,13 +47,6 @@ uint32_t find_identity(const struct floor *floor, const uint8_t *route)
             return rank;
     }
     return LAMPREYCOIL_NO_PARENT;
-}
-
-int is_under(const struct floor *floor, uint32_t rank, uint32_t below)
-{
-    while (below != rank && below != 0)
-        below = floor->rank[below].parent;
-    return below == rank;
 }
 
 static int digits(uint32_t number)

@@ -84,10 +84,9 @@ static void tell_forward(const struct floor *floor, const struct seen *seen, uin
         tell_passed_over(seen, from_client);
     else if (to == seen->first)
         printf("that is the request's rank");
-    else if (is_under(floor, to, seen->first))
-        printf("the way to rank %lu goes down there", (unsigned long)seen->first);
     else
-        printf("rank %lu is not below rank %lu", (unsigned long)seen->first, (unsigned long)rank);
+        printf("rank %lu is %s rank %lu", (unsigned long)seen->first, up ? "not below" : "below",
+               (unsigned long)(up ? rank : to));
     putchar('\n');
 }
 
@@ -125,8 +124,9 @@ void tell_step(const struct floor *floor, const struct seen *seen, uint32_t rank
     }
     switch (lampreycoil_number(record, LAMPREYCOIL_STEP_ANSWER)) {
     case LAMPREYCOIL_DELIVERED:
-        tell_service(seen, goes_up(seen) ? "delivers it: it has the service"
-                                         : "delivers it: it is the request's rank, and has");
+        tell_service(seen, goes_up(seen)
+                               ? "delivers it: it has the service"
+                               : "delivers it: it is the request's rank, and has the service");
         printf(" (record %lu)\n", (unsigned long)number);
         break;
     case LAMPREYCOIL_FORWARD:

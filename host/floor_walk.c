@@ -133,7 +133,7 @@ static void tell_end(const struct play *play)
     uint32_t answer = last(play, LAMPREYCOIL_STEP_ANSWER);
     struct seen seen;
 
-    printf("\nends      %s", ends[answer]);
+    printf("\nends      %s", answer < sizeof ends / sizeof ends[0] ? ends[answer] : "unknown");
     if (last(play, LAMPREYCOIL_STEP_ERROR) != 0)
         printf(" %lu", (unsigned long)last(play, LAMPREYCOIL_STEP_ERROR));
     printf(" at rank %lu, links %lu: ", (unsigned long)last_rank(play), (unsigned long)play->links);
@@ -145,18 +145,27 @@ static void tell_end(const struct play *play)
     tell_routes(play->floor, play->buffer, sizeof play->buffer);
 }
 
-static int play_walk(struct play *play, size_t length, const char *output)
+/* Looks at the message before it is played. Returns 0, or has said what is wrong. */
+static int see_entry(const struct play *play, size_t length, uint8_t type, struct seen *seen)
 {
-    struct seen seen;
-    uint32_t refusal = see(&seen, play->floor, play->buffer, length);
+    uint32_t refusal = see(seen, play->floor, play->buffer, length);
 
     if (refusal != LAMPREYCOIL_OK) {
         trouble("refused, %lu: %s", (unsigned long)refusal, refusal_words(refusal));
         return EXIT_REFUSED;
     }
+    /* A walk may be any message's: what the library does not play it refuses. */
+    if (type == LAMPREYCOIL_RESPONSE && seen->type != type)
+        return trouble("home takes a response, and this message is of type %s",
+                       type_by_number(seen->type)->name);
+    return 0;
+}
+
+static int play_walk(struct play *play, const struct seen *seen, const char *output)
+{
     memcpy(play->entered, play->buffer, sizeof play->entered);
     printf("enters    at rank %lu\nmessage   ", (unsigned long)play->enter);
-    tell_message(&seen);
+    tell_message(seen);
     putchar('\n');
     int status = play_steps(play);
     if (status == 0) {
@@ -258,6 +267,7 @@ static int walk_asked(struct walk_words *asked, int count, char **words)
     static struct floor floor;
     static struct play play;
     struct words reading = {.words = words, .count = count};
+    struct seen seen;
     size_t length = 0;
     int status = take_walk_words(asked, &reading);
 
@@ -268,10 +278,10 @@ static int walk_asked(struct walk_words *asked, int count, char **words)
     if (status == 0)
         status = asked->frame == NULL ? make_frame(&asked->message, play.buffer, &length)
                                       : read_frame(asked->frame, play.buffer, &length);
-    if (status != 0)
-        return status;
     play.floor = &floor;
-    return play_walk(&play, length, asked->output);
+    if (status == 0)
+        status = see_entry(&play, length, asked->type, &seen);
+    return status == 0 ? play_walk(&play, &seen, asked->output) : status;
 }
 
 int command_walk(int count, char **words)

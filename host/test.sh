@@ -1,12 +1,14 @@
 #!/usr/bin/env bash
-# Tests the host program: the bytes of paper 01, each refusal that it can meet, files and wrong usage.
-# Then the step and the walk through the header, the examples of README.md, and the stack that each call takes.
-# The program is FLUX_FRAME, or else what `make host` builds. The last line is 'N passed, M failed'.
+# Tests the host programs. flux_frame: the bytes of paper 01, each refusal that it can meet, files and
+# wrong usage. flux_floor: host/test/floor.sh. Then the step and the walk through the header, the examples of
+# README.md, and the stack that each call takes. The programs are FLUX_FRAME and FLUX_FLOOR, or else
+# what `make host` builds. The last line is 'N passed, M failed'.
 set -u
 cd "$(dirname "$0")/.." || exit 2
 
-if [ -z "${FLUX_FRAME:-}" ]; then
-    FLUX_FRAME=target/host/flux_frame
+if [ -z "${FLUX_FRAME:-}" ] || [ -z "${FLUX_FLOOR:-}" ]; then
+    FLUX_FRAME=${FLUX_FRAME:-target/host/flux_frame}
+    FLUX_FLOOR=${FLUX_FLOOR:-target/host/flux_floor}
     make --no-print-directory -s host >&2 || { echo "host/test.sh: make host failed" >&2; exit 2; }
 fi
 
@@ -279,6 +281,16 @@ wrong 'a folder for a frame' "cannot read $room" dump "$room"
 wrong 'an output that cannot be made' "cannot write $room/no/where" write --type event --topic x -o "$room/no/where"
 bytes 1048577 >"$room/huge"
 wrong 'an input that is too long' 'longer than 1048576 bytes' dump "$room/huge"
+
+wrong 'an option given twice' '--topic is given twice' write --type event --topic x --topic x
+wrong 'an output given twice' '-o is given twice' write --type event --topic x -o "$room/a" -o "$room/b"
+wrong 'a word that is no option' "not 'x'" write --type event -- x
+writes 'log, with =' "$log" --type=request --topic=log --matchtag=1
+
+# ---- flux_floor
+
+# shellcheck source=host/test/floor.sh
+. host/test/floor.sh
 
 # ---- the step, the examples of README.md, the walk, and the stack
 
