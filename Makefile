@@ -25,7 +25,7 @@ H_FILES := $(wildcard host/*.h) include/lampreycoil.h
 .DELETE_ON_ERROR:
 
 help:
-	@echo 'make run      prove the library, show its examples, and write and dump a frame from C'
+	@echo 'make run      prove the library, show its examples, and write, dump and walk a frame from C'
 	@echo 'make test     the whole gate: every proof, must-fail edit and test'
 	@echo 'make bench    the library beside the second program, as ratios'
 	@echo 'make archive  the library for C: $(ARCHIVE)'
@@ -46,6 +46,9 @@ run: deps
 	@od -A d -t x1 target/host/log.frame
 	@printf '$$ flux_frame dump target/host/log.frame\n'
 	@target/host/flux_frame dump target/host/log.frame
+	@printf '\n== a walk over the floor of paper 01, step by step\n'
+	@printf '$$ flux_floor walk --enter 6 host/paper.floor --nodeid 4 --topic bench.run\n'
+	@target/host/flux_floor walk --enter 6 host/paper.floor --nodeid 4 --topic bench.run
 
 test: deps
 	@tools/gate
