@@ -5,9 +5,6 @@ CFLAGS  = -std=c99 -O2 -Wall -Wextra -Werror
 ARCHIVE = target/staticlib/liblampreycoil.a
 HOST    = target/host/flux_frame target/host/flux_floor
 
-# Says whether the header has the walk, for host/walk_call.h.
-WALK := $(if $(shell grep -s lampreycoil_walk include/lampreycoil.h),-DHEADER_HAS_WALK)
-
 # An install of Rust by its own installer may not be on the path.
 export PATH := $(PATH):$(HOME)/.cargo/bin
 
@@ -67,7 +64,7 @@ target/host/flux_frame: $(FRAME_C) $(BOTH_C)
 target/host/flux_floor: $(FLOOR_C) $(BOTH_C)
 $(HOST): $(H_FILES) $(ARCHIVE)
 	@mkdir -p $(@D)
-	$(CC) $(CFLAGS) $(WALK) -Iinclude -o $@ $(filter %.c,$^) $(ARCHIVE)
+	$(CC) $(CFLAGS) -Iinclude -o $@ $(filter %.c,$^) $(ARCHIVE)
 
 # The C layout is clang-format's, where it is installed.
 fmt:

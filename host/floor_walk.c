@@ -6,7 +6,6 @@
 #include "floor_tell.h"
 #include "make_frame.h"
 #include "names.h"
-#include "walk_call.h"
 #include "words.h"
 
 /* More steps than any walk makes: a response has 64 routes, a request crosses 32 links. */

@@ -289,11 +289,9 @@ report $? 'a full disk for the bytes left'
 
 # ---- a walk call that differs
 
-walk_flag=''
-grep -q lampreycoil_walk include/lampreycoil.h && walk_flag=-DHEADER_HAS_WALK
-# shellcheck disable=SC2046,SC2086
-{ "${CC:-gcc}" -std=c99 -Wall -Wextra -Werror $walk_flag -Iinclude -c -o "$room/wrong_walk.o" host/test/wrong_walk.c &&
-    "${CC:-gcc}" -std=c99 -Wall -Wextra -Werror $walk_flag -Dlampreycoil_walk=wrong_walk -Iinclude -o "$room/wrong_floor" \
+# shellcheck disable=SC2046
+{ "${CC:-gcc}" -std=c99 -Wall -Wextra -Werror -Iinclude -c -o "$room/wrong_walk.o" host/test/wrong_walk.c &&
+    "${CC:-gcc}" -std=c99 -Wall -Wextra -Werror -Dlampreycoil_walk=wrong_walk -Iinclude -o "$room/wrong_floor" \
         $(ls host/*.c | grep -v -e flux_frame.c -e dump_frame.c -e write_frame.c) "$room/wrong_walk.o" \
         target/staticlib/liblampreycoil.a; } >"$room/out" 2>"$room/err"
 status=$?

@@ -5,7 +5,7 @@
 #include <stdlib.h>
 #include <string.h>
 
-#include "../walk_call.h"
+#include "lampreycoil.h"
 
 uint32_t wrong_walk(const uint8_t *tree, size_t tree_length, const uint8_t *services,
                     size_t services_length, const uint8_t *identities, size_t identities_length,
