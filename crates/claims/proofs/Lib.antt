@@ -9,3 +9,4 @@ pub mod There
 pub mod Homeward
 pub mod Demand3
 pub mod Corollaries
+pub mod Walks

@@ -7,3 +7,4 @@ pub mod Trees
 pub mod Ways
 pub mod Demand3
 pub mod Corollaries
+pub mod Walks

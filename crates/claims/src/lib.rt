@@ -11,6 +11,7 @@ ghost use Rattle.claims.specs.Ways.{EveryWay};
 ghost use Rattle.routing.specs.Routed.{tablesOf};
 ghost use Rattle.claims.specs.Demand3.{DemandThree};
 ghost use Rattle.claims.specs.Corollaries.{EveryReplyComesHome, AtMost32Links, EveryWalkIsRun};
+ghost use Rattle.claims.specs.Walks.{WalksOfTheTable};
 
 // Takes any slice.
 fn lend(_bytes: &[u8]) {}
@@ -100,3 +101,8 @@ pub fn every_walk_is_run(tree: &[u8], services: &[u8], identities: &[u8], b: Bro
 {
     are_bytes(buffer);
 }
+
+// The walks of the example floor's table, as the walk call reports them and as the steps end them.
+pub fn walks_of_the_table()
+    ensures { λ _. ⌜ WalksOfTheTable ⌝ }
+{}

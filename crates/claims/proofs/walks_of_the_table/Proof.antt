@@ -1,0 +1,11 @@
+-- `claims::walks_of_the_table` meets its contract.
+-- Assumes nothing.
+use Rattle.claims.proofs.Walks.{walks-of-the-table}
+use Rattle.claims.proofs.walks_of_the_table.Statement.{statement}
+use Rattle.claims.proofs.walks_of_the_table.Tie as tie
+
+returns : tie.Need-returns
+returns c = walks-of-the-table
+
+pub walks-of-the-table-spec : {M : Type 1} → statement M
+walks-of-the-table-spec = tie.close (tie.spec returns)
