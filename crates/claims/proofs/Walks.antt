@@ -1,10 +1,9 @@
 -- W1 to W11 of the calls: demand 3, on the paths of the table. The premises of every row are one test, computed.
 -- Assumes nothing.
-use mathlib.Core.Path.{_≡_, refl, sym, ap, ap₂, _∙_, subst, subst⁻¹}
-use mathlib.Core.Bool.{Bool, true, false, cond, _&&_}
+use mathlib.Core.Path.{_≡_, refl, sym, ap, _∙_, subst}
+use mathlib.Core.Bool.{Bool, true, false, _&&_}
 use mathlib.Core.Logic.{⊎-elim}
 use Prim.Native.Nat.{ℕ, zero, suc, _+_, _-_, _<_, _≤_}
-use Prim.Native.String.{String}
 use mathlib.Core.List.{List, [], _∷_, _++_, map}
 use native.Mathlib.Omega.{arith}
 use borrow.Author.Tests.{ltb-true, leb-true}
@@ -17,7 +16,7 @@ use Rattle.message.specs.Answer.{Answer, refused, answered}
 use Rattle.message.specs.Header.{noResponse, isKnown, partsFit, fieldsGood, headerBytes}
 use Rattle.message.specs.Message.{Message, FieldsFit}
 use Rattle.message.specs.Frame.{partsOf, bodyOf, frameOf}
-use Rattle.message.specs.Reading.{final, readingOf}
+use Rattle.message.specs.Reading.{final}
 use Rattle.message.specs.Writing.{partsGivenFit, routesGood, writing}
 use Rattle.message.proofs.Messages.{written}
 use Rattle.message.proofs.RoundTrip.{read-back}
@@ -25,8 +24,8 @@ use Rattle.records.specs.Below.{allBelow, noneTwice}
 use Rattle.records.specs.Bytes.{sameBytes}
 use Rattle.tree.specs.Tree.{ranksIn}
 use Rattle.identities.specs.Identities.{sameIdentity, identitiesGood}
-use Rattle.path.specs.Path.{End, delivers, fails, Path, pathOf, linksOf}
-use Rattle.path.specs.Walks.{bytes, floorTree, floorServices, Told, delivered, failed, silenced, toldOf, Row, walk, header, table, byPath}
+use Rattle.path.specs.Path.{End, delivers, fails, pathOf}
+use Rattle.path.specs.Walks.{floorTree, floorServices, Told, toldOf, Row, walk, table, byPath}
 use Rattle.path.proofs.Walks.{walks-are-right}
 use Rattle.routing.specs.Routed.{Tables}
 use Rattle.broker.specs.declared.Stepped.{Stepped}
@@ -35,7 +34,7 @@ use Rattle.broker.proofs.Buffers.{frame-long}
 use Rattle.rows.specs.Steps.{stepRow, frameLength}
 use Rattle.lampreycoil.specs.Calls.{walkRecord}
 use Rattle.claims.specs.Demand3.{Enters, StepsOver, Goes, answerAt}
-use Rattle.claims.specs.Walks.{floorIdentities, floor, requestOf, entering, answerOf, ReportsEnd, EndsAs, RowEnds, EachRow, WalksOfTheTable}
+use Rattle.claims.specs.Walks.{floorIdentities, floor, requestOf, entering, answerOf, EndsAs, RowEnds, EachRow, WalksOfTheTable}
 use Rattle.claims.proofs.Demand3.{demand-three}
 
 -- ---- the tables are valid
@@ -124,11 +123,11 @@ enters t valid room enough entry m f numbers kind none =
 -- ---- how it ends
 
 -- a walk over these brokers, said as a row says it
-ends-as : (t : Tables) (entry : ℕ) (buffer : List ℕ) (m : Message) (brokers : List ℕ) (ended : Stepped) (left : List ℕ) (answer : Stepped) (rank links : ℕ) →
+ends-as : (t : Tables) (entry : ℕ) (buffer : List ℕ) (m : Message) (brokers : List ℕ) (ended : Stepped) (left : List ℕ) {answer : Stepped} {rank links : ℕ} →
     Enters t entry buffer m → (rest : List ℕ) × (brokers ≡ entry ∷ rest) → Goes t entry buffer brokers ended left →
     ended ≡ answer → final 0 brokers ≡ rank → length brokers - 1 ≡ links →
     EndsAs t entry buffer m answer rank links
-ends-as t entry buffer m brokers ended left answer rank links premises starts goes answers rests crossed =
+ends-as t entry buffer m brokers ended left premises starts goes answers rests crossed =
     record {
       enters = premises;
       brokers = brokers;
@@ -175,7 +174,7 @@ row-ends room enough (walk entry nodeid flags topic told rank links) test same =
     let premises = enters floor floor-valid room enough entry m f numbers refl refl in
     let path = pathOf floorTree floorServices entry (m .header) (m .topic) in
     let both = demand-three floor entry (entering room m) [] (bytes-padded (frameOf m) (room - length (frameOf m)) (f .bytes)) tt m premises in
-    ends-as floor entry (entering room m) m (path .brokers) (answerAt (path .end) (noResponse flags)) _ (answerOf told) rank links premises (both .entered) (both .there)
+    ends-as floor entry (entering room m) m (path .brokers) (answerAt (path .end) (noResponse flags)) _ premises (both .entered) (both .there)
     (told-answer (path .end) flags ∙ ap (λ (row : Row). answerOf (toldIn row)) same) (ap rankIn same) (ap linksIn same)
 
 abbrev allRows : List Row → Bool

@@ -20,7 +20,7 @@ use Rattle.claims.specs.Demand3.{Enters, StepsOver}
 
 -- ---- the floor's tables
 
--- "36 characters, lower-case hex in groups 8-4-4-4-12 with hyphens, then a zero byte": the last digit is the rank's
+-- "36 characters, lower-case hex in groups 8-4-4-4-12 with hyphens, then a zero byte": the last character is the rank's digit, and 48 is the code of 0
 abbrev pub identityOf : ℕ → List ℕ
 identityOf rank = bytes "00000000-0000-0000-0000-00000000000" ++ ((48 + rank) ∷ 0 ∷ [])
 
