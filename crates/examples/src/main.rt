@@ -4,7 +4,10 @@ use body::Reading;
 use draft::Written;
 use message::Header;
 
+mod floor;
 mod print;
+mod walks;
+mod words;
 
 // A request for "log" to any rank, with matchtag 1 and no routes; flags 09, or 0B with a payload.
 fn log_request(flags: u8) -> Header {
@@ -126,4 +129,8 @@ fn main() {
     show_limits();
     print::text(b"A part's size\n");
     show_sizes();
+    print::text(
+        b"Walks, each by steps and by the walk call; the brokers that it visits are in brackets\n",
+    );
+    walks::show_all();
 }
