@@ -62,9 +62,10 @@ fn put(picture: &mut [u8], at: usize, mark: u8) {
     }
 }
 
-// Brackets a broker.
-pub(crate) fn bracket(picture: &mut [u8], rank: u32) {
+// Says a broker's rank, and brackets it.
+pub(crate) fn visit(picture: &mut [u8], rank: u32) {
     let r = rank as usize;
+    print::number(r);
     if r < 7 {
         let at = BRACKETS[r];
         if at < 256 {

@@ -36,8 +36,7 @@ fn go(entry: u32, picture: &mut [u8], buffer: &mut [u8]) -> Walked {
     let mut rank = entry;
     let mut links: u32 = 0;
     while links < 64 {
-        print::number(rank as usize);
-        floor::bracket(picture, rank);
+        floor::visit(picture, rank);
         let stepped = floor::step(rank, links == 0, buffer);
         if let Stepped::Forwarded(next) = stepped {
             rank = next;
