@@ -21,15 +21,16 @@ const IDENTITIES: [u8; 259] = *b"00000000-0000-4000-8000-000000000000\0\
     00000000-0000-4000-8000-000000000006\0";
 
 // The brokers and their services, and where the bracket goes that opens in front of each.
-pub(crate) const PICTURE: [u8; 174] = *b"
+pub(crate) const PICTURE: [u8; 181] = *b"
                       0  log
             .---------'---------.
-            1  bench            2
+            1  bench            2  -
         .---'---.           .---'---.
-        3       4  bench    5       6
+        3  -    4  bench    5  -    6  -
+
 ";
 
-const BRACKETS: [usize; 7] = [22, 75, 95, 143, 151, 163, 171];
+const BRACKETS: [usize; 7] = [22, 75, 95, 146, 154, 166, 174];
 
 // The broker of a rank, which leaves the user of its error replies unknown.
 fn broker_of(rank: u32, client: bool) -> Broker {
@@ -62,9 +63,12 @@ fn put(picture: &mut [u8], at: usize, mark: u8) {
     }
 }
 
-// Says a broker's rank, and brackets it.
-pub(crate) fn visit(picture: &mut [u8], rank: u32) {
+// Says the rank of a broker behind so many links, and brackets it.
+pub(crate) fn visit(picture: &mut [u8], rank: u32, links: u32) {
     let r = rank as usize;
+    if 0 < links {
+        print::text(b" > ");
+    }
     print::number(r);
     if r < 7 {
         let at = BRACKETS[r];

@@ -1,6 +1,6 @@
 // Runs the bytes that paper 01 gives to be reproduced, and prints them.
-use body::Frame;
 use body::Reading;
+use body::Stretch;
 use draft::Written;
 use message::Header;
 
@@ -40,23 +40,19 @@ fn show_message(header: Header, topic: &[u8]) {
     }
 }
 
-// Writes the request for "log" with so many bytes of payload, and says how long the frame is.
-fn show_limit(payload: &[u8], out: &mut [u8]) {
-    print::count(payload.len(), b" bytes of payload: ");
-    match writer::write(log_request(11), b"", b"log", payload, out) {
-        Written::Refused(r) => print::refused(r),
-        Written::Frame(n) => {
-            print::field(b"a frame of ", n);
-            print::text(b" bytes\n");
-        }
-    }
+// Writes the request for "log" with a payload.
+fn write_log(payload: &[u8], out: &mut [u8]) -> Written {
+    writer::write(log_request(11), b"", b"log", payload, out)
 }
 
-// The bytes between the topic and the payload: the payload's size. Says where the payload starts.
-fn print_size(frame: &[u8], f: Frame) -> usize {
-    let topic = f.topic;
-    let payload = f.payload;
-    let end = payload.start;
+// Writes that request, and says how long the frame is.
+fn show_limit(payload: &[u8], out: &mut [u8]) {
+    print::count(payload.len(), b" bytes of payload: ");
+    print::written(write_log(payload, out));
+}
+
+// The bytes between the topic and the payload: the payload's size.
+fn print_size(frame: &[u8], topic: Stretch, end: usize) {
     if end <= frame.len() {
         if topic.len < end {
             let before = end - topic.len - 1;
@@ -66,18 +62,25 @@ fn print_size(frame: &[u8], f: Frame) -> usize {
             }
         }
     }
-    end
+}
+
+// Reads a frame and prints its payload's size. Says where the payload starts.
+fn read_size(frame: &[u8]) -> usize {
+    match reader::read(frame) {
+        Reading::Refused(_) => 0,
+        Reading::Accepted(f) => {
+            let payload = f.payload;
+            print_size(frame, f.topic, payload.start);
+            payload.start
+        }
+    }
 }
 
 // Writes the request with some payload and prints the payload's size. Says where the payload starts.
 fn show_size(payload: &[u8], out: &mut [u8]) -> usize {
     print::count(payload.len(), b" bytes of data have the size ");
-    let mut start = 0;
-    if let Written::Frame(_) = writer::write(log_request(11), b"", b"log", payload, out) {
-        if let Reading::Accepted(f) = reader::read(out) {
-            start = print_size(out, f);
-        }
-    }
+    write_log(payload, out);
+    let start = read_size(out);
     print::text(b"\n");
     start
 }

@@ -2,6 +2,7 @@
 use body::Frame;
 use body::Reading;
 use body::Stretch;
+use draft::Written;
 use libc::STDOUT_FILENO;
 use message::Header;
 use message::Refusal;
@@ -80,5 +81,16 @@ pub(crate) fn reading(r: Reading) {
     match r {
         Reading::Refused(x) => refused(x),
         Reading::Accepted(f) => frame(f),
+    }
+}
+
+// What the writer answered.
+pub(crate) fn written(w: Written) {
+    match w {
+        Written::Refused(r) => refused(r),
+        Written::Frame(n) => {
+            field(b"a frame of ", n);
+            text(b" bytes\n");
+        }
     }
 }

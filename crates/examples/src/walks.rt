@@ -4,6 +4,7 @@ use crate::print;
 use crate::words;
 use body::FRONT;
 use body::Reading;
+use body::Stretch;
 use broker::Stepped;
 use message::Header;
 use message::Refusal;
@@ -36,12 +37,11 @@ fn go(entry: u32, picture: &mut [u8], buffer: &mut [u8]) -> Walked {
     let mut rank = entry;
     let mut links: u32 = 0;
     while links < 64 {
-        floor::visit(picture, rank);
+        floor::visit(picture, rank, links);
         let stepped = floor::step(rank, links == 0, buffer);
         if let Stepped::Forwarded(next) = stepped {
             rank = next;
             links += 1;
-            print::text(b" > ");
         } else {
             return Walked {
                 step: stepped,
@@ -57,47 +57,71 @@ fn go(entry: u32, picture: &mut [u8], buffer: &mut [u8]) -> Walked {
     }
 }
 
+// The numbers of a walk's end, and the refusal's behind them.
+fn put_end(out: &mut [u8], w: Walked) {
+    let step = w.step;
+    let row = rows::walk_row(w, 0);
+    octets::put_row(
+        out,
+        &[
+            row[0],
+            row[1],
+            row[2],
+            row[4],
+            row[5],
+            rows::refusal_in(step) as usize,
+        ],
+    );
+}
+
 // Whether two walks came to the same.
 fn is_same(a: Walked, b: Walked) -> bool {
-    let one = a.step;
-    let other = b.step;
     let mut x = [0u8; 24];
     let mut y = [0u8; 24];
-    octets::put_row(&mut x, &rows::walk_row(a, 0));
-    octets::put_row(&mut y, &rows::walk_row(b, 0));
-    if records::same(&x, &y) {
-        rows::refusal_in(one) == rows::refusal_in(other)
-    } else {
-        false
+    put_end(&mut x, a);
+    put_end(&mut y, b);
+    records::same(&x, &y)
+}
+
+// Says so where the steps and the walk call differ in how they end or in what they leave.
+fn compare(same: bool, buffer: &[u8], copy: &[u8]) {
+    if same {
+        if records::same(buffer, copy) {
+            return;
+        }
     }
+    print::text(b"*** THE STEPS AND THE WALK CALL DIFFER ***\n");
 }
 
 // Takes the message in buffer as far as it goes, by steps, and a copy of it by the walk call.
-fn travel(entry: u32, picture: &mut [u8], buffer: &mut [u8], copy: &mut [u8]) -> Walked {
-    copying::copy(buffer, copy);
+fn travel(entry: u32, picture: &mut [u8], buffer: &mut [u8]) -> Walked {
+    let mut copy = [0u8; 32776];
+    copying::copy(buffer, &mut copy);
     let end = go(entry, picture, buffer);
     words::end(end);
-    if !is_same(end, floor::walk(entry, copy)) {
-        print::text(b"*** THE STEPS AND THE WALK CALL END DIFFERENTLY ***\n");
-    }
-    if !records::same(buffer, copy) {
-        print::text(b"*** THE STEPS AND THE WALK CALL LEAVE OTHER BYTES ***\n");
-    }
+    let other = floor::walk(entry, &mut copy);
+    compare(is_same(end, other), buffer, &copy);
     end
+}
+
+// How many bytes of a body come up to its topic's end, the zero byte there with them.
+fn front(topic: Stretch) -> usize {
+    let start = topic.start;
+    let len = topic.len;
+    if FRONT <= start {
+        if start <= message::MOST_BODY {
+            if len <= 255 {
+                return start - FRONT + len + 1;
+            }
+        }
+    }
+    0
 }
 
 // Makes a response of the request at rest, with its routes, topic and matchtag.
 fn respond(buffer: &mut [u8]) {
     if let Reading::Accepted(f) = reader::read(buffer) {
-        let topic = f.topic;
-        if topic.len <= 255 {
-            if FRONT <= topic.start {
-                let kept = topic.start - FRONT;
-                if kept <= message::MOST_BODY {
-                    rewrite::put_header(buffer, kept + topic.len + 1, header(2, PLAIN, 0));
-                }
-            }
-        }
+        rewrite::put_header(buffer, front(f.topic), header(2, PLAIN, 0));
     }
 }
 
@@ -115,37 +139,41 @@ fn begin_home(step: Stepped, buffer: &mut [u8]) {
     }
 }
 
-// A request in buffer there, its response back, and the picture of both.
-fn show_both(entry: u32, buffer: &mut [u8], copy: &mut [u8]) {
-    let mut picture = floor::PICTURE;
+// The request in buffer there, and its response back.
+fn there_and_back(entry: u32, picture: &mut [u8], buffer: &mut [u8]) {
     print::text(b"    request   ");
-    let end = travel(entry, &mut picture, buffer, copy);
+    let end = travel(entry, picture, buffer);
     let step = end.step;
     begin_home(step, buffer);
-    travel(end.rank, &mut picture, buffer, copy);
-    print::text(&picture);
-    print::text(b"\n");
+    travel(end.rank, picture, buffer);
 }
 
-fn show(name: &[u8], entry: u32, nodeid: u32, flags: u8, topic: &[u8]) {
-    print::text(name);
+// Both ways, and the picture of them.
+fn draw(entry: u32, buffer: &mut [u8]) {
+    let mut picture = floor::PICTURE;
+    there_and_back(entry, &mut picture, buffer);
+    print::text(&picture);
+}
+
+fn show(number: u32, entry: u32, nodeid: u32, flags: u8, topic: &[u8]) {
+    print::field(b"W", number as usize);
+    print::text(b": ");
     words::request(entry, nodeid, flags, topic);
     let mut buffer = [0u8; 32776];
-    let mut copy = [0u8; 32776];
     writer::write(header(1, flags, nodeid), b"", topic, b"", &mut buffer);
-    show_both(entry, &mut buffer, &mut copy);
+    draw(entry, &mut buffer);
 }
 
 pub(crate) fn show_all() {
-    show(b"W1 ", 3, ANY, PLAIN, b"bench.run");
-    show(b"W2 ", 4, ANY, PLAIN, b"bench.run");
-    show(b"W3 ", 5, ANY, PLAIN, b"bench.run");
-    show(b"W4 ", 5, ANY, PLAIN, b"log");
-    show(b"W5 ", 6, 4, PLAIN, b"bench.run");
-    show(b"W6 ", 3, 5, PLAIN, b"bench.run");
-    show(b"W7 ", 3, 7, PLAIN, b"bench.run");
-    show(b"W8 ", 4, 4, UPSTREAM, b"bench.run");
-    show(b"W9 ", 0, 0, UPSTREAM, b"log.put");
-    show(b"W10", 3, ANY, PLAIN, b"benchmark.run");
-    show(b"W11", 5, ANY, NORESPONSE, b"bench.run");
+    show(1, 3, ANY, PLAIN, b"bench.run");
+    show(2, 4, ANY, PLAIN, b"bench.run");
+    show(3, 5, ANY, PLAIN, b"bench.run");
+    show(4, 5, ANY, PLAIN, b"log");
+    show(5, 6, 4, PLAIN, b"bench.run");
+    show(6, 3, 5, PLAIN, b"bench.run");
+    show(7, 3, 7, PLAIN, b"bench.run");
+    show(8, 4, 4, UPSTREAM, b"bench.run");
+    show(9, 0, 0, UPSTREAM, b"log.put");
+    show(10, 3, ANY, PLAIN, b"benchmark.run");
+    show(11, 5, ANY, NORESPONSE, b"bench.run");
 }

@@ -4,61 +4,64 @@ use crate::print;
 use broker::Stepped;
 use walk::Walked;
 
-// What a request asks for, and where it enters.
-pub(crate) fn request(entry: u32, nodeid: u32, flags: u8, topic: &[u8]) {
-    print::text(b" ");
-    print::text(topic);
+fn target(nodeid: u32) {
     if nodeid == 4294967295 {
         print::text(b" for any rank");
     } else {
         print::field(b" for rank ", nodeid as usize);
     }
+}
+
+fn wishes(flags: u8) {
     if message::is_upstream(flags) {
         print::text(b", upstream");
     }
     if message::no_response(flags) {
         print::text(b", no response wanted");
     }
+}
+
+// What a request asks for, and where it enters.
+pub(crate) fn request(entry: u32, nodeid: u32, flags: u8, topic: &[u8]) {
+    print::text(topic);
+    target(nodeid);
+    wishes(flags);
     print::field(b", from a client at rank ", entry as usize);
     print::text(b"\n");
 }
 
-fn error(errnum: u32) {
-    print::field(b"error ", errnum as usize);
+// An error's number, what it means, and where it was made.
+fn error(before: &[u8], errnum: u32, rank: usize) {
+    print::field(before, errnum as usize);
     if errnum == 38 {
         print::text(b" (no such service)");
     }
     if errnum == 113 {
         print::text(b" (no such rank)");
     }
-    print::text(b" at rank ");
+    print::field(b" at rank ", rank);
 }
 
-fn answer(step: Stepped) {
+fn replied(errnum: u32, rank: usize) {
+    error(b"error ", errnum, rank);
+    print::text(b", one reply,");
+}
+
+fn delivered(number: usize, rank: usize) {
+    print::field(b"delivered at rank ", rank);
+    print::field(b", record ", number);
+    floor::service(number);
+    print::text(b",");
+}
+
+fn answer(step: Stepped, rank: usize) {
     match step {
-        Stepped::Refused(r) => {
-            print::field(b"refused with ", message::number(r) as usize);
-            print::text(b" at rank ");
-        }
-        Stepped::Delivered(_) => print::text(b"delivered at rank "),
-        Stepped::Forwarded(_) => print::text(b"forwarded at rank "),
-        Stepped::Replied(e) => error(e),
-        Stepped::Silenced(e) => {
-            print::text(b"silenced: ");
-            error(e);
-        }
-        Stepped::Home => print::text(b"home at rank "),
-    }
-}
-
-// What is said of some answers behind the rank.
-fn detail(step: Stepped) {
-    if let Stepped::Delivered(number) = step {
-        print::field(b", record ", number);
-        floor::service(number);
-    }
-    if let Stepped::Replied(_) = step {
-        print::text(b", one reply,");
+        Stepped::Refused(_) => print::field(b"refused at rank ", rank),
+        Stepped::Delivered(number) => delivered(number, rank),
+        Stepped::Forwarded(_) => print::field(b"forwarded at rank ", rank),
+        Stepped::Replied(e) => replied(e, rank),
+        Stepped::Silenced(e) => error(b"silenced: error ", e, rank),
+        Stepped::Home => print::field(b"home at rank ", rank),
     }
 }
 
@@ -66,9 +69,7 @@ fn detail(step: Stepped) {
 pub(crate) fn end(w: Walked) {
     let step = w.step;
     print::text(b": ");
-    answer(step);
-    print::number(w.rank as usize);
-    detail(step);
+    answer(step, w.rank as usize);
     print::field(b" after ", w.links as usize);
     if w.links == 1 {
         print::text(b" link\n");

@@ -8,11 +8,11 @@ use Rattle.examples.proofs.walks.go.Statement.{statement}
 use Rattle.examples.proofs.walks.go.Tie as tie
 
 abbrev Inv-loop : tie.InvT-loop
-Inv-loop entry picture₀ buffer₀ rank₀ links₀ t8 picture buffer rank links =
+Inv-loop entry picture₀ buffer₀ rank₀ links₀ picture buffer rank links =
     (links ≤ 64) × (length picture ≡ length picture₀) × (length buffer ≡ length buffer₀)
 
 abbrev μ-loop : tie.MeasureT-loop
-μ-loop entry picture₀ buffer₀ rank₀ links₀ t8 picture buffer rank links = 64 - links
+μ-loop entry picture₀ buffer₀ rank₀ links₀ picture buffer rank links = 64 - links
 
 loop-holds : tie.Need-loop-holds Inv-loop μ-loop
 loop-holds c = search needs
@@ -28,12 +28,6 @@ enum-known-stepped c = search needs
 
 add-links : tie.Need-add-links Inv-loop μ-loop
 add-links c = search needs
-
-slice-aggregate-text : tie.Need-slice-aggregate-text Inv-loop μ-loop
-slice-aggregate-text c = search needs
-
-text-requires : tie.Need-text-requires Inv-loop μ-loop
-text-requires c κs = search needs
 
 loop-less : tie.Need-loop-less Inv-loop μ-loop
 loop-less c = search needs
@@ -70,8 +64,6 @@ go-spec =
     step-requires
     enum-known-stepped
     add-links
-    slice-aggregate-text
-    text-requires
     loop-less
     loop-again
     same-length
