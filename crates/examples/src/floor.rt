@@ -80,14 +80,10 @@ pub(crate) fn visit(picture: &mut [u8], rank: u32, links: u32) {
 }
 
 // Prints the name in a record of the services.
-pub(crate) fn service(number: usize) {
-    if number < 3 {
-        let start = number * 32 + 5;
-        let end = start + octets::wide(SERVICES[start - 1]) as usize;
-        if end <= 96 {
-            print::text(b" (");
-            print::text(&SERVICES[start..end]);
-            print::text(b")");
-        }
+pub(crate) fn print_service(number: usize) {
+    if number < 2 {
+        print::text(b" (bench)");
+    } else {
+        print::text(b" (log)");
     }
 }

@@ -57,24 +57,12 @@ fn go(entry: u32, picture: &mut [u8], buffer: &mut [u8]) -> Walked {
     }
 }
 
-// The numbers of a walk's end, and the refusal's behind them.
+// The numbers of a walk's end, as a C program gets them.
 fn put_end(out: &mut [u8], w: Walked) {
-    let step = w.step;
-    let row = rows::walk_row(w, 0);
-    octets::put_row(
-        out,
-        &[
-            row[0],
-            row[1],
-            row[2],
-            row[4],
-            row[5],
-            rows::refusal_in(step) as usize,
-        ],
-    );
+    octets::put_row(out, &rows::walk_row(w, 0));
 }
 
-// Whether two walks came to the same.
+// Whether two walks ended with the same answer, at the same rank, after as many links.
 fn is_same(a: Walked, b: Walked) -> bool {
     let mut x = [0u8; 24];
     let mut y = [0u8; 24];
@@ -83,9 +71,10 @@ fn is_same(a: Walked, b: Walked) -> bool {
     records::same(&x, &y)
 }
 
-// Says so where the steps and the walk call differ in how they end or in what they leave.
-fn compare(same: bool, buffer: &[u8], copy: &[u8]) {
-    if same {
+// Says how the steps ended, and whether the walk call ended otherwise or left other bytes.
+fn tell(stepped: Walked, walked: Walked, buffer: &[u8], copy: &[u8]) {
+    words::end(stepped);
+    if is_same(stepped, walked) {
         if records::same(buffer, copy) {
             return;
         }
@@ -93,19 +82,22 @@ fn compare(same: bool, buffer: &[u8], copy: &[u8]) {
     print::text(b"*** THE STEPS AND THE WALK CALL DIFFER ***\n");
 }
 
+fn walk_copy(entry: u32, buffer: &[u8], copy: &mut [u8]) -> Walked {
+    copying::copy(buffer, copy);
+    floor::walk(entry, copy)
+}
+
 // Takes the message in buffer as far as it goes, by steps, and a copy of it by the walk call.
 fn travel(entry: u32, picture: &mut [u8], buffer: &mut [u8]) -> Walked {
     let mut copy = [0u8; 32776];
-    copying::copy(buffer, &mut copy);
-    let end = go(entry, picture, buffer);
-    words::end(end);
-    let other = floor::walk(entry, &mut copy);
-    compare(is_same(end, other), buffer, &copy);
-    end
+    let walked = walk_copy(entry, buffer, &mut copy);
+    let stepped = go(entry, picture, buffer);
+    tell(stepped, walked, buffer, &copy);
+    stepped
 }
 
-// How many bytes of a body come up to its topic's end, the zero byte there with them.
-fn front(topic: Stretch) -> usize {
+// How many bytes of the body come up to a topic's end, the zero byte there with them.
+fn front_of(topic: Stretch) -> usize {
     let start = topic.start;
     let len = topic.len;
     if FRONT <= start {
@@ -118,11 +110,17 @@ fn front(topic: Stretch) -> usize {
     0
 }
 
+fn front_in(frame: &[u8]) -> usize {
+    match reader::read(frame) {
+        Reading::Refused(_) => 0,
+        Reading::Accepted(f) => front_of(f.topic),
+    }
+}
+
 // Makes a response of the request at rest, with its routes, topic and matchtag.
 fn respond(buffer: &mut [u8]) {
-    if let Reading::Accepted(f) = reader::read(buffer) {
-        rewrite::put_header(buffer, front(f.topic), header(2, PLAIN, 0));
-    }
+    let front = front_in(buffer);
+    rewrite::put_header(buffer, front, header(2, PLAIN, 0));
 }
 
 // What goes home from where a request ended: the error reply, or a response that is made there.
@@ -165,15 +163,16 @@ fn show(number: u32, entry: u32, nodeid: u32, flags: u8, topic: &[u8]) {
 }
 
 pub(crate) fn show_all() {
-    show(1, 3, ANY, PLAIN, b"bench.run");
-    show(2, 4, ANY, PLAIN, b"bench.run");
-    show(3, 5, ANY, PLAIN, b"bench.run");
+    let bench: &[u8] = b"bench.run";
+    show(1, 3, ANY, PLAIN, bench);
+    show(2, 4, ANY, PLAIN, bench);
+    show(3, 5, ANY, PLAIN, bench);
     show(4, 5, ANY, PLAIN, b"log");
-    show(5, 6, 4, PLAIN, b"bench.run");
-    show(6, 3, 5, PLAIN, b"bench.run");
-    show(7, 3, 7, PLAIN, b"bench.run");
-    show(8, 4, 4, UPSTREAM, b"bench.run");
+    show(5, 6, 4, PLAIN, bench);
+    show(6, 3, 5, PLAIN, bench);
+    show(7, 3, 7, PLAIN, bench);
+    show(8, 4, 4, UPSTREAM, bench);
     show(9, 0, 0, UPSTREAM, b"log.put");
     show(10, 3, ANY, PLAIN, b"benchmark.run");
-    show(11, 5, ANY, NORESPONSE, b"bench.run");
+    show(11, 5, ANY, NORESPONSE, bench);
 }

@@ -50,30 +50,33 @@ fn replied(errnum: u32, rank: usize) {
 fn delivered(number: usize, rank: usize) {
     print::field(b"delivered at rank ", rank);
     print::field(b", record ", number);
-    floor::service(number);
+    floor::print_service(number);
     print::text(b",");
 }
 
 fn answer(step: Stepped, rank: usize) {
     match step {
-        Stepped::Refused(_) => print::field(b"refused at rank ", rank),
         Stepped::Delivered(number) => delivered(number, rank),
-        Stepped::Forwarded(_) => print::field(b"forwarded at rank ", rank),
         Stepped::Replied(e) => replied(e, rank),
         Stepped::Silenced(e) => error(b"silenced: error ", e, rank),
         Stepped::Home => print::field(b"home at rank ", rank),
+        _ => print::field(b"stopped at rank ", rank),
+    }
+}
+
+fn links(n: u32) {
+    print::field(b" after ", n as usize);
+    if n == 1 {
+        print::text(b" link\n");
+    } else {
+        print::text(b" links\n");
     }
 }
 
 // How and where a walk ended, and the links that it crossed.
 pub(crate) fn end(w: Walked) {
-    let step = w.step;
     print::text(b": ");
+    let step = w.step;
     answer(step, w.rank as usize);
-    print::field(b" after ", w.links as usize);
-    if w.links == 1 {
-        print::text(b" link\n");
-    } else {
-        print::text(b" links\n");
-    }
+    links(w.links);
 }
