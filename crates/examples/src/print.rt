@@ -54,11 +54,15 @@ pub(crate) fn count(n: usize, what: &[u8]) {
     text(what);
 }
 
+fn sender(userid: u32, rolemask: u32) {
+    field(b", userid ", userid as usize);
+    field(b", rolemask ", rolemask as usize);
+}
+
 fn header(h: Header) {
     field(b"type ", h.kind as usize);
     field(b", flags ", h.flags as usize);
-    field(b", userid ", h.userid as usize);
-    field(b", rolemask ", h.rolemask as usize);
+    sender(h.userid, h.rolemask);
     field(b", fields ", h.first as usize);
     field(b" and ", h.second as usize);
 }

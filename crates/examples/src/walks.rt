@@ -124,25 +124,19 @@ fn respond(buffer: &mut [u8]) {
 }
 
 // What goes home from where a request ended: the error reply, or a response that is made there.
-fn begin_home(step: Stepped, buffer: &mut [u8]) {
+fn begin_home(end: Walked, buffer: &mut [u8]) {
+    let step = end.step;
+    words::home(step);
     if let Stepped::Replied(_) = step {
-        print::text(b"    reply     ");
         return;
     }
     respond(buffer);
-    if let Stepped::Silenced(_) = step {
-        print::text(b"    nobody replies; a response would go ");
-    } else {
-        print::text(b"    response  ");
-    }
 }
 
 // The request in buffer there, and its response back.
 fn there_and_back(entry: u32, picture: &mut [u8], buffer: &mut [u8]) {
-    print::text(b"    request   ");
     let end = travel(entry, picture, buffer);
-    let step = end.step;
-    begin_home(step, buffer);
+    begin_home(end, buffer);
     travel(end.rank, picture, buffer);
 }
 
@@ -154,9 +148,7 @@ fn draw(entry: u32, buffer: &mut [u8]) {
 }
 
 fn show(number: u32, entry: u32, nodeid: u32, flags: u8, topic: &[u8]) {
-    print::field(b"W", number as usize);
-    print::text(b": ");
-    words::request(entry, nodeid, flags, topic);
+    words::request(number, entry, nodeid, flags, topic);
     let mut buffer = [0u8; 32776];
     writer::write(header(1, flags, nodeid), b"", topic, b"", &mut buffer);
     draw(entry, &mut buffer);

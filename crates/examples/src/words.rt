@@ -21,13 +21,24 @@ fn wishes(flags: u8) {
     }
 }
 
-// What a request asks for, and where it enters.
-pub(crate) fn request(entry: u32, nodeid: u32, flags: u8, topic: &[u8]) {
+// A case's number, what its request asks for, and where it enters.
+pub(crate) fn request(number: u32, entry: u32, nodeid: u32, flags: u8, topic: &[u8]) {
+    print::field(b"W", number as usize);
+    print::text(b": ");
     print::text(topic);
     target(nodeid);
     wishes(flags);
     print::field(b", from a client at rank ", entry as usize);
-    print::text(b"\n");
+    print::text(b"\n    request   ");
+}
+
+// What goes home after a request's last step.
+pub(crate) fn home(step: Stepped) {
+    match step {
+        Stepped::Replied(_) => print::text(b"    reply     "),
+        Stepped::Silenced(_) => print::text(b"    nobody replies; a response would go "),
+        _ => print::text(b"    response  "),
+    }
 }
 
 // An error's number, what it means, and where it was made.
