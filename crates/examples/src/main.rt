@@ -21,13 +21,18 @@ fn log_request(flags: u8) -> Header {
     }
 }
 
+// Prints what a frame is read as.
+fn show_reading(before: &[u8], frame: &[u8]) {
+    print::text(before);
+    print::reading(reader::read(frame));
+}
+
 // Prints a frame of n bytes, and what it is read as.
 fn show_frame(out: &[u8], n: usize) {
     if n <= out.len() {
         print::text(b"  ");
         print::bytes(&out[..n]);
-        print::text(b"\n  read back: ");
-        print::reading(reader::read(out));
+        show_reading(b"\n  read back: ", out);
     }
 }
 
@@ -100,21 +105,23 @@ fn show_sizes() {
     show_size(&payload[..254], &mut out);
     let start = show_size(&payload, &mut out);
     spoil(&mut out, start);
-    print::text(b"  the size FF 00 00 00 FE: ");
-    print::reading(reader::read(&out));
+    show_reading(b"  the size FF 00 00 00 FE: ", &out);
 }
 
-fn show_messages() {
-    print::text(b"A control message, type 2, status 3, user unknown\n");
-    let control = Header {
+fn control() -> Header {
+    Header {
         kind: 8,
         flags: 0,
         userid: 4294967295,
         rolemask: 0,
         first: 2,
         second: 3,
-    };
-    show_message(control, b"");
+    }
+}
+
+fn show_messages() {
+    print::text(b"A control message, type 2, status 3, user unknown\n");
+    show_message(control(), b"");
     print::text(b"A request for \"log\", any rank, matchtag 1, no routes\n");
     show_message(log_request(9), b"log");
 }

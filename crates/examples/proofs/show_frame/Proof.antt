@@ -19,17 +19,11 @@ slice-aggregate-bytes c = sym (length-take-le (c .before .before .before .before
 bytes-requires : tie.Need-bytes-requires
 bytes-requires c κs = search needs
 
-slice-aggregate-text-2 : tie.Need-slice-aggregate-text-2
-slice-aggregate-text-2 c = search needs
+slice-aggregate-show-reading : tie.Need-slice-aggregate-show-reading
+slice-aggregate-show-reading c = search needs
 
-text-requires-2 : tie.Need-text-requires-2
-text-requires-2 c κs = search needs
-
-read-requires : tie.Need-read-requires
-read-requires c κs = search needs
-
-reading-requires : tie.Need-reading-requires
-reading-requires c κs = search needs
+show-reading-requires : tie.Need-show-reading-requires
+show-reading-requires c κs = search needs
 
 returns : tie.Need-returns
 returns c = search needs
@@ -45,9 +39,7 @@ show-frame-spec =
     text-requires
     slice-aggregate-bytes
     bytes-requires
-    slice-aggregate-text-2
-    text-requires-2
-    read-requires
-    reading-requires
+    slice-aggregate-show-reading
+    show-reading-requires
     returns
     returns-2)
