@@ -30,7 +30,7 @@ use Rattle.path.proofs.Walks.{walks-are-right}
 use Rattle.routing.specs.Routed.{Tables}
 use Rattle.broker.specs.declared.Stepped.{Stepped}
 use Rattle.broker.specs.Step.{ValidTables}
-use Rattle.broker.proofs.Buffers.{frame-long}
+use Rattle.message.proofs.Frames.{frame-long}
 use Rattle.rows.specs.Steps.{stepRow, frameLength}
 use Rattle.lampreycoil.specs.Calls.{walkRecord}
 use Rattle.claims.specs.Demand3.{Enters, StepsOver, Goes, answerAt}
