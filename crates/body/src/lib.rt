@@ -22,10 +22,10 @@ pub struct Stretch {
 pub struct Frame {
     pub taken: usize,
     pub header: Header,
-    pub routes: usize,
-    pub route: usize,
     pub topic: Stretch,
     pub payload: Stretch,
+    pub routes: usize,
+    pub route: usize,
 }
 
 pub enum Reading {

@@ -20,11 +20,11 @@ pub row-length : (ns : List ℕ) → length (rowBytes ns) ≡ 4 * length ns
 row-length [] = refl
 row-length (n ∷ ns) = omega (arith, row-length ns)
 
-row-append : (ms ns : List ℕ) → rowBytes (ms ++ ns) ≡ rowBytes ms ++ rowBytes ns
+pub row-append : (ms ns : List ℕ) → rowBytes (ms ++ ns) ≡ rowBytes ms ++ rowBytes ns
 row-append [] ns = refl
 row-append (m ∷ ms) ns = rw (row-append ms ns) (sym (append-assoc (four m) (rowBytes ms) (rowBytes ns)))
 
-row-more : (ns : List ℕ) (i : ℕ) → i < length ns → rowBytes (take (i + 1) ns) ≡ rowBytes (take i ns) ++ four (getD ns i 0)
+pub row-more : (ns : List ℕ) (i : ℕ) → i < length ns → rowBytes (take (i + 1) ns) ≡ rowBytes (take i ns) ++ four (getD ns i 0)
 row-more ns i h = rw (add-one, take-suc ns i 0 h, row-append)
 
 -- the first i numbers of a row are laid

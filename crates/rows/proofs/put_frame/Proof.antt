@@ -22,17 +22,17 @@ cast-t11 c = search needs
 cast-t12 : tie.Need-cast-t12
 cast-t12 c = search needs
 
-slice-aggregate-put-row : tie.Need-slice-aggregate-put-row
-slice-aggregate-put-row c = search needs
+slice-aggregate-put-pairs : tie.Need-slice-aggregate-put-pairs
+slice-aggregate-put-pairs c = search needs
 
-put-row-requires : tie.Need-put-row-requires
-put-row-requires c κs = search needs
+put-pairs-requires : tie.Need-put-pairs-requires
+put-pairs-requires c κs = search needs
 
 same-length : tie.Need-same-length
 same-length c = search needs
 
 returns : tie.Need-returns
-returns c = c .before .before .put-row .ensures
+returns c = c .before .before .put-pairs .ensures
 
 pub put-frame-spec : {M : Type 1} → statement M
 put-frame-spec =
@@ -44,7 +44,7 @@ put-frame-spec =
     cast-t10
     cast-t11
     cast-t12
-    slice-aggregate-put-row
-    put-row-requires
+    slice-aggregate-put-pairs
+    put-pairs-requires
     same-length
     returns)
