@@ -24,7 +24,7 @@ extern const struct flag_name flag_names[FLAG_NAMES];
 const struct type_names *type_by_number(uint32_t number);
 const struct type_names *type_by_name(const char *name);
 
-/* When the refusal is given, in the words of paper 01. */
+/* When the refusal is given, in the words of docs/FORMAT.md. */
 const char *refusal_words(uint32_t number);
 
 #endif

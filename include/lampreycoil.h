@@ -1,7 +1,7 @@
 /*
- * lampreycoil.h: the C calls of Lampreycoil, which reads and writes framed Flux messages (RFC 3),
- * checks the tables of the brokers that pass them on, makes one broker's step, and plays a whole
- * walk.
+ * lampreycoil.h: the C calls of Lampreycoil, which reads and writes framed Flux messages (Flux RFC
+ * 3), checks the tables of the brokers that pass them on, makes one broker's step, and plays a
+ * whole walk.
  * The functions are in the archive liblampreycoil.a. Usable from C99 and from C++.
  *
  * How every call works
@@ -28,7 +28,7 @@
 extern "C" {
 #endif
 
-/* Why a call said no. The words are those of the scope document, paper 01. */
+/* Why a call said no. docs/FORMAT.md has these words as a table, and the orders. */
 enum lampreycoil_refusal {
     /* no refusal */
     LAMPREYCOIL_OK = 0,
