@@ -13,7 +13,7 @@ RATTLE := $(wildcard crates.txt) $(shell find crates -path crates/examples -prun
             -o \( -name '*.rt' -o -name '*.antt' \) -print 2>/dev/null)
 C_FILES := $(wildcard host/*.c)
 # What only one of the host programs has; the other C files are in both.
-FRAME_C := $(addprefix host/, flux_frame.c write_frame.c dump_frame.c)
+FRAME_C := $(wildcard host/flux_frame.c host/write_frame.c host/dump_*.c host/json.c)
 FLOOR_C := $(wildcard host/flux_floor.c host/floor_*.c)
 BOTH_C  := $(filter-out $(FRAME_C) $(FLOOR_C), $(C_FILES))
 H_FILES := $(wildcard host/*.h) include/lampreycoil.h

@@ -1,145 +1,138 @@
 #include <stdio.h>
+#include <string.h>
 
 #include "commands.h"
+#include "dump.h"
 #include "files.h"
-#include "lampreycoil.h"
-#include "names.h"
-#include "quoted.h"
+#include "program.h"
 
-/* How much of a payload is shown, and in rows of how many bytes. */
-enum { PAYLOAD_SHOWN = 64, ROW = 16 };
+struct dump_options {
+    const char *file; /* here and below: NULL where not given */
+    const char *payload_out;
+    int all;
+    int json;
+};
 
-/* The column of names, so that all values stand below each other. */
-#define NAME "%-14s"
-
-static void print_number(const char *name, uint32_t number, const char *note)
+static int take_file(struct dump_options *options, const char *word)
 {
-    printf(NAME "%lu%s%s\n", name, (unsigned long)number, *note == '\0' ? "" : " ", note);
+    if (options->file != NULL)
+        return trouble("dump takes one file, not '%s' too", word);
+    options->file = word;
+    return 0;
 }
 
-static void print_flags(uint32_t flags)
+static int take_words(struct dump_options *options, struct words *words)
 {
-    printf(NAME "%02lX", "flags", (unsigned long)flags);
-    for (size_t i = 0; i < FLAG_NAMES; i++) {
-        if ((flags & flag_names[i].bit) != 0)
-            printf(" %s", flag_names[i].name);
-    }
-    putchar('\n');
-}
+    enum word_kind kind;
+    int status = 0;
 
-static void print_header(const uint8_t *record)
-{
-    uint32_t type = lampreycoil_number(record, LAMPREYCOIL_READ_TYPE);
-    uint32_t userid = lampreycoil_number(record, LAMPREYCOIL_READ_USERID);
-    uint32_t first = lampreycoil_number(record, LAMPREYCOIL_READ_FIRST);
-    const struct type_names *names = type_by_number(type);
-    int any = type == LAMPREYCOIL_REQUEST && first == LAMPREYCOIL_NODEID_ANY;
-
-    print_number("type", type, names == NULL ? "unknown" : names->name);
-    print_flags(lampreycoil_number(record, LAMPREYCOIL_READ_FLAGS));
-    print_number("userid", userid, userid == LAMPREYCOIL_USERID_UNKNOWN ? "unknown" : "");
-    printf(NAME "%08lX\n", "rolemask",
-           (unsigned long)lampreycoil_number(record, LAMPREYCOIL_READ_ROLEMASK));
-    print_number(names == NULL ? "first field" : names->first, first, any ? "any" : "");
-    print_number(names == NULL ? "second field" : names->second,
-                 lampreycoil_number(record, LAMPREYCOIL_READ_SECOND), "");
-}
-
-static void print_routes(const uint8_t *frame, const uint8_t *record)
-{
-    uint32_t count = lampreycoil_number(record, LAMPREYCOIL_READ_ROUTES);
-    size_t start = lampreycoil_number(record, LAMPREYCOIL_READ_ROUTE_START);
-
-    print_number("routes", count, count > 1 ? "(top of the stack first)" : "");
-    for (uint32_t i = 0; i < count; i++) {
-        const uint8_t *route = frame + start + (size_t)i * LAMPREYCOIL_ROUTE_STEP;
-        printf("  %-12lu%.*s\n", (unsigned long)i, LAMPREYCOIL_ROUTE_SIZE - 1, (const char *)route);
-    }
-}
-
-static void print_topic(const uint8_t *frame, const uint8_t *record, uint32_t flags)
-{
-    size_t length = lampreycoil_number(record, LAMPREYCOIL_READ_TOPIC_LENGTH);
-
-    printf(NAME, "topic");
-    if ((flags & LAMPREYCOIL_TOPIC) == 0) {
-        puts("none");
-        return;
-    }
-    print_quoted(stdout, frame + lampreycoil_number(record, LAMPREYCOIL_READ_TOPIC_START), length);
-    printf(" (%lu bytes)\n", (unsigned long)length);
-}
-
-static void print_row(const uint8_t *bytes, size_t at, size_t length)
-{
-    printf("  %04lX        ", (unsigned long)at);
-    for (size_t i = 0; i < ROW; i++) {
-        if (i < length)
-            printf("%02X ", bytes[at + i]);
+    while (status == 0 && (kind = next_word(words)) != WORD_NONE) {
+        if (kind == WORD_PLAIN)
+            status = take_file(options, words->word);
+        else if (word_is(words, "--all"))
+            status = word_flag(words, &options->all);
+        else if (word_is(words, "--json"))
+            status = word_flag(words, &options->json);
+        else if (word_is(words, "--payload-out"))
+            status = word_once(words, &options->payload_out);
         else
-            printf("   ");
+            status = other_option(words, "dump");
     }
-    printf(" |");
-    for (size_t i = 0; i < length; i++)
-        putchar(printable(bytes[at + i]) ? bytes[at + i] : '.');
-    puts("|");
+    return status;
 }
 
-static void print_payload(const uint8_t *frame, const uint8_t *record, uint32_t flags)
+/* The payload alone on standard output leaves no place for the text. */
+static int payload_only(const struct dump_options *options)
 {
-    size_t start = lampreycoil_number(record, LAMPREYCOIL_READ_PAYLOAD_START);
-    size_t length = lampreycoil_number(record, LAMPREYCOIL_READ_PAYLOAD_LENGTH);
-    size_t shown = length < PAYLOAD_SHOWN ? length : PAYLOAD_SHOWN;
+    return options->payload_out != NULL && strcmp(options->payload_out, "-") == 0;
+}
 
-    if ((flags & LAMPREYCOIL_PAYLOAD) == 0) {
-        printf(NAME "none\n", "payload");
+static int read_options(struct dump_options *options, int count, char **words)
+{
+    struct words reading = {.words = words, .count = count};
+    int status = take_words(options, &reading);
+
+    if (status == 0 && options->json && options->all)
+        return trouble("--json has all bytes of the payload: leave out --all");
+    if (status == 0 && payload_only(options) && (options->json || options->all))
+        return trouble("--payload-out - leaves no place for %s",
+                       options->json ? "--json" : "--all");
+    return status;
+}
+
+uint32_t dumped(const struct dump *dump, size_t index)
+{
+    return lampreycoil_number(dump->record, index);
+}
+
+struct fields fields_at(const uint8_t *header)
+{
+    struct fields fields = {header[2],
+                            header[3],
+                            number_at(header + 4),
+                            number_at(header + 8),
+                            number_at(header + 12),
+                            number_at(header + 16)};
+
+    return fields;
+}
+
+size_t delimiter_start(const struct dump *dump)
+{
+    return FRONT + 1 + (size_t)dumped(dump, LAMPREYCOIL_READ_ROUTES) * LAMPREYCOIL_ROUTE_STEP;
+}
+
+size_t header_start(const struct dump *dump)
+{
+    return dumped(dump, LAMPREYCOIL_READ_TOOK) - HEADER;
+}
+
+static void judge(struct dump *dump)
+{
+    dump->refusal = lampreycoil_read(dump->bytes, dump->length, dump->record, sizeof dump->record);
+    if (dump->refusal == LAMPREYCOIL_OK)
         return;
-    }
-    printf(NAME "%lu bytes, from byte %lu\n", "payload", (unsigned long)length,
-           (unsigned long)start);
-    for (size_t at = 0; at < shown; at += ROW)
-        print_row(frame + start, at, shown - at < ROW ? shown - at : ROW);
-    if (shown < length)
-        printf("  %-12s%lu bytes more\n", "", (unsigned long)(length - shown));
+    if (dump->length >= FRONT)
+        split_frame(dump->bytes, dump->length, &dump->split);
+    explain(dump->refusal, dump->bytes, dump->length, &dump->split, dump->reason);
 }
 
-static void print_frame(const uint8_t *bytes, size_t length, const uint8_t *record)
+static int write_payload(const struct dump *dump, const char *name)
 {
-    uint32_t took = lampreycoil_number(record, LAMPREYCOIL_READ_TOOK);
-    uint32_t flags = lampreycoil_number(record, LAMPREYCOIL_READ_FLAGS);
-
-    print_number("frame", took, "bytes");
-    print_header(record);
-    print_routes(bytes, record);
-    print_topic(bytes, record, flags);
-    print_payload(bytes, record, flags);
-    if (took < length)
-        printf(NAME "%lu bytes, not part of the frame\n", "left behind",
-               (unsigned long)(length - took));
+    if ((dumped(dump, LAMPREYCOIL_READ_FLAGS) & LAMPREYCOIL_PAYLOAD) == 0)
+        return trouble("the frame has no payload to write to %s", name);
+    return write_all(name, dump->bytes + dumped(dump, LAMPREYCOIL_READ_PAYLOAD_START),
+                     dumped(dump, LAMPREYCOIL_READ_PAYLOAD_LENGTH));
 }
 
 int command_dump(int count, char **words)
 {
     static uint8_t bytes[INPUT_MAX + 1];
-    uint8_t record[LAMPREYCOIL_READ_RECORD];
-    size_t length;
+    static struct dump dump;
+    struct dump_options options = {NULL, NULL, 0, 0};
 
-    if (count > 0 && words[0][0] == '-' && words[0][1] != '\0')
-        return trouble("unknown option '%s' of dump (see flux_frame --help)", words[0]);
-    if (count > 1)
-        return trouble("dump takes one file, not %d", count);
-    int status = read_all(count == 0 ? NULL : words[0], bytes, &length);
+    int status = read_options(&options, count, words);
+    if (status == 0)
+        status = read_all(options.file, bytes, &dump.length);
     if (status != 0)
         return status;
 
-    uint32_t refusal = lampreycoil_read(bytes, length, record, sizeof record);
-    if (refusal != LAMPREYCOIL_OK) {
-        print_number("input", (uint32_t)length, "bytes");
-        printf(NAME "%lu: %s\n", "refused", (unsigned long)refusal, refusal_words(refusal));
-    } else {
-        print_frame(bytes, length, record);
+    dump.bytes = bytes;
+    dump.all = options.all;
+    judge(&dump);
+    if (dump.refusal == LAMPREYCOIL_OK && options.payload_out != NULL) {
+        status = write_payload(&dump, options.payload_out);
+        if (status != 0 || payload_only(&options))
+            return status;
     }
-    if (flush_output() != 0)
-        return EXIT_TROUBLE;
-    return refusal == LAMPREYCOIL_OK ? EXIT_DONE : EXIT_REFUSED;
+    /* A refused frame has no payload, so the reason is all that there is for anybody. */
+    if (payload_only(&options))
+        trouble("refused, %lu: %s", (unsigned long)dump.refusal, dump.reason);
+    else if (options.json)
+        show_json(&dump);
+    else
+        show_text(&dump);
+    if ((status = flush_output()) != 0)
+        return status;
+    return dump.refusal == LAMPREYCOIL_OK ? EXIT_DONE : EXIT_REFUSED;
 }

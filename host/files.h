@@ -5,16 +5,19 @@
 #include <stddef.h>
 #include <stdint.h>
 
-/* What the program exits with. */
-enum { EXIT_DONE = 0, EXIT_REFUSED = 1, EXIT_TROUBLE = 2, EXIT_DIFFERS = 3 };
+/*
+ * What the program exits with. EXIT_SHOWN is for a command that showed help or version in place of
+ * doing anything: the program exits with EXIT_DONE.
+ */
+enum { EXIT_SHOWN = -1, EXIT_DONE = 0, EXIT_REFUSED = 1, EXIT_TROUBLE = 2, EXIT_DIFFERS = 3 };
 
 /* Far above the largest frame, so that the library and not this program judges a long input. */
 enum { INPUT_MAX = 1048576 };
 
-/* The program's own name, which each program gives. */
-extern const char program[];
-
-/* Prints the program's name and the message to standard error, and returns EXIT_TROUBLE. */
+/*
+ * Prints the program's name and the message to standard error, and returns EXIT_TROUBLE. What a
+ * terminal would obey is printed as \xNN.
+ */
 int trouble(const char *format, ...);
 
 /*
@@ -23,10 +26,13 @@ int trouble(const char *format, ...);
  */
 int read_all(const char *name, uint8_t *bytes, size_t *length);
 
-/* Sees that all of standard output was written. Returns 0, or has said what is wrong. */
-int flush_output(void);
-
-/* Writes the file, or standard output if name is NULL. Returns 0, or has said what is wrong. */
+/*
+ * Writes the file, or standard output if name is NULL or "-"; not to a terminal. Returns 0, or has
+ * said what is wrong.
+ */
 int write_all(const char *name, const uint8_t *bytes, size_t length);
+
+/* Ends the text on standard output. Returns 0, or has said what is wrong. */
+int flush_output(void);
 
 #endif

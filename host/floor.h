@@ -69,8 +69,8 @@ typedef void (*rank_note)(const struct floor *floor, uint32_t rank, const void *
 /* Draws the tree; the notes stand below each other, behind the head's words. */
 void draw_tree(const struct floor *floor, const char *head, rank_note note, const void *more);
 
-/* The names of a rank's services, with a space between them. Returns how many characters. */
-size_t print_services(const struct floor *floor, uint32_t rank);
+/* The names of a rank's services, with a space between them. */
+void print_services(const struct floor *floor, uint32_t rank);
 
 /* Whether the rank has any service. */
 int has_services(const struct floor *floor, uint32_t rank);

@@ -10,14 +10,16 @@ enum { SAID = 400 };
 void broken(FILE *stream, const struct floor *floor, int line, uint32_t refusal, const char *format,
             ...)
 {
-    char words[SAID], plain[SAID];
+    char words[SAID];
     va_list values;
 
     va_start(values, format);
     vsnprintf(words, sizeof words, format, values);
     va_end(values);
-    fprintf(stream, "%s:%d: refused, %lu: %s\n", floor->file, line, (unsigned long)refusal,
-            plain_text(plain, sizeof plain, words));
+    print_plain(stream, floor->file);
+    fprintf(stream, ":%d: refused, %lu: ", line, (unsigned long)refusal);
+    print_plain(stream, words);
+    putc('\n', stream);
 }
 
 /* The library's word decides; the rules that were found broken only say why. */
@@ -28,8 +30,9 @@ static int agree(const struct floor *floor, FILE *stream, uint32_t refusal, uint
         return 0;
     if (refusal == number && rules > 0)
         return EXIT_REFUSED;
-    fprintf(stream, "%s: THE CHECKS DIFFER: the library says %lu, and %d broken rules were found\n",
-            floor->file, (unsigned long)refusal, rules);
+    print_plain(stream, floor->file);
+    fprintf(stream, ": THE CHECKS DIFFER: the library says %lu, and %d broken rules were found\n",
+            (unsigned long)refusal, rules);
     return EXIT_DIFFERS;
 }
 

@@ -4,31 +4,28 @@
 
 #include "files.h"
 #include "floor.h"
-#include "words.h"
+#include "program.h"
+#include "quoted.h"
 
 static struct floor floor_read_in;
 
-/* The one file of a command without options. Returns NULL if it has said what is wrong. */
-static const char *one_floor(const char *command, int count, char **words)
+/* The one file of a command without options, to *name. Returns 0, or as other_option. */
+static int one_floor(const char *command, int count, char **words, const char **name)
 {
     struct words reading = {.words = words, .count = count};
-    const char *name = NULL;
     enum word_kind kind;
 
+    *name = NULL;
     while ((kind = next_word(&reading)) != WORD_NONE) {
-        if (kind == WORD_OPTION) {
-            trouble("unknown option '%s' of %s (see %s --help)", reading.name, command, program);
-            return NULL;
-        }
-        if (name != NULL) {
-            trouble("%s takes one floor, and '%s' is one more", command, reading.word);
-            return NULL;
-        }
-        name = reading.word;
+        if (kind == WORD_OPTION)
+            return other_option(&reading, command);
+        if (*name != NULL)
+            return trouble("%s takes one floor, and '%s' is one more", command, reading.word);
+        *name = reading.word;
     }
-    if (name == NULL)
-        trouble("%s needs the file of a floor (see %s --help)", command, program);
-    return name;
+    if (*name == NULL)
+        return trouble("%s needs the file of a floor (see %s --help)", command, program);
+    return 0;
 }
 
 static unsigned tree_depth(const struct floor *floor)
@@ -42,18 +39,20 @@ static unsigned tree_depth(const struct floor *floor)
 
 int command_check(int count, char **words)
 {
-    const char *name = one_floor("check", count, words);
     struct floor *floor = &floor_read_in;
+    const char *name;
+    int status = one_floor("check", count, words, &name);
 
-    if (name == NULL)
-        return EXIT_TROUBLE;
-    int status = read_floor(floor, name);
+    if (status == 0)
+        status = read_floor(floor, name);
     if (status != 0)
         return status;
     status = check_floor(floor, stdout);
-    if (status == 0)
-        printf("%s: a valid floor: %lu ranks, depth %u, %lu services\n", floor->file,
-               (unsigned long)floor->ranks, tree_depth(floor), (unsigned long)floor->services);
+    if (status == 0) {
+        print_plain(stdout, floor->file);
+        printf(": a valid floor: %lu ranks, depth %u, %lu services\n", (unsigned long)floor->ranks,
+               tree_depth(floor), (unsigned long)floor->services);
+    }
     return flush_output() == 0 ? status : EXIT_TROUBLE;
 }
 
@@ -68,12 +67,12 @@ static void note_all(const struct floor *floor, uint32_t rank, const void *more)
 
 int command_show(int count, char **words)
 {
-    const char *name = one_floor("show", count, words);
     struct floor *floor = &floor_read_in;
+    const char *name;
+    int status = one_floor("show", count, words, &name);
 
-    if (name == NULL)
-        return EXIT_TROUBLE;
-    int status = read_valid_floor(floor, name);
+    if (status == 0)
+        status = read_valid_floor(floor, name);
     if (status != 0)
         return status;
     draw_tree(floor, "identity                              services", note_all, NULL);

@@ -2,7 +2,6 @@
 
 #include "files.h"
 #include "floor.h"
-#include "quoted.h"
 #include "words.h"
 
 static const char blanks[] = " \t\r";
@@ -23,12 +22,9 @@ static char *cut_word(char **line)
 
 static int wrong_line(const struct floor *floor, int line, const char *what, const char *word)
 {
-    char plain[100];
-
     if (word == NULL)
         return trouble("%s:%d: %s", floor->file, line, what);
-    return trouble("%s:%d: %s, not '%s'", floor->file, line, what,
-                   plain_text(plain, sizeof plain, word));
+    return trouble("%s:%d: %s, not '%s'", floor->file, line, what, word);
 }
 
 static int take_service(struct floor *floor, int line, uint32_t rank, const char *name)

@@ -14,20 +14,17 @@ struct drawing {
     char prefix[PREFIX_ROOM]; /* the lines that go on to ranks further below */
 };
 
-size_t print_services(const struct floor *floor, uint32_t rank)
+void print_services(const struct floor *floor, uint32_t rank)
 {
-    size_t characters = 0;
+    const char *between = "";
 
     for (size_t i = 0; i < floor->services; i++) {
-        const char *name = floor->service[i].name;
-
         if (floor->service[i].rank != rank)
             continue;
-        if (characters != 0)
-            characters += (size_t)printf(" ");
-        characters += print_plain(stdout, (const uint8_t *)name, strlen(name));
+        printf("%s", between);
+        print_plain(stdout, floor->service[i].name);
+        between = " ";
     }
-    return characters;
 }
 
 int has_services(const struct floor *floor, uint32_t rank)

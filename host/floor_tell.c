@@ -92,6 +92,8 @@ static void tell_forward(const struct floor *floor, const struct seen *seen, uin
 
 static void tell_error(const struct seen *seen, uint32_t from_client, uint32_t error)
 {
+    const struct error_name *name = error_by_number(error);
+
     if (error == LAMPREYCOIL_NO_RANK) {
         printf("rank %lu is not on this floor", (unsigned long)seen->first);
     } else if (goes_up(seen)) {
@@ -100,8 +102,7 @@ static void tell_error(const struct seen *seen, uint32_t from_client, uint32_t e
     } else {
         tell_service(seen, "it is the request's rank, and has no service");
     }
-    printf(" (error %lu, %s)\n", (unsigned long)error,
-           error == LAMPREYCOIL_NO_RANK ? "EHOSTUNREACH" : "ENOSYS");
+    printf(" (error %lu, %s)\n", (unsigned long)error, name == NULL ? "unknown" : name->name);
 }
 
 static void tell_home(const struct seen *seen)

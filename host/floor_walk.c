@@ -6,7 +6,7 @@
 #include "floor_tell.h"
 #include "make_frame.h"
 #include "names.h"
-#include "words.h"
+#include "program.h"
 
 /* More steps than any walk makes: a response has 64 routes, a request crosses 32 links. */
 enum { STEPS_MOST = 100 };
@@ -222,8 +222,7 @@ static int take_walk_words(struct walk_words *asked, struct words *words)
         else
             status = take_write_option(&asked->message, words);
         if (status == NO_SUCH_OPTION)
-            return trouble("unknown option '%s' of %s (see %s --help)", words->name, asked->command,
-                           program);
+            status = other_option(words, asked->command);
     }
     return status;
 }
@@ -242,6 +241,8 @@ static int check_walk_words(struct walk_words *asked, uint32_t *rank)
         return trouble("%s needs a frame, or the options of a message", asked->command);
     if (asked->frame != NULL && strcmp(asked->frame, "-") == 0 && strcmp(asked->floor, "-") == 0)
         return trouble("only one file can be standard input");
+    if (asked->output != NULL && strcmp(asked->output, "-") == 0)
+        return trouble("-o takes a file: the walk is shown on standard output");
     if (asked->frame != NULL)
         return 0;
     default_type(&asked->message, asked->type);

@@ -2,16 +2,14 @@
  * flux_floor: checks and shows a floor, a tree of brokers with their services, and plays the walk
  * of a message over it, step by step. The steps are those of the library that the brokers call.
  */
-#include <stdio.h>
-#include <string.h>
+#include <stddef.h>
 
-#include "files.h"
 #include "floor_commands.h"
-#include "version.h"
+#include "program.h"
 
 const char program[] = "flux_floor";
 
-static const char usage[] =
+const char usage[] =
     "flux_floor: checks and shows a floor of brokers, and plays walks over it\n"
     "\n"
     "  flux_floor check FLOOR      say whether the floor is valid, and if not, why\n"
@@ -39,39 +37,8 @@ static const char usage[] =
     "number and words are printed; 2 wrong usage, or a file that cannot be used; 3 two\n"
     "calls of the library differ, which must not be: please report it.\n";
 
-static int is_help(const char *word)
-{
-    return strcmp(word, "--help") == 0 || strcmp(word, "-h") == 0;
-}
-
-static int show(const char *text)
-{
-    fputs(text, stdout);
-    return flush_output();
-}
-
-int main(int argc, char **argv)
-{
-    static const struct {
-        const char *name;
-        int (*run)(int count, char **words);
-    } commands[] = {{"check", command_check},
-                    {"show", command_show},
-                    {"walk", command_walk},
-                    {"home", command_home}};
-
-    if (argc < 2) {
-        fputs(usage, stderr);
-        return EXIT_TROUBLE;
-    }
-    if (is_help(argv[1]) || (argc == 3 && is_help(argv[2])))
-        return show(usage);
-    if (strcmp(argv[1], "--version") == 0 && argc == 2)
-        return show("flux_floor " HOST_VERSION "\n");
-    for (size_t i = 0; i < sizeof commands / sizeof commands[0]; i++) {
-        if (strcmp(argv[1], commands[i].name) == 0)
-            return commands[i].run(argc - 2, argv + 2);
-    }
-    return trouble("unknown command '%s': check, show, walk or home (see flux_floor --help)",
-                   argv[1]);
-}
+const struct command commands[] = {{"check", command_check},
+                                   {"show", command_show},
+                                   {"walk", command_walk},
+                                   {"home", command_home},
+                                   {NULL, NULL}};

@@ -2,20 +2,31 @@
  * flux_frame: writes a Flux message as a frame, and shows what a captured frame holds. A small
  * example of a C program over Lampreycoil.
  */
-#include <stdio.h>
-#include <string.h>
+#include <stddef.h>
 
 #include "commands.h"
-#include "files.h"
+#include "program.h"
 
 const char program[] = "flux_frame";
 
-static const char usage[] =
+const char usage[] =
     "flux_frame: writes and reads framed Flux messages (RFC 3)\n"
     "\n"
-    "  flux_frame write OPTIONS    write a message as a frame to standard output\n"
-    "  flux_frame dump [FILE]      show the frame in FILE, or on standard input\n"
-    "  flux_frame --help           show this text\n"
+    "  flux_frame write OPTIONS         write a message as a frame to standard output\n"
+    "  flux_frame dump [OPTIONS] [FILE] show the frame in FILE, or on standard input\n"
+    "  flux_frame --help                show this text\n"
+    "  flux_frame --version             show the version\n"
+    "\n"
+    "An option's value may follow as the next word, or as in --topic=log. A word -- ends\n"
+    "the options. An option is given once, unless it says something else here.\n"
+    "\n"
+    "Options of dump:\n"
+    "  --all                show all bytes of the payload, and not 64 of them\n"
+    "  --payload-out FILE   write the payload to FILE; - is standard output, where\n"
+    "                       nothing else is then shown\n"
+    "  --json               one JSON object, of ASCII characters alone, with all bytes\n"
+    "                       of the parts in hexadecimal\n"
+    "Of a frame that is refused, dump shows what can be said of it.\n"
     "\n"
     "Options of write; a number is decimal, or hexadecimal behind 0x:\n"
     "  --type TYPE          request, response, event or control; always needed\n"
@@ -35,33 +46,15 @@ static const char usage[] =
     "  --route UUID         a route; repeat it for more, the top of the stack first\n"
     "  --noresponse --upstream --private --streaming\n"
     "                       set the flag\n"
-    "  -o FILE              write to FILE and not to standard output\n"
+    "  -o FILE              write to FILE and not to standard output; a terminal gets\n"
+    "                       no frame\n"
     "The flags topic, payload and route follow from the parts given; requests and\n"
     "responses always have the flag route. To write what these options would not:\n"
     "  --flags HEX          the whole flags byte, in place of what the options say\n"
     "  --type-number N      the type byte, in place of --type\n"
     "\n"
     "Exit status: 0 done; 1 the library refused the message or the frame, and its\n"
-    "number and words are printed; 2 wrong usage, or a file that cannot be used.\n";
+    "number and words are printed; 2 wrong usage, or a file that cannot be used\n"
+    "or an output that cannot be written.\n";
 
-static int is_help(const char *word)
-{
-    return strcmp(word, "--help") == 0 || strcmp(word, "-h") == 0;
-}
-
-int main(int argc, char **argv)
-{
-    if (argc < 2) {
-        fputs(usage, stderr);
-        return EXIT_TROUBLE;
-    }
-    if (is_help(argv[1]) || (argc == 3 && is_help(argv[2]))) {
-        fputs(usage, stdout);
-        return EXIT_DONE;
-    }
-    if (strcmp(argv[1], "write") == 0)
-        return command_write(argc - 2, argv + 2);
-    if (strcmp(argv[1], "dump") == 0)
-        return command_dump(argc - 2, argv + 2);
-    return trouble("unknown command '%s': write or dump (see flux_frame --help)", argv[1]);
-}
+const struct command commands[] = {{"write", command_write}, {"dump", command_dump}, {NULL, NULL}};

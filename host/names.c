@@ -20,6 +20,8 @@ const struct flag_name flag_names[FLAG_NAMES] = {
     {LAMPREYCOIL_STREAMING, "streaming"},
 };
 
+const struct role_name role_names[ROLE_NAMES] = {{1, "owner"}, {2, "user"}, {4, "local"}};
+
 static const char *const words[] = {
     [LAMPREYCOIL_OK] = "no refusal",
     [LAMPREYCOIL_INPUT_SHORT] = "fewer than 8 bytes, or fewer than 8 plus the body length",

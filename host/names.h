@@ -20,6 +20,23 @@ struct flag_name {
 enum { FLAG_NAMES = 7 };
 extern const struct flag_name flag_names[FLAG_NAMES];
 
+/* A bit of the rolemask, as Flux RFC 12 has it. */
+struct role_name {
+    uint32_t bit;
+    const char *name;
+};
+
+enum { ROLE_NAMES = 3 };
+extern const struct role_name role_names[ROLE_NAMES];
+
+struct error_name {
+    const char *name;
+    const char *words;
+};
+
+/* NULL where Linux has no such error. */
+const struct error_name *error_by_number(uint32_t number);
+
 /* NULL where there is no such type. */
 const struct type_names *type_by_number(uint32_t number);
 const struct type_names *type_by_name(const char *name);

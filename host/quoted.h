@@ -9,13 +9,10 @@
 /* Whether the byte is shown as it is. */
 int printable(uint8_t byte);
 
-/* The bytes, those that a terminal would not show as they are in hex; returns the characters. */
-size_t print_plain(FILE *stream, const uint8_t *bytes, size_t length);
+/* The text, with the bytes in hex that a terminal would not show as they are. */
+void print_plain(FILE *stream, const char *text);
 
-/* The text in the same form, in so much room; what has none is left out. Returns room. */
-const char *plain_text(char *room, size_t size, const char *text);
-
-/* The same between quotes, with a quote inside of them marked. */
+/* Bytes in the same form between quotes, with a quote inside of them marked. */
 void print_quoted(FILE *stream, const uint8_t *bytes, size_t length);
 
 #endif

@@ -51,6 +51,14 @@ int word_alone(const struct words *words)
     return words->attached == NULL ? 0 : trouble("%s takes no value", words->name);
 }
 
+int word_flag(const struct words *words, int *flag)
+{
+    if (*flag)
+        return trouble("%s is given twice", words->name);
+    *flag = 1;
+    return word_alone(words);
+}
+
 int word_once(struct words *words, const char **value)
 {
     if (*value != NULL)

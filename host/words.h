@@ -29,6 +29,9 @@ const char *word_value(struct words *words);
 /* Returns 0 if the option taken has no =VALUE, or has said what is wrong. */
 int word_alone(const struct words *words);
 
+/* The option taken, which has no value and may come once, to *flag; returns as below. */
+int word_flag(const struct words *words, int *flag);
+
 /* The value of an option that may come once, to *value; returns 0, or has said what is wrong. */
 int word_once(struct words *words, const char **value);
 

@@ -2,7 +2,7 @@
 #include "files.h"
 #include "lampreycoil.h"
 #include "make_frame.h"
-#include "words.h"
+#include "program.h"
 #include "write_options.h"
 
 static int take_words(struct words *words, struct write_options *options, const char **output)
@@ -19,7 +19,7 @@ static int take_words(struct words *words, struct write_options *options, const 
         else
             status = take_write_option(options, words);
         if (status == NO_SUCH_OPTION)
-            return trouble("unknown option '%s' of write (see %s --help)", words->name, program);
+            status = other_option(words, "write");
         if (status != 0)
             return status;
     }

@@ -1,0 +1,22 @@
+/* Why the library refused a frame, more closely than the number's words: where, and by what. */
+#ifndef HOST_DUMP_EXPLAIN_H
+#define HOST_DUMP_EXPLAIN_H
+
+#include <stddef.h>
+#include <stdint.h>
+
+#include "dump_split.h"
+
+enum { REASON_ROOM = 200 };
+
+/*
+ * Puts the reason for the refusal, one line of ASCII, into reason; an empty one where there is no
+ * more to say. split is the frame's; it is not looked at for fewer than FRONT bytes.
+ */
+void explain(uint32_t refusal, const uint8_t *bytes, size_t length, const struct split *split,
+             char reason[REASON_ROOM]);
+
+/* How many bytes the frame takes, as far as is known: FRONT, or FRONT and the body. */
+unsigned long long bytes_needed(size_t length, const struct split *split);
+
+#endif

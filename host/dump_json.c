@@ -1,0 +1,190 @@
+/* A frame as one JSON object, for machines. A part that is not there is null. */
+#include <stdio.h>
+#include <string.h>
+
+#include "dump.h"
+#include "json.h"
+#include "names.h"
+
+static void put_number(const char *name, unsigned long long number)
+{
+    json_name(name);
+    json_number(number);
+}
+
+static void put_text(const char *name, const char *text)
+{
+    json_name(name);
+    json_text(text);
+}
+
+/* What has no name is null. */
+static void put_name(const char *name)
+{
+    if (*name == '\0')
+        json_null();
+    else
+        json_text(name);
+}
+
+/* Where a part lies and what it holds, inside an object. */
+static void put_stretch(const struct dump *dump, size_t start, size_t length)
+{
+    put_number("start", start);
+    put_number("length", length);
+    json_name("hex");
+    json_hex(dump->bytes + start, length);
+}
+
+static void put_flags(uint8_t flags)
+{
+    put_number("flags", flags);
+    json_name("flag_names");
+    json_open('[');
+    for (size_t i = 0; i < FLAG_NAMES; i++) {
+        if ((flags & flag_names[i].bit) != 0)
+            json_text(flag_names[i].name);
+    }
+    json_close(']');
+}
+
+static void put_roles(uint32_t rolemask)
+{
+    put_number("rolemask", rolemask);
+    json_name("role_names");
+    json_open('[');
+    for (size_t i = 0; i < ROLE_NAMES; i++) {
+        if ((rolemask & role_names[i].bit) != 0)
+            json_text(role_names[i].name);
+    }
+    json_close(']');
+}
+
+/* The fields go by their names for the type; those of no type that there is have none. */
+static void put_fields(const uint8_t *header)
+{
+    struct fields fields = fields_at(header);
+    const struct type_names *names = type_by_number(fields.type);
+    const struct error_name *error = error_by_number(fields.first);
+
+    put_number("type", fields.type);
+    json_name("type_name");
+    put_name(names == NULL ? "" : names->name);
+    put_flags(fields.flags);
+    put_number("userid", fields.userid);
+    put_roles(fields.rolemask);
+    put_number("first", fields.first);
+    put_number("second", fields.second);
+    if (names != NULL) {
+        put_text("first_name", names->first);
+        put_text("second_name", names->second);
+    }
+    if (fields.type == LAMPREYCOIL_RESPONSE && error != NULL)
+        put_text("error_name", error->name);
+}
+
+static void put_routes(const struct dump *dump)
+{
+    size_t start = dumped(dump, LAMPREYCOIL_READ_ROUTE_START);
+    uint32_t count = dumped(dump, LAMPREYCOIL_READ_ROUTES);
+
+    json_name("routes");
+    json_open('[');
+    for (uint32_t i = 0; i < count; i++, start += LAMPREYCOIL_ROUTE_STEP) {
+        json_open('{');
+        put_number("start", start);
+        put_number("length", LAMPREYCOIL_ROUTE_SIZE);
+        json_name("text");
+        json_bytes(dump->bytes + start, LAMPREYCOIL_ROUTE_SIZE - 1);
+        json_close('}');
+    }
+    json_close(']');
+}
+
+/* A part of an accepted frame; the topic's also as text. */
+static void put_named(const struct dump *dump, const char *name, uint8_t flag, size_t start,
+                      size_t length)
+{
+    json_name(name);
+    if ((dumped(dump, LAMPREYCOIL_READ_FLAGS) & flag) != flag) {
+        json_null();
+        return;
+    }
+    json_open('{');
+    put_stretch(dump, start, length);
+    if (flag == LAMPREYCOIL_TOPIC) {
+        json_name("text");
+        json_bytes(dump->bytes + start, length);
+    }
+    json_close('}');
+}
+
+static void put_accepted(const struct dump *dump)
+{
+    size_t took = dumped(dump, LAMPREYCOIL_READ_TOOK);
+
+    put_number("frame", took);
+    put_number("behind", dump->length - took);
+    put_fields(dump->bytes + header_start(dump));
+    put_routes(dump);
+    put_named(dump, "delimiter", LAMPREYCOIL_ROUTE, delimiter_start(dump), 0);
+    put_named(dump, "topic", LAMPREYCOIL_TOPIC, dumped(dump, LAMPREYCOIL_READ_TOPIC_START),
+              dumped(dump, LAMPREYCOIL_READ_TOPIC_LENGTH));
+    put_named(dump, "payload", LAMPREYCOIL_PAYLOAD, dumped(dump, LAMPREYCOIL_READ_PAYLOAD_START),
+              dumped(dump, LAMPREYCOIL_READ_PAYLOAD_LENGTH));
+    put_named(dump, "header", 0, header_start(dump), HEADER);
+}
+
+static void put_split(const struct dump *dump)
+{
+    const struct split *split = &dump->split;
+
+    put_number("body", split->body);
+    if (split->header != 0) {
+        put_number("header_start", split->header);
+        json_name("header_is_last_part");
+        json_bool(split->header_last);
+        put_fields(dump->bytes + split->header);
+    }
+    json_name("whole");
+    json_bool(split->end == SPLIT_WHOLE);
+    json_name("parts");
+    json_open('[');
+    for (size_t i = 0; i < split->count; i++) {
+        json_open('{');
+        json_name("role");
+        put_name(role_name(split->parts[i].role));
+        put_stretch(dump, split->parts[i].start, split->parts[i].length);
+        json_close('}');
+    }
+    json_close(']');
+}
+
+static void put_refused(const struct dump *dump)
+{
+    size_t front = dump->length < FRONT ? dump->length : FRONT;
+
+    put_number("refusal", dump->refusal);
+    put_text("words", refusal_words(dump->refusal));
+    put_text("because", dump->reason);
+    json_name("front");
+    json_hex(dump->bytes, front);
+    if (dump->refusal == LAMPREYCOIL_INPUT_SHORT)
+        put_number("needed", bytes_needed(dump->length, &dump->split));
+    if (dump->length >= FRONT && dump->refusal != LAMPREYCOIL_START_WRONG)
+        put_split(dump);
+}
+
+void show_json(const struct dump *dump)
+{
+    json_open('{');
+    json_name("accepted");
+    json_bool(dump->refusal == LAMPREYCOIL_OK);
+    put_number("input", dump->length);
+    if (dump->refusal == LAMPREYCOIL_OK)
+        put_accepted(dump);
+    else
+        put_refused(dump);
+    json_close('}');
+    putchar('\n');
+}

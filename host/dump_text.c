@@ -1,0 +1,210 @@
+/* A frame as text for a person. Nothing that a terminal would obey is sent to it. */
+#include <stdio.h>
+
+#include "dump.h"
+#include "names.h"
+#include "quoted.h"
+
+/* How much of a payload is shown, how much of a refused frame's part, and bytes in a row. */
+enum { PAYLOAD_SHOWN = 64, PART_SHOWN = 40, ROW = 16 };
+
+/* The column of names, so that all values stand below each other. */
+#define NAME "%-14s"
+
+static void print_number(const char *name, uint32_t number, const char *note)
+{
+    printf(NAME "%lu%s%s\n", name, (unsigned long)number, *note == '\0' ? "" : " ", note);
+}
+
+/* "1 byte", and for any other number "bytes". */
+static const char *counted(size_t count)
+{
+    return count == 1 ? "byte" : "bytes";
+}
+
+static void print_place(const char *name, size_t length, size_t start)
+{
+    printf(NAME "%zu %s, from byte %zu\n", name, length, counted(length), start);
+}
+
+static void print_flags(uint8_t flags)
+{
+    printf(NAME "%02X", "flags", flags);
+    for (size_t i = 0; i < FLAG_NAMES; i++) {
+        if ((flags & flag_names[i].bit) != 0)
+            printf(" %s", flag_names[i].name);
+    }
+    putchar('\n');
+}
+
+static void print_roles(uint32_t rolemask)
+{
+    uint32_t nameless = rolemask;
+
+    printf(NAME "%08lX", "rolemask", (unsigned long)rolemask);
+    for (size_t i = 0; i < ROLE_NAMES; i++) {
+        if ((rolemask & role_names[i].bit) != 0)
+            printf(" %s", role_names[i].name);
+        nameless &= ~role_names[i].bit;
+    }
+    if (nameless != 0)
+        printf(" nameless:%08lX", (unsigned long)nameless);
+    putchar('\n');
+}
+
+static void print_first(uint8_t type, const char *name, uint32_t first)
+{
+    const struct error_name *error = error_by_number(first);
+
+    if (type == LAMPREYCOIL_REQUEST && first == LAMPREYCOIL_NODEID_ANY)
+        print_number(name, first, "any");
+    else if (type == LAMPREYCOIL_RESPONSE && error != NULL)
+        printf(NAME "%lu %s, %s\n", name, (unsigned long)first, error->name, error->words);
+    else
+        print_number(name, first, "");
+}
+
+static void print_fields(const uint8_t *header)
+{
+    struct fields fields = fields_at(header);
+    const struct type_names *names = type_by_number(fields.type);
+    int unknown = fields.userid == LAMPREYCOIL_USERID_UNKNOWN;
+
+    print_number("type", fields.type, names == NULL ? "unknown" : names->name);
+    print_flags(fields.flags);
+    print_number("userid", fields.userid, unknown ? "unknown" : "");
+    print_roles(fields.rolemask);
+    print_first(fields.type, names == NULL ? "first field" : names->first, fields.first);
+    print_number(names == NULL ? "second field" : names->second, fields.second, "");
+}
+
+static void print_routes(const struct dump *dump)
+{
+    uint32_t count = dumped(dump, LAMPREYCOIL_READ_ROUTES);
+    size_t start = dumped(dump, LAMPREYCOIL_READ_ROUTE_START);
+
+    print_number("routes", count, count > 1 ? "(top of the stack first)" : "");
+    for (uint32_t i = 0; i < count; i++, start += LAMPREYCOIL_ROUTE_STEP)
+        printf("  %-12lu%.*s, from byte %zu\n", (unsigned long)i, LAMPREYCOIL_ROUTE_SIZE - 1,
+               (const char *)dump->bytes + start, start);
+}
+
+static void print_topic(const struct dump *dump)
+{
+    size_t start = dumped(dump, LAMPREYCOIL_READ_TOPIC_START);
+    size_t length = dumped(dump, LAMPREYCOIL_READ_TOPIC_LENGTH);
+
+    printf(NAME, "topic");
+    if ((dumped(dump, LAMPREYCOIL_READ_FLAGS) & LAMPREYCOIL_TOPIC) == 0) {
+        puts("none");
+        return;
+    }
+    print_quoted(stdout, dump->bytes + start, length);
+    printf(" (%zu %s), from byte %zu\n", length, counted(length), start);
+}
+
+static void print_row(const uint8_t *bytes, size_t at, size_t length)
+{
+    printf("  %04zX        ", at);
+    for (size_t i = 0; i < ROW; i++) {
+        if (i < length)
+            printf("%02X ", bytes[at + i]);
+        else
+            printf("   ");
+    }
+    printf(" |");
+    for (size_t i = 0; i < length; i++)
+        putchar(printable(bytes[at + i]) ? bytes[at + i] : '.');
+    puts("|");
+}
+
+static void print_payload(const struct dump *dump)
+{
+    size_t start = dumped(dump, LAMPREYCOIL_READ_PAYLOAD_START);
+    size_t length = dumped(dump, LAMPREYCOIL_READ_PAYLOAD_LENGTH);
+    size_t shown = dump->all || length < PAYLOAD_SHOWN ? length : PAYLOAD_SHOWN;
+
+    if ((dumped(dump, LAMPREYCOIL_READ_FLAGS) & LAMPREYCOIL_PAYLOAD) == 0) {
+        printf(NAME "none\n", "payload");
+        return;
+    }
+    print_place("payload", length, start);
+    for (size_t at = 0; at < shown; at += ROW)
+        print_row(dump->bytes + start, at, shown - at < ROW ? shown - at : ROW);
+    if (shown < length)
+        printf("  %-12s%zu %s more (--all shows all)\n", "", length - shown,
+               counted(length - shown));
+}
+
+static void print_accepted(const struct dump *dump)
+{
+    size_t took = dumped(dump, LAMPREYCOIL_READ_TOOK);
+
+    printf(NAME "%zu bytes\n", "frame", took);
+    print_fields(dump->bytes + header_start(dump));
+    print_routes(dump);
+    if ((dumped(dump, LAMPREYCOIL_READ_FLAGS) & LAMPREYCOIL_ROUTE) != 0)
+        print_place("delimiter", 0, delimiter_start(dump));
+    print_topic(dump);
+    print_payload(dump);
+    print_place("header", HEADER, header_start(dump));
+    if (took < dump->length)
+        printf(NAME "%zu %s, not part of the frame\n", "left behind", dump->length - took,
+               counted(dump->length - took));
+}
+
+static void print_part(const struct dump *dump, size_t index)
+{
+    const struct part *part = &dump->split.parts[index];
+    size_t shown = part->length < PART_SHOWN ? part->length : PART_SHOWN;
+
+    printf(" %2zu %-10s%zu %s, from byte %zu", index, role_name(part->role), part->length,
+           counted(part->length), part->start);
+    if (shown > 0 && part->role != ROLE_HEADER) {
+        printf(": ");
+        print_quoted(stdout, dump->bytes + part->start, shown);
+        printf("%s", shown < part->length ? " .." : "");
+    }
+    putchar('\n');
+}
+
+static void print_split(const struct dump *dump)
+{
+    const struct split *split = &dump->split;
+
+    print_place("body", split->body, FRONT);
+    if (split->header != 0)
+        print_fields(dump->bytes + split->header);
+    printf(NAME "%zu%s\n", "parts", split->count, split->end == SPLIT_WHOLE ? "" : " can be split");
+    for (size_t i = 0; i < split->count; i++)
+        print_part(dump, i);
+    if (split->end != SPLIT_WHOLE)
+        printf("  %-12sno more from byte %zu on\n", "", split->end_at);
+    if (split->header != 0 && !split->header_last)
+        printf(NAME "20 bytes, from byte %zu, by their look: no part leads to them\n", "header",
+               split->header);
+}
+
+static void print_refused(const struct dump *dump)
+{
+    printf(NAME "%zu %s\n", "input", dump->length, counted(dump->length));
+    printf(NAME "%lu: %s\n", "refused", (unsigned long)dump->refusal, refusal_words(dump->refusal));
+    if (dump->reason[0] != '\0')
+        printf(NAME "%s\n", "because", dump->reason);
+    if (dump->length < FRONT) {
+        printf("%-13s", "bytes");
+        for (size_t i = 0; i < dump->length; i++)
+            printf(" %02X", dump->bytes[i]);
+        puts(dump->length == 0 ? " none" : "");
+    } else if (dump->refusal != LAMPREYCOIL_START_WRONG) {
+        print_split(dump);
+    }
+}
+
+void show_text(const struct dump *dump)
+{
+    if (dump->refusal == LAMPREYCOIL_OK)
+        print_accepted(dump);
+    else
+        print_refused(dump);
+}

@@ -1,0 +1,26 @@
+/* One JSON value on standard output, of ASCII characters alone. Commas come by themselves. */
+#ifndef HOST_JSON_H
+#define HOST_JSON_H
+
+#include <stddef.h>
+#include <stdint.h>
+
+/* The name of the next value, within an object. */
+void json_name(const char *name);
+
+/* '{' or '[', and what belongs to it. */
+void json_open(char bracket);
+void json_close(char bracket);
+
+void json_number(unsigned long long number);
+void json_bool(int yes);
+void json_null(void);
+void json_text(const char *text);
+
+/* As text where all bytes are printable ASCII, otherwise null: JSON has no strings of bytes. */
+void json_bytes(const uint8_t *bytes, size_t length);
+
+/* In hexadecimal, as a string. */
+void json_hex(const uint8_t *bytes, size_t length);
+
+#endif
