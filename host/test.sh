@@ -1,6 +1,6 @@
 #!/usr/bin/env bash
 # Tests the host programs. flux_frame: the bytes of paper 01, each refusal that it can meet, files and
-# wrong usage. flux_floor: host/test/floor.sh. Then the step and the walk through the header, the examples of
+# wrong usage; host/test/dump.sh has more of dump. flux_floor: host/test/floor.sh. Then the step and the walk through the header, the examples of
 # README.md, and the stack that each call takes. The programs are FLUX_FRAME and FLUX_FLOOR, or else
 # what `make host` builds. The last line is 'N passed, M failed'.
 set -u
@@ -75,13 +75,14 @@ dump_refuses() { # LABEL NUMBER TEXT HEX
 }
 
 # The words are wrong usage, or name a file that cannot be used; what is said has this text in it.
-wrong() { # LABEL TEXT WORDS...
-    local label=$1 text=$2
-    shift 2
-    run "$@" </dev/null
+wrong_for() { # RUN LABEL TEXT WORDS...
+    local runs=$1 label=$2 text=$3
+    shift 3
+    "$runs" "$@" </dev/null
     [ "$status" -eq 2 ] && [ ! -s "$room/out" ] && grep -qF -- "$text" "$room/err"
     report $? "$label"
 }
+wrong() { wrong_for run "$@"; } # LABEL TEXT WORDS...
 
 # A program of host/test/ compiles with the header and the archive; each line that it writes is a test.
 program() { # NAME
@@ -132,7 +133,8 @@ control type  2
 status        3
 routes        0
 topic         none
-payload       none'
+payload       none
+header        20 bytes, from byte 9'
 
 dumps 'dump of log, with bytes behind it' "$log 01 02 03" 'frame         35 bytes
 type          1 request
@@ -142,8 +144,10 @@ rolemask      00000000
 nodeid        4294967295 any
 matchtag      1
 routes        0
-topic         "log" (3 bytes)
+delimiter     0 bytes, from byte 9
+topic         "log" (3 bytes), from byte 10
 payload       none
+header        20 bytes, from byte 15
 left behind   3 bytes, not part of the frame'
 
 bytes 32736 >"$room/most"
@@ -153,7 +157,7 @@ run write --type request --topic log --matchtag 1 --payload "$room/most"
 report $? 'log with 32,736 bytes of payload is written'
 cp "$room/out" "$room/most.frame"
 run dump "$room/most.frame"
-[ "$status" -eq 0 ] && grep -qx 'payload       32736 bytes, from byte 19' "$room/out" && grep -qx ' *32672 bytes more' "$room/out"
+[ "$status" -eq 0 ] && grep -qx 'payload       32736 bytes, from byte 19' "$room/out" && grep -qx ' *32672 bytes more (--all shows all)' "$room/out"
 report $? 'log with 32,736 bytes of payload is read'
 refuses 'log with 32,737 bytes of payload is 3' 3 "$n3" --type request --topic log --matchtag 1 --payload "$room/over"
 
@@ -180,15 +184,17 @@ dumps 'dump of a response with two routes' "$(tohex <"$room/response")" "frame  
 type          2 response
 flags         7F topic payload noresponse route upstream private streaming
 userid        1000
-rolemask      00000011
-errnum        38
+rolemask      00000011 owner nameless:00000010
+errnum        38 ENOSYS, Function not implemented
 matchtag      7
 routes        2 (top of the stack first)
-  0           $two
-  1           $one
-topic         \"kvs.\\\"get\" (8 bytes)
+  0           $two, from byte 9
+  1           $one, from byte 47
+delimiter     0 bytes, from byte 85
+topic         \"kvs.\\\"get\" (8 bytes), from byte 86
 payload       2 bytes, from byte 96
-  0000        68 69                                            |hi|"
+  0000        68 69                                            |hi|
+header        20 bytes, from byte 99"
 unhex "$log" >"$room/log"
 run dump - <"$room/log"
 [ "$status" -eq 0 ] && grep -qx 'matchtag      1' "$room/out"
@@ -204,8 +210,9 @@ rolemask      00000000
 sequence      5
 unused        0
 routes        0
-topic         "up\xFF" (3 bytes)
-payload       0 bytes, from byte 14'
+topic         "up\xFF" (3 bytes), from byte 9
+payload       0 bytes, from byte 14
+header        20 bytes, from byte 15'
 printf hi | "$FLUX_FRAME" write --type event --topic up --payload - -o "$room/piped"
 run dump "$room/piped"
 [ "$status" -eq 0 ] && grep -qx 'payload       2 bytes, from byte 13' "$room/out"
@@ -251,6 +258,9 @@ dump_refuses 'a route of one byte is 8' 8 "$n8" "$start 00 00 00 1B 01 41 00 02 
 dump_refuses 'a topic without its zero is 9' 9 "$n9" "$start 00 00 00 17 01 41 14 8E 01 04 01 $fields"
 dump_refuses "an event's unused field is 10" 10 "$n10" "$start 00 00 00 18 02 41 00 14 8E 01 04 01 $fields"
 
+# shellcheck source=host/test/dump.sh
+. host/test/dump.sh
+
 # ---- usage
 
 run --help
@@ -259,10 +269,10 @@ report $? '--help'
 run write --help
 [ "$status" -eq 0 ] && grep -q -- '--payload-text' "$room/out"
 report $? 'write --help'
-wrong 'no command' 'flux_frame dump [FILE]'
+wrong 'no command' 'flux_frame dump [OPTIONS] [FILE]'
 wrong 'an unknown command' "unknown command 'send'" send
 wrong 'an unknown option of write' "unknown option '--colour'" write --type event --colour red
-wrong 'an unknown option of dump' "unknown option '--all'" dump --all
+wrong 'an unknown option of dump' "unknown option '--some'" dump --some
 wrong 'two files to dump' 'one file' dump "$room/log" "$room/log"
 wrong 'no type' 'needs --type' write --topic x
 wrong 'two types' 'twice' write --type event --type-number 4
@@ -281,11 +291,6 @@ wrong 'a folder for a frame' "cannot read $room" dump "$room"
 wrong 'an output that cannot be made' "cannot write $room/no/where" write --type event --topic x -o "$room/no/where"
 bytes 1048577 >"$room/huge"
 wrong 'an input that is too long' 'longer than 1048576 bytes' dump "$room/huge"
-
-wrong 'an option given twice' '--topic is given twice' write --type event --topic x --topic x
-wrong 'an output given twice' '-o is given twice' write --type event --topic x -o "$room/a" -o "$room/b"
-wrong 'a word that is no option' "not 'x'" write --type event -- x
-writes 'log, with =' "$log" --type=request --topic=log --matchtag=1
 
 # ---- flux_floor
 

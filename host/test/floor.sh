@@ -33,14 +33,7 @@ told() { # TEXT
     report $? "told: $1"
 }
 
-# The words are wrong usage, or name a file that cannot be used; what is said has this text in it.
-floor_wrong() { # LABEL TEXT WORDS...
-    local label=$1 text=$2
-    shift 2
-    floor "$@" </dev/null
-    [ "$status" -eq 2 ] && [ ! -s "$room/out" ] && grep -qF -- "flux_floor: $text" "$room/err"
-    report $? "$label"
-}
+floor_wrong() { wrong_for floor "$1" "flux_floor: $2" "${@:3}"; } # LABEL TEXT WORDS...
 
 # The paper's floor with this edit by sed breaks rules, and these are the lines that check prints.
 breaks() { # LABEL EDIT TEXT
@@ -147,6 +140,18 @@ unreadable 'a parent in words' '9s/ 0 / root /' "9: the parent is a number or 'n
 unreadable 'no identity' '9s/0000.*//' '9: the rank has no identity'
 unreadable 'a byte that a terminal obeys' '9s/$/ \x1B[2J/' '9: the byte 1B, which is no text'
 unreadable 'a byte above 7F where a number is due' '9s/^2/\xFF/' "9: a line begins with a rank, a number, not '\\xFF'"
+named=$room/floor$'\x1B[31m\x9B'
+cp "$paper" "$named"
+for words in check "walk --enter 9 --topic x -o $room/none" 'walk --enter x --topic x'; do
+    # shellcheck disable=SC2086
+    floor $words "$named"
+    ! LC_ALL=C grep -q '[^ -~]' "$room/out" "$room/err"
+    report $? "a file's name with such bytes: $words"
+done
+sed 's/ 0 / 9 /' "$paper" >"$named"
+floor check "$named"
+[ "$status" -eq 1 ] && ! LC_ALL=C grep -q '[^ -~]' "$room/out" && grep -qF 'floor\x1B[31m\x9B:8: refused, 14: ' "$room/out"
+report $? "a broken rule in a file of such a name"
 floor_wrong 'a floor that is not there' "cannot read $room/missing" check "$room/missing"
 
 # ---- W1 to W11
@@ -249,6 +254,9 @@ report $? 'flux_floor --help'
 floor walk --help
 [ "$status" -eq 0 ] && grep -q -- '--enter RANK' "$room/out"
 report $? 'flux_floor walk --help'
+floor show "$paper" --help
+[ "$status" -eq 0 ] && grep -q -- '--enter RANK' "$room/out" && ! grep -q '^rank ' "$room/out"
+report $? 'flux_floor show --help, behind a word'
 floor --version
 [ "$status" -eq 0 ] && grep -qx 'flux_floor [0-9.]*' "$room/out"
 report $? 'flux_floor --version'
@@ -272,6 +280,7 @@ floor_wrong 'no message' 'walk needs a frame, or the options of a message' walk 
 floor_wrong 'a frame and options' 'give a frame or the options of a message, not both' walk --enter 1 "$paper" "$room/log" --topic x
 floor_wrong 'a word too many' "walk takes a floor and a frame, and 'more' is one more" walk --enter 1 "$paper" "$room/log" more
 floor_wrong 'standard input twice' 'only one file can be standard input' walk --enter 1 - -
+floor_wrong 'standard output for two things' '-o takes a file' walk --enter 1 "$paper" --topic x -o -
 floor_wrong 'an option behind --' 'cannot read --topic' walk --enter 1 "$paper" -- --topic
 floor_wrong 'home of a request' 'home takes a response, and this message is of type request' home --from 1 "$paper" "$room/log"
 floor_wrong 'a frame that is not there' "cannot read $room/missing" walk --enter 1 "$paper" "$room/missing"
@@ -292,7 +301,7 @@ report $? 'a full disk for the bytes left'
 # shellcheck disable=SC2046
 { "${CC:-gcc}" -std=c99 -Wall -Wextra -Werror -Iinclude -c -o "$room/wrong_walk.o" host/test/wrong_walk.c &&
     "${CC:-gcc}" -std=c99 -Wall -Wextra -Werror -Dlampreycoil_walk=wrong_walk -Iinclude -o "$room/wrong_floor" \
-        $(ls host/*.c | grep -v -e flux_frame.c -e dump_frame.c -e write_frame.c) "$room/wrong_walk.o" \
+        $(ls host/*.c | grep -v -e flux_frame.c -e write_frame.c -e dump_ -e json.c) "$room/wrong_walk.o" \
         target/staticlib/liblampreycoil.a; } >"$room/out" 2>"$room/err"
 status=$?
 report "$status" 'flux_floor with a wrong walk compiles'
