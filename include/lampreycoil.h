@@ -1,7 +1,7 @@
 /*
- * lampreycoil.h: the C calls of Lampreycoil, which reads and writes framed Flux messages (Flux RFC
- * 3), checks the tables of the brokers that pass them on, makes one broker's step, and plays a
- * whole walk.
+ * lampreycoil.h: the C calls of Lampreycoil, which reads and writes framed Flux messages (RFC 3),
+ * checks the tables of the brokers that pass them on, makes one broker's step, and plays a whole
+ * walk.
  * The functions are in the archive liblampreycoil.a. Usable from C99 and from C++.
  *
  * How every call works
