@@ -232,22 +232,45 @@ static void takes(const char *label, uint32_t (*what)(void), uint32_t expected)
     printf("\n");
 }
 
+/* A step or a walk of one message, and what it tells. */
+struct call {
+    const char *label;
+    uint32_t (*what)(void);
+    uint32_t rank, told;
+    uint8_t type, more;
+    uint32_t first;
+    const uint8_t *routes;
+    size_t count, body;
+};
+
+static void take_call(const struct call *call, const uint8_t *s, const char *kind)
+{
+    char label[100];
+
+    at_rank = call->rank;
+    make_frame(call->type, call->more, call->first, s, call->routes, call->count, call->body);
+    snprintf(label, sizeof label, "%s, %s", call->label, kind);
+    takes(label, call->what, call->told);
+}
+
+/* The routes of a request from rank 16 that rests at 32, over rank 0. */
+static void make_passed(uint8_t *passed, const uint8_t *i)
+{
+    for (uint32_t n = 0; n < LINKS; n++) {
+        uint32_t rank = n < 15 ? 31 - n : n == 15 ? 0 : n - 15;
+
+        memcpy(passed + n * LAMPREYCOIL_ROUTE_SIZE, i + rank * LAMPREYCOIL_ROUTE_SIZE,
+               LAMPREYCOIL_ROUTE_SIZE);
+    }
+}
+
 static void take_tables(const uint8_t *s, const uint8_t *i, const char *kind)
 {
     const uint8_t request = LAMPREYCOIL_REQUEST, response = LAMPREYCOIL_RESPONSE;
     const uint8_t silent = LAMPREYCOIL_NORESPONSE;
     const uint8_t *last = i + (RANKS - 1) * LAMPREYCOIL_ROUTE_SIZE;
-    /* Those of a request from rank 16 that rests at 32, over rank 0. */
     uint8_t passed[LINKS * LAMPREYCOIL_ROUTE_SIZE];
-    const struct {
-        const char *label;
-        uint32_t (*what)(void);
-        uint32_t rank, told;
-        uint8_t type, more;
-        uint32_t first;
-        const uint8_t *routes;
-        size_t count, body;
-    } calls[] = {
+    const struct call calls[] = {
         {"a step that delivers", step, 0, 101, request, 0, 0, i, 0, LONG_BODY},
         {"a step that forwards up", step, 16, 102, request, 0, 32, i, 0, LONG_BODY},
         {"a step that forwards down", step, 0, 102, request, 0, 32, i, 0, LONG_BODY},
@@ -266,25 +289,15 @@ static void take_tables(const uint8_t *s, const uint8_t *i, const char *kind)
     };
     char label[100];
 
-    for (uint32_t n = 0; n < LINKS; n++) {
-        uint32_t rank = n < 15 ? 31 - n : n == 15 ? 0 : n - 15;
-
-        memcpy(passed + n * LAMPREYCOIL_ROUTE_SIZE, i + rank * LAMPREYCOIL_ROUTE_SIZE,
-               LAMPREYCOIL_ROUTE_SIZE);
-    }
+    make_passed(passed, i);
     lent_services = s;
     lent_identities = i;
     snprintf(label, sizeof label, "check_services, %s", kind);
     takes(label, check_services, 0);
     snprintf(label, sizeof label, "check_identities, %s", kind);
     takes(label, check_identities, 0);
-    for (size_t n = 0; n < sizeof calls / sizeof calls[0]; n++) {
-        at_rank = calls[n].rank;
-        make_frame(calls[n].type, calls[n].more, calls[n].first, s, calls[n].routes, calls[n].count,
-                   calls[n].body);
-        snprintf(label, sizeof label, "%s, %s", calls[n].label, kind);
-        takes(label, calls[n].what, calls[n].told);
-    }
+    for (size_t n = 0; n < sizeof calls / sizeof calls[0]; n++)
+        take_call(&calls[n], s, kind);
 }
 
 int main(void)

@@ -124,30 +124,35 @@ static void does(const char *label, uint32_t rank, uint32_t from_client,
     report(strcmp(told, so) == 0, label);
 }
 
-int main(void)
+enum {
+    PLAIN = LAMPREYCOIL_TOPIC | LAMPREYCOIL_ROUTE,
+    FULL = PLAIN | LAMPREYCOIL_PAYLOAD,
+    SILENT = PLAIN | LAMPREYCOIL_NORESPONSE,
+    UPSTREAM = PLAIN | LAMPREYCOIL_UPSTREAM,
+    BENCH_LENGTH = 8 + 1 + 11 + 21
+};
+
+static const struct message bench = {
+    LAMPREYCOIL_REQUEST, PLAIN, LAMPREYCOIL_NODEID_ANY, "bench.run", 0, 0, 0};
+static const struct message bench_3 = {
+    LAMPREYCOIL_REQUEST, PLAIN, LAMPREYCOIL_NODEID_ANY, "bench.run", 3, 1, 0};
+static const struct message up = {LAMPREYCOIL_REQUEST, UPSTREAM, 4, "bench.run", 0, 0, 0};
+static const struct message up_4 = {LAMPREYCOIL_REQUEST, UPSTREAM, 4, "bench.run", 4, 1, 0};
+static const struct message kvs = {
+    LAMPREYCOIL_REQUEST, FULL, LAMPREYCOIL_NODEID_ANY, "kvs.get", 1, 2, 300};
+static const struct message kvs_38 = {LAMPREYCOIL_RESPONSE, PLAIN, 38, "kvs.get", 1, 2, 0};
+static const struct message far = {LAMPREYCOIL_REQUEST, PLAIN, 7, "bench.run", 0, 0, 0};
+static const struct message far_113 = {LAMPREYCOIL_RESPONSE, PLAIN, 113, "bench.run", 0, 0, 0};
+static const struct message quiet = {
+    LAMPREYCOIL_REQUEST, SILENT, LAMPREYCOIL_NODEID_ANY, "kvs.get", 0, 0, 0};
+static const struct message back = {LAMPREYCOIL_RESPONSE, FULL, 0, "kvs.get", 1, 1, 300};
+static const struct message back_home = {LAMPREYCOIL_RESPONSE, FULL, 0, "kvs.get", 1, 0, 300};
+static const struct message most = {
+    LAMPREYCOIL_REQUEST, PLAIN, LAMPREYCOIL_NODEID_ANY, "x", 1, 64, 0};
+static const struct message event = {LAMPREYCOIL_EVENT, LAMPREYCOIL_TOPIC, 0, "up", 0, 0, 0};
+
+static void test_answers(void)
 {
-    const uint32_t any = LAMPREYCOIL_NODEID_ANY;
-    const uint8_t plain = LAMPREYCOIL_TOPIC | LAMPREYCOIL_ROUTE;
-    const uint8_t full = LAMPREYCOIL_TOPIC | LAMPREYCOIL_ROUTE | LAMPREYCOIL_PAYLOAD;
-    const uint8_t silent = LAMPREYCOIL_TOPIC | LAMPREYCOIL_ROUTE | LAMPREYCOIL_NORESPONSE;
-    const uint8_t upstream = LAMPREYCOIL_TOPIC | LAMPREYCOIL_ROUTE | LAMPREYCOIL_UPSTREAM;
-    const struct message bench = {LAMPREYCOIL_REQUEST, plain, any, "bench.run", 0, 0, 0};
-    const struct message bench_3 = {LAMPREYCOIL_REQUEST, plain, any, "bench.run", 3, 1, 0};
-    const struct message up = {LAMPREYCOIL_REQUEST, upstream, 4, "bench.run", 0, 0, 0};
-    const struct message up_4 = {LAMPREYCOIL_REQUEST, upstream, 4, "bench.run", 4, 1, 0};
-    const struct message kvs = {LAMPREYCOIL_REQUEST, full, any, "kvs.get", 1, 2, 300};
-    const struct message kvs_38 = {LAMPREYCOIL_RESPONSE, plain, 38, "kvs.get", 1, 2, 0};
-    const struct message far = {LAMPREYCOIL_REQUEST, plain, 7, "bench.run", 0, 0, 0};
-    const struct message far_113 = {LAMPREYCOIL_RESPONSE, plain, 113, "bench.run", 0, 0, 0};
-    const struct message quiet = {LAMPREYCOIL_REQUEST, silent, any, "kvs.get", 0, 0, 0};
-    const struct message back = {LAMPREYCOIL_RESPONSE, full, 0, "kvs.get", 1, 1, 300};
-    const struct message back_home = {LAMPREYCOIL_RESPONSE, full, 0, "kvs.get", 1, 0, 300};
-    const struct message most = {LAMPREYCOIL_REQUEST, plain, any, "x", 1, 64, 0};
-    const struct message event = {LAMPREYCOIL_EVENT, LAMPREYCOIL_TOPIC, 0, "up", 0, 0, 0};
-    const size_t bench_length = 8 + 1 + 11 + 21;
-
-    make_floor();
-
     answers("1: delivered, with its record", 4, 1, &bench, LAMPREYCOIL_DELIVERED, 1, 0, NULL);
     answers("2: a request goes up, with our identity", 3, 1, &bench, LAMPREYCOIL_FORWARD, 1, 0,
             &bench_3);
@@ -161,19 +166,25 @@ int main(void)
     answers("5: home", 3, 0, &back_home, LAMPREYCOIL_HOME, 0, 0, NULL);
     answers("upstream, not from a client", 4, 0, &up, LAMPREYCOIL_DELIVERED, 1, 0, NULL);
     answers("upstream, from a client that is 2", 4, 2, &up, LAMPREYCOIL_FORWARD, 1, 0, &up_4);
+}
 
+static void test_refusals(void)
+{
     refuses("a record of 15 bytes is 11", 9, &bench, ROOM, 15, LAMPREYCOIL_OUTPUT_SHORT);
-    refuses("a buffer without room for a route is 11", 3, &bench, bench_length + 37, 16,
+    refuses("a buffer without room for a route is 11", 3, &bench, BENCH_LENGTH + 37, 16,
             LAMPREYCOIL_OUTPUT_SHORT);
     refuses("a 65th route is 12", 3, &most, ROOM, 16, LAMPREYCOIL_FORWARD_LONG);
     refuses("rank 7 is 17", 7, &bench, ROOM, 16, LAMPREYCOIL_RANK_WRONG);
-    refuses("a frame cut short is 1", 3, &bench, bench_length - 1, 16, LAMPREYCOIL_INPUT_SHORT);
+    refuses("a frame cut short is 1", 3, &bench, BENCH_LENGTH - 1, 16, LAMPREYCOIL_INPUT_SHORT);
     refuses("an event is 18", 3, &event, ROOM, 16, LAMPREYCOIL_NOT_ROUTED);
     refuses("a top route that is our own is 19", 1, &back, ROOM, 16, LAMPREYCOIL_NO_NEIGHBOUR);
     services[3] = RANKS;
     refuses("a service at rank 7 is 15", 9, &event, ROOM, 16, LAMPREYCOIL_SERVICES_WRONG);
     services[3] = 1;
+}
 
+static void test_readme(void)
+{
     does("README.md: delivered", 4, 1, &bench, "service 1 (41); ");
     does("README.md: forwarded", 3, 1, &bench, "broker 1 (79); ");
     does("README.md: a reply goes to the broker below", 0, 0, &kvs, "broker 1 (77); ");
@@ -185,5 +196,13 @@ int main(void)
     ends("README.md: a walk that is delivered", 3, &bench, 1, 1);
     ends("README.md: a walk that ends in an error", 3, &kvs, 0, RANKS);
     ends("README.md: a walk that is refused", 7, &bench, 0, RANKS);
+}
+
+int main(void)
+{
+    make_floor();
+    test_answers();
+    test_refusals();
+    test_readme();
     return 0;
 }
