@@ -1,6 +1,6 @@
 #!/usr/bin/env bash
 # Tests the host programs. flux_frame: the bytes of paper 01, each refusal that it can meet, files and
-# wrong usage; host/test/dump.sh has more of dump. flux_floor: host/test/floor.sh. Then the step and the walk through the header, the examples of
+# wrong usage; host/test/dump.sh has more of dump. flux_floor: host/test/floor.sh. The header: host/test/header.sh. Then the step and the walk through it, the examples of
 # README.md, and the stack that each call takes. The programs are FLUX_FRAME and FLUX_FLOOR, or else
 # what `make host` builds. The last line is 'N passed, M failed'.
 set -u
@@ -296,6 +296,11 @@ wrong 'an input that is too long' 'longer than 1048576 bytes' dump "$room/huge"
 
 # shellcheck source=host/test/floor.sh
 . host/test/floor.sh
+
+# ---- the header
+
+# shellcheck source=host/test/header.sh
+. host/test/header.sh
 
 # ---- the step, the examples of README.md, the walk, and the stack
 

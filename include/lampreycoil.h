@@ -6,10 +6,16 @@
  *
  * How every call works
  *
- * - Bytes pass as a slice: a pointer, then a length (size_t). An empty slice's pointer is never
- *   followed, but it should not be NULL.
- * - The slices lent to one call must not overlap, except that two slices which the call only reads
- *   may. Nobody else may write to a lent slice until the call returns. No call keeps a pointer.
+ * - Bytes pass as a slice: a pointer, then a length (size_t). No alignment is asked for: a slice
+ * may begin at any byte. An empty slice may be NULL, with the length 0, or anything else, since its
+ *   pointer is never followed; that is tested (host/test/empty.c) and not proved. Otherwise the
+ *   pointer must be good for the length given.
+ * - Two slices which the call only reads may overlap, or be the same. A slice that the call writes
+ *   (one without const) must overlap with no other slice of the same call. Where it does, nothing
+ *   of what is said here is promised: not the answer, and no byte of any lent slice.
+ * - Nobody else may write to a lent slice until the call returns. No call keeps a pointer, and none
+ *   keeps any state: there is nothing to set up or to close, and any thread may call at any time,
+ *   also in a signal handler, as long as the slices are its own.
  * - A call answers 0, or the number of its refusal (enum lampreycoil_refusal).
  * - A call's results are a record: a row of 4-byte big-endian numbers, which it writes to the
  *   front of a slice lent for it. lampreycoil_number() reads one of them. A record slice that is
@@ -17,6 +23,49 @@
  * - A refusal writes nothing, to any slice. lampreycoil_walk alone differs: see there.
  * - Nothing is allocated. A call takes less than LAMPREYCOIL_STACK_MAX bytes of stack, whatever it
  *   is given; this is measured (host/test.sh) and not proved.
+ *
+ * What a message is
+ *
+ * Every number of more than one byte is big endian: its most significant byte comes first.
+ *
+ * A frame is FF EE 00 12, the body's length (4 bytes, big endian), then the body, of at most 32,768
+ * bytes: parts, each with its size in front. A size below 255 is one byte; a longer part has 255
+ * and then its size (4 bytes, big endian). The parts come in this order, and each type has its own:
+ *
+ *   type         routes    delimiter  topic  payload  header
+ *   1 request    0 to 64   yes        yes    may be   yes
+ *   2 response   0 to 64   yes        yes    may be   yes
+ *   4 event      no        no         yes    may be   yes
+ *   8 control    no        no         no     no       yes
+ *
+ * - A route is 37 bytes: 36 characters, which are the hexadecimal digits 0 to 9 and a to f in
+ * groups of 8, 4, 4, 4 and 12 with hyphens between them, then a zero byte. A UUID in capitals is
+ * refused. The top of the stack of routes comes first.
+ * - The delimiter is an empty part.
+ * - A topic is 1 to 255 bytes, any but zero; it need not be text. In a frame a zero byte follows
+ * it. The calls take and show it without that byte. Its service is all before the first period, or
+ * all of it where there is none.
+ * - A payload is any bytes, and may be empty; its flag tells an empty one from none.
+ * - The header is 20 bytes: 8E, 01, type, flags, then userid, rolemask, first field and second
+ * field (4 bytes each, big endian).
+ *
+ * Flags topic, payload and route agree exactly with the parts: a request or response has topic and
+ * route set (route even where there is no route, for the delimiter's sake), an event has topic, a
+ * control message neither, and payload is set where there is one. The other flags may be set on any
+ * type. Flag 80 is refused.
+ *
+ * What the tables are
+ *
+ * - The tree: 4 bytes a rank, its parent's rank (big endian), for 1 to 1,024 ranks from rank 0 on.
+ *   Rank 0 holds 4294967295, and no other rank does. From every rank the parents lead to rank 0,
+ *   over 16 links at the most. A parent may have a larger rank than its child.
+ * - The services: 0 to 1,024 records of 32 bytes: the rank (4 bytes, big endian), the name's length
+ *   (1 byte, 1 to 27), the name, and zeros to the record's end. A name has neither zero byte nor
+ *   period; any other byte may stand in it. Each rank is in the tree, and no rank has a name twice.
+ *   A service matches a name bytewise and whole.
+ * - The identities: a route of 37 bytes a rank, zero byte included, from rank 0 on; no two equal.
+ *
+ * docs/FORMAT.md has all of this with pictures of the bytes.
  */
 #ifndef LAMPREYCOIL_H
 #define LAMPREYCOIL_H
@@ -211,10 +260,9 @@ uint32_t lampreycoil_write(uint8_t type, uint8_t flags, uint32_t userid, uint32_
                            size_t out_length, uint8_t *record, size_t record_length);
 
 /*
- * Checks a tree: LAMPREYCOIL_RANK_SIZE bytes a rank, its parent as a big-endian number; rank 0
- * holds LAMPREYCOIL_NO_PARENT. Writes one depth byte a rank to the front of depths, and how many to
- * record, which takes LAMPREYCOIL_CHECK_TREE_RECORD bytes. Bytes of depths behind them stay as they
- * were.
+ * Checks a tree, of LAMPREYCOIL_RANK_SIZE bytes a rank. Its depths are the links from each rank to
+ * rank 0: one byte a rank goes to the front of depths, and how many to record, which takes
+ * LAMPREYCOIL_CHECK_TREE_RECORD bytes. Bytes of depths behind them stay as they were.
  *
  * Refusals, in the order in which they are looked for: 11 for the record; 14; 11 for depths.
  */
@@ -258,8 +306,6 @@ uint32_t lampreycoil_check_identities(const uint8_t *tree, size_t tree_length,
  *   be cleared: a next message that was received behind the first one would be lost.
  * - After 1, 4 and 5, and after a refusal, no byte of buffer has changed.
  *
- * Neither buffer nor record may overlap with each other or with a table.
- *
  * Refusals, in the order in which they are looked for: 11 for the record; 14; 15; 16; 17; those of
  * lampreycoil_read; 18; 19; 12; 11 for buffer. The last two come only where a request is to be
  * forwarded.
@@ -283,8 +329,7 @@ uint32_t lampreycoil_step(const uint8_t *tree, size_t tree_length, const uint8_t
  * byte behind the frame is zero, to the end of buffer. A response goes home by a walk from the rank
  * at which its request rested; so does the error reply that 3 leaves there.
  *
- * buffer takes LAMPREYCOIL_WALK_ROOM bytes or more, however short the message. Neither buffer nor
- * record may overlap with each other or with a table.
+ * buffer takes LAMPREYCOIL_WALK_ROOM bytes or more, however short the message.
  *
  * A refused walk still tells how far it came: its record has 0, 0, 0, 0, then the rank of the
  * broker whose step was refused and the links crossed. Before any link these are the rank given,
@@ -304,8 +349,11 @@ uint32_t lampreycoil_walk(const uint8_t *tree, size_t tree_length, const uint8_t
 static inline uint32_t lampreycoil_number(const uint8_t *record, size_t index)
 {
     const uint8_t *at = record + 4 * index;
+    uint32_t number = at[0];
 
-    return (uint32_t)at[0] << 24 | (uint32_t)at[1] << 16 | (uint32_t)at[2] << 8 | at[3];
+    number = number << 8 | at[1];
+    number = number << 8 | at[2];
+    return number << 8 | at[3];
 }
 
 #ifdef __cplusplus
