@@ -1,8 +1,9 @@
 #!/usr/bin/env bash
 # Tests the host programs. flux_frame: the bytes of paper 01, each refusal that it can meet, files and
-# wrong usage; host/test/dump.sh has more of dump. flux_floor: host/test/floor.sh. The header: host/test/header.sh. Then the step and the walk through it, the examples of
-# README.md, and the stack that each call takes. The programs are FLUX_FRAME and FLUX_FLOOR, or else
-# what `make host` builds. The last line is 'N passed, M failed'.
+# wrong usage; host/test/dump.sh has more of dump. flux_floor: host/test/floor.sh. The header:
+# host/test/header.sh. Then the step and the walk through it, the examples of README.md, and the stack
+# that each call takes. The programs are FLUX_FRAME and FLUX_FLOOR, or else what `make host` builds; the
+# archive is ARCHIVE, or else the one of `make archive`. The last line is 'N passed, M failed'.
 set -u
 cd "$(dirname "$0")/.." || exit 2
 
@@ -12,6 +13,7 @@ if [ -z "${FLUX_FRAME:-}" ] || [ -z "${FLUX_FLOOR:-}" ]; then
     make --no-print-directory -s host >&2 || { echo "host/test.sh: make host failed" >&2; exit 2; }
 fi
 
+ARCHIVE=${ARCHIVE:-target/staticlib/liblampreycoil.a}
 room=$(mktemp -d) || exit 2
 trap 'rm -rf "$room"' EXIT
 passed=0 failed=0
@@ -85,13 +87,15 @@ wrong_for() { # RUN LABEL TEXT WORDS...
 wrong() { wrong_for run "$@"; } # LABEL TEXT WORDS...
 
 # A program of host/test/ compiles with the header and the archive; each line that it writes is a test.
-program() { # NAME
-    local line
-    "${CC:-gcc}" -std=c99 -O2 -Wall -Wextra -Wconversion -pedantic -Werror -Iinclude -I"$room" \
-        -o "$room/$1" "host/test/$1.c" target/staticlib/liblampreycoil.a >"$room/out" 2>"$room/err" &&
-        "$room/$1" >"$room/out" 2>"$room/err"
+program() { # NAME [COMPILER OPTIONS...]
+    local name=$1 line
+    shift
+    [ $# -gt 0 ] || set -- "${CC:-gcc}" -std=c99
+    "$@" -O2 -Wall -Wextra -Wconversion -pedantic -Werror -Iinclude -I"$room" \
+        -o "$room/$name" "host/test/$name.c" -x none "$ARCHIVE" >"$room/out" 2>"$room/err" &&
+        "$room/$name" >"$room/out" 2>"$room/err"
     status=$?
-    report "$status" "host/test/$1.c"
+    report "$status" "host/test/$name.c by $1"
     [ "$status" -eq 0 ] || return
     while read -r line; do
         case $line in

@@ -7,16 +7,17 @@
  * How every call works
  *
  * - Bytes pass as a slice: a pointer, then a length (size_t). No alignment is asked for: a slice
- * may begin at any byte. An empty slice may be NULL, with the length 0, or anything else, since its
- *   pointer is never followed; that is tested (host/test/empty.c) and not proved. Otherwise the
- *   pointer must be good for the length given.
+ *   may begin at any byte. An empty slice may be NULL, or anything else, since its pointer is never
+ *   followed; that is tested (host/test/empty.c) and not proved. Otherwise the pointer must be good
+ *   for the length given.
  * - Two slices which the call only reads may overlap, or be the same. A slice that the call writes
  *   (one without const) must overlap with no other slice of the same call. Where it does, nothing
  *   of what is said here is promised: not the answer, and no byte of any lent slice.
  * - Nobody else may write to a lent slice until the call returns. No call keeps a pointer, and none
  *   keeps any state: there is nothing to set up or to close, and any thread may call at any time,
  *   also in a signal handler, as long as the slices are its own.
- * - A call answers 0, or the number of its refusal (enum lampreycoil_refusal).
+ * - A call answers 0, or the number of its refusal (enum lampreycoil_refusal). A compiler that can
+ *   will warn where the answer is not looked at.
  * - A call's results are a record: a row of 4-byte big-endian numbers, which it writes to the
  *   front of a slice lent for it. lampreycoil_number() reads one of them. A record slice that is
  *   too short is refused with 11 before anything else; a longer one keeps its tail as it was.
@@ -39,20 +40,21 @@
  *   8 control    no        no         no     no       yes
  *
  * - A route is 37 bytes: 36 characters, which are the hexadecimal digits 0 to 9 and a to f in
- * groups of 8, 4, 4, 4 and 12 with hyphens between them, then a zero byte. A UUID in capitals is
- * refused. The top of the stack of routes comes first.
+ *   groups of 8, 4, 4, 4 and 12 with hyphens between them, then a zero byte. A UUID in capitals is
+ *   refused. The top of the stack of routes comes first.
  * - The delimiter is an empty part.
  * - A topic is 1 to 255 bytes, any but zero; it need not be text. In a frame a zero byte follows
- * it. The calls take and show it without that byte. Its service is all before the first period, or
- * all of it where there is none.
+ *   it. The calls take and show it without that byte. Its service is all before the first period,
+ *   or all of it where there is none.
  * - A payload is any bytes, and may be empty; its flag tells an empty one from none.
  * - The header is 20 bytes: 8E, 01, type, flags, then userid, rolemask, first field and second
- * field (4 bytes each, big endian).
+ *   field (4 bytes each, big endian). A request's first field is not 4294967294, and an event's
+ *   second field is 0; otherwise these four may be any numbers.
  *
  * Flags topic, payload and route agree exactly with the parts: a request or response has topic and
  * route set (route even where there is no route, for the delimiter's sake), an event has topic, a
- * control message neither, and payload is set where there is one. The other flags may be set on any
- * type. Flag 80 is refused.
+ * control message none of them, and payload is set where there is one. The other flags may be set
+ * on any type. Flag 80 is refused.
  *
  * What the tables are
  *
@@ -72,6 +74,16 @@
 
 #include <stddef.h>
 #include <stdint.h>
+
+/* The version of this header, and of the archive that comes with it. */
+#define LAMPREYCOIL_VERSION "0.1.0"
+
+/* Marks a function whose answer has to be looked at. */
+#if defined(__GNUC__)
+#define LAMPREYCOIL_CHECKED __attribute__((warn_unused_result))
+#else
+#define LAMPREYCOIL_CHECKED
+#endif
 
 #ifdef __cplusplus
 extern "C" {
@@ -121,25 +133,41 @@ enum lampreycoil_refusal {
 
 /* A message's type, with the names of its two fields. */
 enum lampreycoil_type {
-    LAMPREYCOIL_REQUEST = 1,  /* first field nodeid, second matchtag */
-    LAMPREYCOIL_RESPONSE = 2, /* first field errnum, second matchtag */
-    LAMPREYCOIL_EVENT = 4,    /* first field sequence, second unused: zero */
-    LAMPREYCOIL_CONTROL = 8   /* first field type, second status */
+    LAMPREYCOIL_TYPE_REQUEST = 1,  /* first field nodeid, second matchtag */
+    LAMPREYCOIL_TYPE_RESPONSE = 2, /* first field errnum, second matchtag */
+    LAMPREYCOIL_TYPE_EVENT = 4,    /* first field sequence, second unused: zero */
+    LAMPREYCOIL_TYPE_CONTROL = 8,  /* first field type, second status */
+
+    /* the same, for short */
+    LAMPREYCOIL_REQUEST = LAMPREYCOIL_TYPE_REQUEST,
+    LAMPREYCOIL_RESPONSE = LAMPREYCOIL_TYPE_RESPONSE,
+    LAMPREYCOIL_EVENT = LAMPREYCOIL_TYPE_EVENT,
+    LAMPREYCOIL_CONTROL = LAMPREYCOIL_TYPE_CONTROL
 };
 
 /* A message's flags. The first, second and fourth agree exactly with the parts present. */
 enum lampreycoil_flag {
-    LAMPREYCOIL_TOPIC = 0x01,
-    LAMPREYCOIL_PAYLOAD = 0x02,
-    LAMPREYCOIL_NORESPONSE = 0x04,
-    LAMPREYCOIL_ROUTE = 0x08, /* requests and responses have it, even with no route */
-    LAMPREYCOIL_UPSTREAM = 0x10,
-    LAMPREYCOIL_PRIVATE = 0x20,
-    LAMPREYCOIL_STREAMING = 0x40
+    LAMPREYCOIL_FLAG_TOPIC = 0x01,
+    LAMPREYCOIL_FLAG_PAYLOAD = 0x02,
+    LAMPREYCOIL_FLAG_NORESPONSE = 0x04,
+    LAMPREYCOIL_FLAG_ROUTE = 0x08, /* requests and responses have it, even with no route */
+    LAMPREYCOIL_FLAG_UPSTREAM = 0x10,
+    LAMPREYCOIL_FLAG_PRIVATE = 0x20,
+    LAMPREYCOIL_FLAG_STREAMING = 0x40,
+
+    /* the same, for short */
+    LAMPREYCOIL_TOPIC = LAMPREYCOIL_FLAG_TOPIC,
+    LAMPREYCOIL_PAYLOAD = LAMPREYCOIL_FLAG_PAYLOAD,
+    LAMPREYCOIL_NORESPONSE = LAMPREYCOIL_FLAG_NORESPONSE,
+    LAMPREYCOIL_ROUTE = LAMPREYCOIL_FLAG_ROUTE,
+    LAMPREYCOIL_UPSTREAM = LAMPREYCOIL_FLAG_UPSTREAM,
+    LAMPREYCOIL_PRIVATE = LAMPREYCOIL_FLAG_PRIVATE,
+    LAMPREYCOIL_STREAMING = LAMPREYCOIL_FLAG_STREAMING
 };
 
 /* Sizes, in bytes where nothing else is said. */
 enum lampreycoil_size {
+    LAMPREYCOIL_FRONT_SIZE = 8,  /* what is in front of a body: four fixed bytes, and its length */
     LAMPREYCOIL_ROUTE_SIZE = 37, /* 36 characters and a zero byte */
     LAMPREYCOIL_ROUTE_STEP = 38, /* a route with its size: from one's data to the next one's */
     LAMPREYCOIL_ROUTES_MAX = 64, /* routes */
@@ -154,6 +182,18 @@ enum lampreycoil_size {
     LAMPREYCOIL_NAME_MAX = 27,       /* a service's name */
     LAMPREYCOIL_DEPTH_MAX = 16,      /* links from a rank to rank 0 */
     LAMPREYCOIL_STACK_MAX = 16384    /* stack that a call takes */
+};
+
+/*
+ * Sizes of the records that the calls fill, in bytes: 4 for each number. They have an enum of their
+ * own, apart from the indices of these numbers, so that a compiler can tell one from the other.
+ */
+enum lampreycoil_record_size {
+    LAMPREYCOIL_READ_RECORD = 52,
+    LAMPREYCOIL_WRITE_RECORD = 4,
+    LAMPREYCOIL_CHECK_TREE_RECORD = 4,
+    LAMPREYCOIL_STEP_RECORD = 16,
+    LAMPREYCOIL_WALK_RECORD = 24
 };
 
 #define LAMPREYCOIL_NODEID_ANY 0xFFFFFFFFu     /* a request's nodeid: any rank */
@@ -177,22 +217,19 @@ enum lampreycoil_read_index {
     LAMPREYCOIL_READ_TOPIC_START = 9,
     LAMPREYCOIL_READ_TOPIC_LENGTH = 10, /* without the zero byte */
     LAMPREYCOIL_READ_PAYLOAD_START = 11,
-    LAMPREYCOIL_READ_PAYLOAD_LENGTH = 12,
-    LAMPREYCOIL_READ_RECORD = 52 /* no index: the record's size in bytes, 13 numbers */
+    LAMPREYCOIL_READ_PAYLOAD_LENGTH = 12
 };
 
 #define LAMPREYCOIL_NO_PARENT 0xFFFFFFFFu /* what rank 0 holds in a tree */
 
 /* The number of lampreycoil_check_tree's record. */
 enum lampreycoil_check_tree_index {
-    LAMPREYCOIL_CHECK_TREE_DEPTHS = 0, /* depths written, one byte each */
-    LAMPREYCOIL_CHECK_TREE_RECORD = 4  /* no index: the record's size in bytes, 1 number */
+    LAMPREYCOIL_CHECK_TREE_DEPTHS = 0 /* depths written, one byte each */
 };
 
 /* The number of lampreycoil_write's record. */
 enum lampreycoil_write_index {
-    LAMPREYCOIL_WRITE_LENGTH = 0, /* bytes of the frame written */
-    LAMPREYCOIL_WRITE_RECORD = 4  /* no index: the record's size in bytes, 1 number */
+    LAMPREYCOIL_WRITE_LENGTH = 0 /* bytes of the frame written */
 };
 
 /* What a broker did with a message, and what its daemon does now. */
@@ -215,8 +252,7 @@ enum lampreycoil_step_index {
     LAMPREYCOIL_STEP_ANSWER = 0, /* enum lampreycoil_answer */
     LAMPREYCOIL_STEP_NUMBER = 1, /* 1: the service's record, counted from 0; 2: the rank; else 0 */
     LAMPREYCOIL_STEP_ERROR = 2,  /* 3 and 4: enum lampreycoil_error; else 0 */
-    LAMPREYCOIL_STEP_LENGTH = 3, /* of the frame that is now in the buffer */
-    LAMPREYCOIL_STEP_RECORD = 16 /* no index: the record's size in bytes, 4 numbers */
+    LAMPREYCOIL_STEP_LENGTH = 3  /* of the frame that is now in the buffer */
 };
 
 /* The numbers of lampreycoil_walk's record, by index: the last step's four, then two more. */
@@ -226,8 +262,7 @@ enum lampreycoil_walk_index {
     LAMPREYCOIL_WALK_ERROR = 2,  /* 3 and 4: enum lampreycoil_error; else 0 */
     LAMPREYCOIL_WALK_LENGTH = 3, /* of the frame that is now in the buffer; 0 for a refused walk */
     LAMPREYCOIL_WALK_RANK = 4,   /* of the broker that made the last step, or was refused it */
-    LAMPREYCOIL_WALK_LINKS = 5,  /* links crossed */
-    LAMPREYCOIL_WALK_RECORD = 24 /* no index: the record's size in bytes, 6 numbers */
+    LAMPREYCOIL_WALK_LINKS = 5   /* links crossed */
 };
 
 /*
@@ -237,6 +272,7 @@ enum lampreycoil_walk_index {
  * Refusals, in the order in which they are looked for: 11 for the record; 1 for the 8 bytes; 2; 3;
  * 1 for the body; 4 and 5 as the parts come; then 6 to 10.
  */
+LAMPREYCOIL_CHECKED
 uint32_t lampreycoil_read(const uint8_t *bytes, size_t bytes_length, uint8_t *record,
                           size_t record_length);
 
@@ -253,6 +289,7 @@ uint32_t lampreycoil_read(const uint8_t *bytes, size_t bytes_length, uint8_t *re
  * only); 7, also for a part given without its flag; 8, also for routes that are not a multiple of
  * 37 bytes; 9; 10; 3; 11 for out.
  */
+LAMPREYCOIL_CHECKED
 uint32_t lampreycoil_write(uint8_t type, uint8_t flags, uint32_t userid, uint32_t rolemask,
                            uint32_t first, uint32_t second, const uint8_t *routes,
                            size_t routes_length, const uint8_t *topic, size_t topic_length,
@@ -266,6 +303,7 @@ uint32_t lampreycoil_write(uint8_t type, uint8_t flags, uint32_t userid, uint32_
  *
  * Refusals, in the order in which they are looked for: 11 for the record; 14; 11 for depths.
  */
+LAMPREYCOIL_CHECKED
 uint32_t lampreycoil_check_tree(const uint8_t *tree, size_t tree_length, uint8_t *depths,
                                 size_t depths_length, uint8_t *record, size_t record_length);
 
@@ -274,6 +312,7 @@ uint32_t lampreycoil_check_tree(const uint8_t *tree, size_t tree_length, uint8_t
  * LAMPREYCOIL_SERVICE_SIZE bytes, no rank and name twice. None at all is valid. Refusals: 14,
  * then 15.
  */
+LAMPREYCOIL_CHECKED
 uint32_t lampreycoil_check_services(const uint8_t *tree, size_t tree_length,
                                     const uint8_t *services, size_t services_length);
 
@@ -281,6 +320,7 @@ uint32_t lampreycoil_check_services(const uint8_t *tree, size_t tree_length,
  * Checks the identities of a tree's ranks: LAMPREYCOIL_ROUTE_SIZE bytes a rank, no two equal.
  * Refusals: 14, then 16.
  */
+LAMPREYCOIL_CHECKED
 uint32_t lampreycoil_check_identities(const uint8_t *tree, size_t tree_length,
                                       const uint8_t *identities, size_t identities_length);
 
@@ -310,6 +350,7 @@ uint32_t lampreycoil_check_identities(const uint8_t *tree, size_t tree_length,
  * lampreycoil_read; 18; 19; 12; 11 for buffer. The last two come only where a request is to be
  * forwarded.
  */
+LAMPREYCOIL_CHECKED
 uint32_t lampreycoil_step(const uint8_t *tree, size_t tree_length, const uint8_t *services,
                           size_t services_length, const uint8_t *identities,
                           size_t identities_length, uint32_t rank, uint32_t from_client,
@@ -340,20 +381,242 @@ uint32_t lampreycoil_step(const uint8_t *tree, size_t tree_length, const uint8_t
  * of lampreycoil_step at each broker in turn. 12 and 19 can come anywhere on the way, the others
  * only at the first broker.
  */
+LAMPREYCOIL_CHECKED
 uint32_t lampreycoil_walk(const uint8_t *tree, size_t tree_length, const uint8_t *services,
                           size_t services_length, const uint8_t *identities,
                           size_t identities_length, uint32_t rank, uint8_t *buffer,
                           size_t buffer_length, uint8_t *record, size_t record_length);
 
-/* The number at index of a record that a call has filled. */
-static inline uint32_t lampreycoil_number(const uint8_t *record, size_t index)
+/*
+ * What follows is C over the calls above, tested (host/test/helpers.c) and not proved. It asks for
+ * no archive beside theirs, and keeps no state either.
+ */
+
+/* The version, as text. */
+static inline const char *lampreycoil_version(void)
 {
-    const uint8_t *at = record + 4 * index;
+    return LAMPREYCOIL_VERSION;
+}
+
+/* The number at index of a row of 4-byte big-endian numbers, such as a record or a tree. */
+static inline uint32_t lampreycoil_number(const uint8_t *row, size_t index)
+{
+    const uint8_t *at = row + 4 * index;
     uint32_t number = at[0];
 
     number = number << 8 | at[1];
     number = number << 8 | at[2];
     return number << 8 | at[3];
+}
+
+/* Puts a number at index of such a row: a rank's parent, or the rank in a service's record. */
+static inline void lampreycoil_put_number(uint8_t *row, size_t index, uint32_t number)
+{
+    uint8_t *at = row + 4 * index;
+
+    at[3] = number & 0xFFu;
+    number >>= 8;
+    at[2] = number & 0xFFu;
+    number >>= 8;
+    at[1] = number & 0xFFu;
+    number >>= 8;
+    at[0] = number & 0xFFu;
+}
+
+/*
+ * How long the frame will be that begins at the front of bytes, as soon as its first eight bytes
+ * are there; whatever follows them is not looked at. Refusals, which write nothing: 1 for fewer
+ * than LAMPREYCOIL_FRONT_SIZE bytes; 2; 3. So a frame that comes in piecemeal is whole as soon as
+ * there are this many bytes, and no more than LAMPREYCOIL_FRAME_MAX are ever asked for.
+ */
+LAMPREYCOIL_CHECKED
+static inline uint32_t lampreycoil_frame_length(const uint8_t *bytes, size_t bytes_length,
+                                                size_t *length)
+{
+    uint8_t record[LAMPREYCOIL_READ_RECORD];
+    uint32_t refusal;
+
+    if (bytes_length < LAMPREYCOIL_FRONT_SIZE)
+        return LAMPREYCOIL_INPUT_SHORT;
+    refusal = lampreycoil_read(bytes, LAMPREYCOIL_FRONT_SIZE, record, sizeof record);
+    if (refusal == LAMPREYCOIL_START_WRONG || refusal == LAMPREYCOIL_BODY_LONG)
+        return refusal;
+    *length = LAMPREYCOIL_FRONT_SIZE + lampreycoil_number(bytes, 1);
+    return LAMPREYCOIL_OK;
+}
+
+/*
+ * A message. To write one, set all of it to zero, then what there is. A message that was read can
+ * be written again, with other routes, parts or fields. A part that is not there has the length 0,
+ * and its pointer means nothing; the flags tell an empty payload from none.
+ */
+struct lampreycoil_message {
+    const uint8_t *routes; /* the top route */
+    size_t routes_count;
+    size_t routes_step;   /* bytes from one route to the next; 0 says LAMPREYCOIL_ROUTE_SIZE */
+    const uint8_t *topic; /* without its zero byte */
+    size_t topic_length;
+    const uint8_t *payload;
+    size_t payload_length;
+    uint32_t userid; /* LAMPREYCOIL_USERID_UNKNOWN where it is not known */
+    uint32_t rolemask;
+    uint32_t first;  /* nodeid, errnum, sequence or type: see enum lampreycoil_type */
+    uint32_t second; /* matchtag, matchtag, zero or status */
+    uint8_t type;    /* one of enum lampreycoil_type */
+    uint8_t flags;   /* of enum lampreycoil_flag, those of the parts included */
+};
+
+/* The route with this number, counted from 0 at the top. It has LAMPREYCOIL_ROUTE_SIZE bytes. */
+static inline const uint8_t *lampreycoil_route(const struct lampreycoil_message *message,
+                                               size_t number)
+{
+    size_t step = message->routes_step;
+
+    if (step == 0)
+        step = LAMPREYCOIL_ROUTE_SIZE;
+    return message->routes + number * step;
+}
+
+/*
+ * Reads the frame at the front of bytes as lampreycoil_read does, with its refusals; message then
+ * points into bytes, and took is the bytes that the frame took. A refusal leaves both as they were.
+ */
+LAMPREYCOIL_CHECKED
+static inline uint32_t lampreycoil_read_message(const uint8_t *bytes, size_t bytes_length,
+                                                struct lampreycoil_message *message, size_t *took)
+{
+    uint8_t record[LAMPREYCOIL_READ_RECORD];
+    uint32_t refusal = lampreycoil_read(bytes, bytes_length, record, sizeof record);
+
+    if (refusal != LAMPREYCOIL_OK)
+        return refusal;
+    *took = lampreycoil_number(record, LAMPREYCOIL_READ_TOOK);
+    message->type = lampreycoil_number(record, LAMPREYCOIL_READ_TYPE) & 0xFFu;
+    message->flags = lampreycoil_number(record, LAMPREYCOIL_READ_FLAGS) & 0xFFu;
+    message->userid = lampreycoil_number(record, LAMPREYCOIL_READ_USERID);
+    message->rolemask = lampreycoil_number(record, LAMPREYCOIL_READ_ROLEMASK);
+    message->first = lampreycoil_number(record, LAMPREYCOIL_READ_FIRST);
+    message->second = lampreycoil_number(record, LAMPREYCOIL_READ_SECOND);
+    message->routes = bytes + lampreycoil_number(record, LAMPREYCOIL_READ_ROUTE_START);
+    message->routes_count = lampreycoil_number(record, LAMPREYCOIL_READ_ROUTES);
+    message->routes_step = LAMPREYCOIL_ROUTE_STEP;
+    message->topic = bytes + lampreycoil_number(record, LAMPREYCOIL_READ_TOPIC_START);
+    message->topic_length = lampreycoil_number(record, LAMPREYCOIL_READ_TOPIC_LENGTH);
+    message->payload = bytes + lampreycoil_number(record, LAMPREYCOIL_READ_PAYLOAD_START);
+    message->payload_length = lampreycoil_number(record, LAMPREYCOIL_READ_PAYLOAD_LENGTH);
+    return LAMPREYCOIL_OK;
+}
+
+/*
+ * Writes a message as a frame to the front of out as lampreycoil_write does, with its refusals;
+ * length is then the frame's. A refusal writes nothing. No part may lie in out. It takes 2,405
+ * bytes of stack more than that call, in which the routes are put side by side.
+ */
+LAMPREYCOIL_CHECKED
+static inline uint32_t lampreycoil_write_message(const struct lampreycoil_message *message,
+                                                 uint8_t *out, size_t out_length, size_t *length)
+{
+    /* One route more than there may be: any number above that is refused as this one is. */
+    uint8_t routes[(LAMPREYCOIL_ROUTES_MAX + 1) * LAMPREYCOIL_ROUTE_SIZE];
+    uint8_t record[LAMPREYCOIL_WRITE_RECORD];
+    size_t used = 0;
+    size_t number;
+    size_t at;
+    uint32_t refusal;
+
+    routes[0] = 0;
+    for (number = 0; number < message->routes_count && used < sizeof routes; number++) {
+        for (at = 0; at < LAMPREYCOIL_ROUTE_SIZE; at++)
+            routes[used++] = lampreycoil_route(message, number)[at];
+    }
+    refusal = lampreycoil_write(message->type, message->flags, message->userid, message->rolemask,
+                                message->first, message->second, routes, used, message->topic,
+                                message->topic_length, message->payload, message->payload_length,
+                                out, out_length, record, sizeof record);
+    if (refusal == LAMPREYCOIL_OK)
+        *length = lampreycoil_number(record, LAMPREYCOIL_WRITE_LENGTH);
+    return refusal;
+}
+
+/* A refusal in words, for a person. */
+static inline const char *lampreycoil_refusal_words(uint32_t refusal)
+{
+    switch (refusal) {
+    case LAMPREYCOIL_OK:
+        return "no refusal";
+    case LAMPREYCOIL_INPUT_SHORT:
+        return "fewer than 8 bytes, or fewer than 8 plus the body length";
+    case LAMPREYCOIL_START_WRONG:
+        return "first four bytes wrong";
+    case LAMPREYCOIL_BODY_LONG:
+        return "body above 32,768";
+    case LAMPREYCOIL_PART_WRONG:
+        return "a part's size or data passes the body's end, or a 4-byte size below 255";
+    case LAMPREYCOIL_PARTS_MANY:
+        return "a 69th part begins";
+    case LAMPREYCOIL_HEADER_WRONG:
+        return "no part at all; last part not 20 bytes; its magic, version, type or flag 80 wrong";
+    case LAMPREYCOIL_PARTS_DISAGREE:
+        return "parts disagree with type or flags";
+    case LAMPREYCOIL_ROUTE_WRONG:
+        return "a route not of the form, or above 64";
+    case LAMPREYCOIL_TOPIC_WRONG:
+        return "topic not of the form";
+    case LAMPREYCOIL_FIELD_WRONG:
+        return "request nodeid 4294967294; event's unused field not zero";
+    case LAMPREYCOIL_OUTPUT_SHORT:
+        return "a lent output too short";
+    case LAMPREYCOIL_FORWARD_LONG:
+        return "forwarding would make 65 routes or a body above 32,768";
+    case LAMPREYCOIL_TREE_WRONG:
+        return "tree wrong";
+    case LAMPREYCOIL_SERVICES_WRONG:
+        return "services wrong";
+    case LAMPREYCOIL_IDENTITIES_WRONG:
+        return "identities wrong";
+    case LAMPREYCOIL_RANK_WRONG:
+        return "rank not in the tree";
+    case LAMPREYCOIL_NOT_ROUTED:
+        return "step or walk given an event or control";
+    case LAMPREYCOIL_NO_NEIGHBOUR:
+        return "a response's top route is a broker that is no neighbour, itself included";
+    default:
+        return "no number of a refusal";
+    }
+}
+
+/* An answer of a step or of a walk in words. */
+static inline const char *lampreycoil_answer_words(uint32_t answer)
+{
+    switch (answer) {
+    case LAMPREYCOIL_DELIVERED:
+        return "delivered";
+    case LAMPREYCOIL_FORWARD:
+        return "forward";
+    case LAMPREYCOIL_REPLIED:
+        return "error reply made";
+    case LAMPREYCOIL_SILENCED:
+        return "silenced";
+    case LAMPREYCOIL_HOME:
+        return "home";
+    default:
+        return "no number of an answer";
+    }
+}
+
+/* The error of a step or of a walk in words; 0 is none. */
+static inline const char *lampreycoil_error_words(uint32_t error)
+{
+    switch (error) {
+    case 0:
+        return "no error";
+    case LAMPREYCOIL_NO_SERVICE:
+        return "nobody whom the request may reach has the service";
+    case LAMPREYCOIL_NO_RANK:
+        return "the nodeid is no rank of the tree";
+    default:
+        return "no number of a step's error";
+    }
 }
 
 #ifdef __cplusplus

@@ -29,3 +29,30 @@ every+=' -Wno-declaration-after-statement -Wno-c++98-compat -Wno-c++98-compat-pe
     silent clang++ header.cpp 'c++98 c++17' $every
 }
 program empty
+program helpers
+if command -v g++ >/dev/null; then
+    program helpers g++ -x c++ -std=c++11 -Wold-style-cast
+else
+    echo 'no g++ here: host/test/helpers.c is not compiled as C++'
+fi
+
+# An answer that nobody looks at is a warning: of each call, and of what is made of the calls.
+ignored() { # CALL ARGUMENTS
+    printf '#include "lampreycoil.h"\n%s\n{\n    %s(%s);\n}\n' \
+        'void ignore(const struct lampreycoil_message *m, struct lampreycoil_message *n, uint8_t *b, size_t *l)' \
+        "$1" "$2" >"$room/ignored.c"
+    "${CC:-gcc}" -std=c99 -Wno-unused-parameter -Wall -Iinclude -c -o "$room/ignored.o" "$room/ignored.c" >"$room/out" 2>"$room/err"
+    status=$?
+    [ "$status" -eq 0 ] && grep -q 'unused-result' "$room/err"
+    report $? "an answer of $1 that is not looked at"
+}
+ignored lampreycoil_read 'b, 0, b, 0'
+ignored lampreycoil_write '1, 0, 0, 0, 0, 0, b, 0, b, 0, b, 0, b, 0, b, 0'
+ignored lampreycoil_check_tree 'b, 0, b, 0, b, 0'
+ignored lampreycoil_check_services 'b, 0, b, 0'
+ignored lampreycoil_check_identities 'b, 0, b, 0'
+ignored lampreycoil_step 'b, 0, b, 0, b, 0, 0, 0, b, 0, b, 0'
+ignored lampreycoil_walk 'b, 0, b, 0, b, 0, 0, b, 0, b, 0'
+ignored lampreycoil_frame_length 'b, 0, l'
+ignored lampreycoil_read_message 'b, 0, n, l'
+ignored lampreycoil_write_message 'm, b, 0, l'
