@@ -313,6 +313,7 @@ awk '/^```c$/ { code = 1; next } /^```$/ { code = 0 } code' README.md >"$room/re
 status=$?
 report "$status" 'the examples of README.md compile'
 program step
+program stream
 program walk
 program stack
 sed -n 's/^passed: stack of \(.*\): \([0-9]*\) bytes$/\2 bytes of stack: \1/p' "$room/out" | sort -n | tail -n 1

@@ -1,0 +1,140 @@
+/*
+ * Tests take_frames and write_log_request, the examples of README.md, whose code stands in
+ * readme.c: a stream that comes in by pieces of each length gives the same frames. Prints a line
+ * for each test, "passed" or "FAILED".
+ */
+#include "floor.h"
+#include "readme.c"
+
+enum { PIECE_MAX = 400, STREAM_MAX = 100000 };
+
+/* What the other examples ask for, and nothing here calls. */
+void give_to_service(uint32_t number, const uint8_t *frame, size_t length)
+{
+    (void)number, (void)frame, (void)length;
+}
+
+void send_to_broker(uint32_t rank, const uint8_t *frame, size_t length)
+{
+    (void)rank, (void)frame, (void)length;
+}
+
+void give_to_client(const uint8_t *frame, size_t length)
+{
+    (void)frame, (void)length;
+}
+
+void note_silence(uint32_t error)
+{
+    (void)error;
+}
+
+void note_refusal(uint32_t refusal)
+{
+    (void)refusal;
+}
+
+/* ---- a stream: what was sent, and what was taken of it */
+
+static uint8_t sent[STREAM_MAX], taken[STREAM_MAX];
+static size_t sent_length, taken_length, taken_frames;
+
+static void take(const uint8_t *frame, size_t length)
+{
+    memcpy(taken + taken_length, frame, length);
+    taken_length += length;
+    taken_frames++;
+}
+
+static void send_request(size_t payload)
+{
+    const struct message m = {LAMPREYCOIL_REQUEST,
+                              LAMPREYCOIL_TOPIC | LAMPREYCOIL_ROUTE | LAMPREYCOIL_PAYLOAD,
+                              LAMPREYCOIL_NODEID_ANY,
+                              "log",
+                              RANKS,
+                              1,
+                              payload};
+    static uint8_t frame[ROOM];
+    size_t length = write_message(&m, frame);
+
+    memcpy(sent + sent_length, frame, length);
+    sent_length += length;
+}
+
+/* Receives what was sent, so many bytes at a time; tells what the last call told. */
+static uint32_t receive(size_t piece)
+{
+    static struct stream stream;
+    uint32_t refusal = LAMPREYCOIL_OK;
+    size_t at = 0;
+
+    stream.length = taken_length = taken_frames = 0;
+    while (at < sent_length && refusal == LAMPREYCOIL_OK) {
+        size_t more = sent_length - at < piece ? sent_length - at : piece;
+
+        if (more > sizeof stream.bytes - stream.length)
+            return 100;
+        memcpy(stream.bytes + stream.length, sent + at, more);
+        stream.length += more;
+        at += more;
+        refusal = take_frames(&stream, take);
+    }
+    return refusal;
+}
+
+static void in_pieces(const char *label, size_t whole, size_t frames, uint32_t told)
+{
+    int good = 1;
+
+    for (size_t piece = 1; piece <= PIECE_MAX; piece++)
+        good = good && receive(piece) == told && taken_frames == frames && taken_length == whole &&
+               memcmp(taken, sent, whole) == 0;
+    good = good && receive(LAMPREYCOIL_FRAME_MAX) == told && taken_frames == frames;
+    report(good, label);
+}
+
+static void take_streams(void)
+{
+    size_t whole;
+
+    send_request(0);
+    send_request(300);
+    send_request(1);
+    whole = sent_length;
+    in_pieces("three frames", whole, 3, LAMPREYCOIL_OK);
+    send_request(LAMPREYCOIL_BODY_MAX - 200);
+    sent_length--;
+    in_pieces("and a torn tail", whole, 3, LAMPREYCOIL_OK);
+    sent_length++;
+    in_pieces("and the tail whole", sent_length, 4, LAMPREYCOIL_OK);
+    sent_length = whole;
+    lampreycoil_put_number(sent + whole, 0, 0xFFEE0012);
+    lampreycoil_put_number(sent + whole, 1, 1);
+    sent[whole + 8] = 1;
+    sent_length += 9;
+    send_request(2);
+    in_pieces("a frame that nobody can read ends nothing", sent_length, 5, LAMPREYCOIL_OK);
+    sent[whole] = 0xFE;
+    in_pieces("a wrong start ends the stream", whole, 3, LAMPREYCOIL_START_WRONG);
+    lampreycoil_put_number(sent + whole, 0, 0xFFEE0012);
+    lampreycoil_put_number(sent + whole, 1, LAMPREYCOIL_BODY_MAX + 1);
+    in_pieces("a body that is too long ends it", whole, 3, LAMPREYCOIL_BODY_LONG);
+}
+
+int main(void)
+{
+    /* The request for "log" with matchtag 1, whole. */
+    static const uint8_t log_request[] = {
+        0xFF, 0xEE, 0,    0x12, 0,    0, 0, 0x1B, 0, 4,    'l',  'o',  'g',  0, 0x14, 0x8E, 1, 1,
+        9,    0xFF, 0xFF, 0xFF, 0xFF, 0, 0, 0,    0, 0xFF, 0xFF, 0xFF, 0xFF, 0, 0,    0,    1};
+    uint8_t out[sizeof log_request];
+    size_t length = 0;
+
+    make_floor();
+    report(write_log_request(1, out, sizeof out, &length) == LAMPREYCOIL_OK &&
+               length == sizeof log_request && memcmp(out, log_request, length) == 0,
+           "write_log_request");
+    take_streams();
+    return 0;
+}
