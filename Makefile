@@ -1,9 +1,8 @@
 # Lampreycoil: framed Flux messages, the tables of their brokers, a broker's step and the walk, proved. `make` lists what can be made.
 
-CC      = gcc
-CFLAGS  = -std=c99 -O2 -Wall -Wextra -Werror
-ARCHIVE = target/staticlib/liblampreycoil.a
-HOST    = target/host/flux_frame target/host/flux_floor
+CC       = gcc
+ARCHIVE  = target/staticlib/liblampreycoil.a
+HOST_DIR = target/host
 
 # An install of Rust by its own installer may not be on the path.
 export PATH := $(PATH):$(HOME)/.cargo/bin
@@ -11,14 +10,7 @@ export PATH := $(PATH):$(HOME)/.cargo/bin
 # What the archive is made of. The program and the must-fail edits are not in it.
 RATTLE := $(wildcard crates.txt) $(shell find crates -path crates/examples -prune -o -name must-fail -prune \
             -o \( -name '*.rt' -o -name '*.antt' \) -print 2>/dev/null)
-C_FILES := $(wildcard host/*.c)
-# What only one of the host programs has; the other C files are in both.
-FRAME_C := $(wildcard host/flux_frame.c host/write_frame.c host/dump_*.c host/json.c)
-FLOOR_C := $(wildcard host/flux_floor.c host/floor_*.c)
-BOTH_C  := $(filter-out $(FRAME_C) $(FLOOR_C), $(C_FILES))
-H_FILES := $(wildcard host/*.h) include/lampreycoil.h
-
-.PHONY: help run test bench archive host fmt deps clean
+.PHONY: help run test bench archive host dist fmt deps clean
 .DELETE_ON_ERROR:
 
 help:
@@ -26,7 +18,9 @@ help:
 	@echo 'make test     the whole gate: every proof, must-fail edit and test'
 	@echo 'make bench    the library beside the second program, as ratios'
 	@echo 'make archive  the library for C: $(ARCHIVE)'
-	@echo 'make host     the C host programs: $(HOST)'
+	@echo 'make host     the C host programs: $(HOST_DIR)/flux_frame and flux_floor'
+	@echo 'make install  archive, header, pkg-config file, host programs and man pages, to PREFIX (/usr/local)'
+	@echo 'make dist     a tarball for machines with a C compiler and no kit: target/dist/'
 	@echo 'make fmt      format the Rattle and the C files'
 	@echo 'make deps     install the compilers that are missing (Debian packages)'
 	@echo 'make clean    remove target/'
@@ -58,13 +52,27 @@ archive: $(ARCHIVE)
 $(ARCHIVE): $(RATTLE)
 	rt staticlib lampreycoil
 
+include host/host.mk
+
 host: $(HOST)
 
-target/host/flux_frame: $(FRAME_C) $(BOTH_C)
-target/host/flux_floor: $(FLOOR_C) $(BOTH_C)
-$(HOST): $(H_FILES) $(ARCHIVE)
-	@mkdir -p $(@D)
-	$(CC) $(CFLAGS) -Iinclude -o $@ $(filter %.c,$^) $(ARCHIVE)
+# The same files make the same tarball: its entries are in order, nobody's, and as old as the last commit.
+DIST      = lampreycoil-$(VERSION)
+DIST_ROOM = target/dist/$(DIST)
+DIST_DATE = $(shell git log -1 --format=%ct 2>/dev/null || echo 0)
+dist: $(ARCHIVE)
+	rm -rf target/dist
+	mkdir -p $(DIST_ROOM)/lib/pkgconfig $(DIST_ROOM)/include $(DIST_ROOM)/docs
+	cp $(ARCHIVE) $(DIST_ROOM)/lib
+	cp include/lampreycoil.h $(DIST_ROOM)/include
+	cp -R host man README.md CHANGELOG.md lampreycoil.pc.in $(DIST_ROOM)
+	mv $(DIST_ROOM)/host/dist.mk $(DIST_ROOM)/Makefile
+	cp docs/FORMAT.md $(DIST_ROOM)/docs
+	$(call PC,$${pcfiledir}/../..,$${prefix}/lib,$${prefix}/include) >$(DIST_ROOM)/lib/pkgconfig/lampreycoil.pc
+	chmod -R u=rwX,go=rX $(DIST_ROOM)
+	tar -C target/dist --sort=name --mtime=@$(DIST_DATE) --owner=0 --group=0 --numeric-owner \
+	    -cf - $(DIST) | gzip -9n >target/dist/$(DIST).tar.gz
+	rm -rf $(DIST_ROOM)
 
 # The C layout is clang-format's, where it is installed.
 fmt:
