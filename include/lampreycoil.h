@@ -184,10 +184,7 @@ enum lampreycoil_size {
     LAMPREYCOIL_STACK_MAX = 16384    /* stack that a call takes */
 };
 
-/*
- * Sizes of the records that the calls fill, in bytes: 4 for each number. They have an enum of their
- * own, apart from the indices of these numbers, so that a compiler can tell one from the other.
- */
+/* Sizes of the records that the calls fill, in bytes: 4 for each number. None is an index. */
 enum lampreycoil_record_size {
     LAMPREYCOIL_READ_RECORD = 52,
     LAMPREYCOIL_WRITE_RECORD = 4,

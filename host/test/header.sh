@@ -36,6 +36,17 @@ else
     echo 'no g++ here: host/test/helpers.c is not compiled as C++'
 fi
 
+# Once more where each access and each step of the C is watched, if the compiler can do that here.
+watched='-fsanitize=address,undefined -fno-sanitize-recover=all'
+echo 'int main(void) { return 0; }' >"$room/watched.c"
+# shellcheck disable=SC2086 # the options are words
+if "${CC:-gcc}" $watched -o "$room/watched" "$room/watched.c" 2>"$room/err" && "$room/watched" 2>"$room/err"; then
+    program empty "${CC:-gcc}" -std=c99 $watched
+    program helpers "${CC:-gcc}" -std=c99 $watched
+else
+    echo 'no sanitizers here: host/test/empty.c and helpers.c run without them alone'
+fi
+
 # An answer that nobody looks at is a warning: of each call, and of what is made of the calls.
 ignored() { # CALL ARGUMENTS
     printf '#include "lampreycoil.h"\n%s\n{\n    %s(%s);\n}\n' \
