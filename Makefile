@@ -37,9 +37,9 @@ run: deps
 	@od -A d -t x1 target/host/log.frame
 	@printf '$$ flux_frame dump target/host/log.frame\n'
 	@target/host/flux_frame dump target/host/log.frame
-	@printf '\n== a walk over the floor of paper 01, step by step\n'
-	@printf '$$ flux_floor walk --enter 6 host/paper.floor --nodeid 4 --topic bench.run\n'
-	@target/host/flux_floor walk --enter 6 host/paper.floor --nodeid 4 --topic bench.run
+	@printf '\n== a walk over the example floor, step by step\n'
+	@printf '$$ flux_floor walk --enter 6 host/example.floor --nodeid 4 --topic bench.run\n'
+	@target/host/flux_floor walk --enter 6 host/example.floor --nodeid 4 --topic bench.run
 
 test: deps
 	@tools/gate

@@ -36,26 +36,16 @@ static void put_stretch(const struct dump *dump, size_t start, size_t length)
     json_hex(dump->bytes + start, length);
 }
 
-static void put_flags(uint8_t flags)
+/* A number and the names of its bits: those that have one. */
+static void put_bits(const char *number_name, uint32_t number, const char *names_name,
+                     const struct bit_name *names, size_t count)
 {
-    put_number("flags", flags);
-    json_name("flag_names");
+    put_number(number_name, number);
+    json_name(names_name);
     json_open('[');
-    for (size_t i = 0; i < FLAG_NAMES; i++) {
-        if ((flags & flag_names[i].bit) != 0)
-            json_text(flag_names[i].name);
-    }
-    json_close(']');
-}
-
-static void put_roles(uint32_t rolemask)
-{
-    put_number("rolemask", rolemask);
-    json_name("role_names");
-    json_open('[');
-    for (size_t i = 0; i < ROLE_NAMES; i++) {
-        if ((rolemask & role_names[i].bit) != 0)
-            json_text(role_names[i].name);
+    for (size_t i = 0; i < count; i++) {
+        if ((number & names[i].bit) != 0)
+            json_text(names[i].name);
     }
     json_close(']');
 }
@@ -70,9 +60,9 @@ static void put_fields(const uint8_t *header)
     put_number("type", fields.type);
     json_name("type_name");
     put_name(names == NULL ? "" : names->name);
-    put_flags(fields.flags);
+    put_bits("flags", fields.flags, "flag_names", flag_names, FLAG_NAMES);
     put_number("userid", fields.userid);
-    put_roles(fields.rolemask);
+    put_bits("rolemask", fields.rolemask, "role_names", role_names, ROLE_NAMES);
     put_number("first", fields.first);
     put_number("second", fields.second);
     if (names != NULL) {
@@ -165,7 +155,7 @@ static void put_refused(const struct dump *dump)
     size_t front = dump->length < FRONT ? dump->length : FRONT;
 
     put_number("refusal", dump->refusal);
-    put_text("words", refusal_words(dump->refusal));
+    put_text("words", lampreycoil_refusal_words(dump->refusal));
     put_text("because", dump->reason);
     json_name("front");
     json_hex(dump->bytes, front);

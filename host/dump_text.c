@@ -27,26 +27,28 @@ static void print_place(const char *name, size_t length, size_t start)
     printf(NAME "%zu %s, from byte %zu\n", name, length, counted(length), start);
 }
 
+/* The names of the bits that are set. Returns the bits that have none. */
+static uint32_t print_bits(uint32_t number, const struct bit_name *names, size_t count)
+{
+    for (size_t i = 0; i < count; i++) {
+        if ((number & names[i].bit) != 0)
+            printf(" %s", names[i].name);
+        number &= ~names[i].bit;
+    }
+    return number;
+}
+
 static void print_flags(uint8_t flags)
 {
     printf(NAME "%02X", "flags", flags);
-    for (size_t i = 0; i < FLAG_NAMES; i++) {
-        if ((flags & flag_names[i].bit) != 0)
-            printf(" %s", flag_names[i].name);
-    }
+    print_bits(flags, flag_names, FLAG_NAMES);
     putchar('\n');
 }
 
 static void print_roles(uint32_t rolemask)
 {
-    uint32_t nameless = rolemask;
-
     printf(NAME "%08lX", "rolemask", (unsigned long)rolemask);
-    for (size_t i = 0; i < ROLE_NAMES; i++) {
-        if ((rolemask & role_names[i].bit) != 0)
-            printf(" %s", role_names[i].name);
-        nameless &= ~role_names[i].bit;
-    }
+    uint32_t nameless = print_bits(rolemask, role_names, ROLE_NAMES);
     if (nameless != 0)
         printf(" nameless:%08lX", (unsigned long)nameless);
     putchar('\n');
@@ -188,7 +190,8 @@ static void print_split(const struct dump *dump)
 static void print_refused(const struct dump *dump)
 {
     printf(NAME "%zu %s\n", "input", dump->length, counted(dump->length));
-    printf(NAME "%lu: %s\n", "refused", (unsigned long)dump->refusal, refusal_words(dump->refusal));
+    printf(NAME "%lu: %s\n", "refused", (unsigned long)dump->refusal,
+           lampreycoil_refusal_words(dump->refusal));
     if (dump->reason[0] != '\0')
         printf(NAME "%s\n", "because", dump->reason);
     if (dump->length < FRONT) {

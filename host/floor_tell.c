@@ -34,6 +34,8 @@ uint32_t see(struct seen *seen, const struct floor *floor, const uint8_t *frame,
 void tell_message(const struct seen *seen)
 {
     const struct type_names *names = type_by_number(seen->type);
+    uint32_t parts = LAMPREYCOIL_TOPIC | LAMPREYCOIL_PAYLOAD | LAMPREYCOIL_ROUTE;
+    uint32_t others = seen->flags & ~parts;
 
     printf("%s ", names->name);
     print_quoted(stdout, seen->topic, seen->topic_length);
@@ -43,9 +45,7 @@ void tell_message(const struct seen *seen)
         printf(", %s %lu", names->first, (unsigned long)seen->first);
     printf(", %s %lu", names->second, (unsigned long)seen->second);
     for (size_t i = 0; i < FLAG_NAMES; i++) {
-        uint8_t part = LAMPREYCOIL_TOPIC | LAMPREYCOIL_PAYLOAD | LAMPREYCOIL_ROUTE;
-
-        if ((seen->flags & flag_names[i].bit & ~part) != 0)
+        if ((others & flag_names[i].bit) != 0)
             printf(", %s", flag_names[i].name);
     }
     printf(": %lu bytes, %lu routes\n", (unsigned long)seen->length, (unsigned long)seen->routes);
@@ -120,7 +120,7 @@ void tell_step(const struct floor *floor, const struct seen *seen, uint32_t rank
 
     printf("rank %lu ", (unsigned long)rank);
     if (refusal != LAMPREYCOIL_OK) {
-        printf("refuses it, %lu: %s\n", (unsigned long)refusal, refusal_words(refusal));
+        printf("refuses it, %lu: %s\n", (unsigned long)refusal, lampreycoil_refusal_words(refusal));
         return;
     }
     switch (lampreycoil_number(record, LAMPREYCOIL_STEP_ANSWER)) {

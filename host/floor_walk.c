@@ -150,7 +150,7 @@ static int see_entry(const struct play *play, size_t length, uint8_t type, struc
     uint32_t refusal = see(seen, play->floor, play->buffer, length);
 
     if (refusal != LAMPREYCOIL_OK) {
-        trouble("refused, %lu: %s", (unsigned long)refusal, refusal_words(refusal));
+        trouble("refused, %lu: %s", (unsigned long)refusal, lampreycoil_refusal_words(refusal));
         return EXIT_REFUSED;
     }
     /* A walk may be any message's: what the library does not play it refuses. */

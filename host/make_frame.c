@@ -12,15 +12,11 @@ struct stretch {
     size_t length;
 };
 
-/* The pointer of an empty slice is never followed, but the library asks that it is not NULL. */
+/* A text that was not given is the empty slice, whose pointer may be NULL. */
 static struct stretch text_stretch(const char *text)
 {
-    struct stretch stretch = {(const uint8_t *)"", 0};
+    struct stretch stretch = {(const uint8_t *)text, text == NULL ? 0 : strlen(text)};
 
-    if (text != NULL) {
-        stretch.bytes = (const uint8_t *)text;
-        stretch.length = strlen(text);
-    }
     return stretch;
 }
 
@@ -59,7 +55,7 @@ int make_frame(const struct write_options *options, uint8_t *frame, size_t *leng
         options->second.value, options->routes, options->routes_length, topic.bytes, topic.length,
         payload.bytes, payload.length, frame, LAMPREYCOIL_FRAME_MAX, record, sizeof record);
     if (refusal != LAMPREYCOIL_OK) {
-        trouble("refused, %lu: %s", (unsigned long)refusal, refusal_words(refusal));
+        trouble("refused, %lu: %s", (unsigned long)refusal, lampreycoil_refusal_words(refusal));
         return EXIT_REFUSED;
     }
     *length = lampreycoil_number(record, LAMPREYCOIL_WRITE_LENGTH);

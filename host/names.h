@@ -12,22 +12,15 @@ struct type_names {
     const char *second; /* name of the second field */
 };
 
-struct flag_name {
-    uint8_t bit;
-    const char *name;
-};
-
-enum { FLAG_NAMES = 7 };
-extern const struct flag_name flag_names[FLAG_NAMES];
-
-/* A bit of the rolemask, as Flux RFC 12 has it. */
-struct role_name {
+struct bit_name {
     uint32_t bit;
     const char *name;
 };
 
-enum { ROLE_NAMES = 3 };
-extern const struct role_name role_names[ROLE_NAMES];
+/* The bits of the flags, and those of the rolemask as Flux RFC 12 has them. */
+enum { FLAG_NAMES = 7, ROLE_NAMES = 3 };
+extern const struct bit_name flag_names[FLAG_NAMES];
+extern const struct bit_name role_names[ROLE_NAMES];
 
 struct error_name {
     const char *name;
@@ -40,8 +33,5 @@ const struct error_name *error_by_number(uint32_t number);
 /* NULL where there is no such type. */
 const struct type_names *type_by_number(uint32_t number);
 const struct type_names *type_by_name(const char *name);
-
-/* When the refusal is given, in the words of docs/FORMAT.md. */
-const char *refusal_words(uint32_t number);
 
 #endif

@@ -86,6 +86,15 @@ wrong_for() { # RUN LABEL TEXT WORDS...
 }
 wrong() { wrong_for run "$@"; } # LABEL TEXT WORDS...
 
+# The words and --help print a help with this text in it.
+helps() { # RUN TEXT WORDS...
+    local runs=$1 text=$2
+    shift 2
+    "$runs" "$@" --help
+    [ "$status" -eq 0 ] && grep -qF -- "$text" "$room/out" && [ ! -s "$room/err" ]
+    report $? "$runs $* --help"
+}
+
 # A program of host/test/ compiles with the header and the archive; each line that it writes is a test.
 program() { # NAME [COMPILER OPTIONS...]
     local name=$1 line
@@ -267,12 +276,8 @@ dump_refuses "an event's unused field is 10" 10 "$n10" "$start 00 00 00 18 02 41
 
 # ---- usage
 
-run --help
-[ "$status" -eq 0 ] && grep -q -- '--payload-text' "$room/out" && [ ! -s "$room/err" ]
-report $? '--help'
-run write --help
-[ "$status" -eq 0 ] && grep -q -- '--payload-text' "$room/out"
-report $? 'write --help'
+helps run '--payload-text'
+helps run '--payload-text' write
 wrong 'no command' 'flux_frame dump [OPTIONS] [FILE]'
 wrong 'an unknown command' "unknown command 'send'" send
 wrong 'an unknown option of write' "unknown option '--colour'" write --type event --colour red

@@ -1,6 +1,6 @@
 # Tests flux_floor: part of host/test.sh, which has set FLUX_FLOOR and has the helpers.
 
-paper=host/paper.floor
+example=host/example.floor
 
 # Runs flux_floor with the words given; leaves its status, and the files out and err.
 floor() {
@@ -35,9 +35,9 @@ told() { # TEXT
 
 floor_wrong() { wrong_for floor "$1" "flux_floor: $2" "${@:3}"; } # LABEL TEXT WORDS...
 
-# The paper's floor with this edit by sed breaks rules, and these are the lines that check prints.
+# The example floor with this edit by sed breaks rules, and these are the lines that check prints.
 breaks() { # LABEL EDIT TEXT
-    sed -e "$2" "$paper" >"$room/floor"
+    sed -e "$2" "$example" >"$room/floor"
     floor check "$room/floor"
     [ "$status" -eq 1 ] && [ "$(cat "$room/out")" = "$(printf '%s' "$3" | sed "s|^|$room/floor:|")" ] && [ ! -s "$room/err" ]
     report $? "$1"
@@ -45,7 +45,7 @@ breaks() { # LABEL EDIT TEXT
 
 # The same where the file cannot be read as a floor: trouble, with this text.
 unreadable() { # LABEL EDIT TEXT
-    sed -e "$2" "$paper" >"$room/floor"
+    sed -e "$2" "$example" >"$room/floor"
     floor_wrong "$1" "$room/floor:$3" check "$room/floor"
 }
 
@@ -60,17 +60,17 @@ chain() { # RANKS
 
 # ---- check and show
 
-floor_prints 'check of the paper' "$paper: a valid floor: 7 ranks, depth 2, 3 services" check "$paper"
-floor_prints 'show of the paper' 'rank     identity                              services
+floor_prints 'check of the example' "$example: a valid floor: 7 ranks, depth 2, 3 services" check "$example"
+floor_prints 'show of the example' 'rank     identity                              services
 0        00000000-0123-4567-89ab-cdef01234567  log
 +- 1     00000001-0123-4567-89ab-cdef01234567  bench
 |  +- 3  00000003-0123-4567-89ab-cdef01234567
 |  `- 4  00000004-0123-4567-89ab-cdef01234567  bench
 `- 2     00000002-0123-4567-89ab-cdef01234567
    +- 5  00000005-0123-4567-89ab-cdef01234567
-   `- 6  00000006-0123-4567-89ab-cdef01234567' show "$paper"
+   `- 6  00000006-0123-4567-89ab-cdef01234567' show "$example"
 cp "$room/out" "$room/picture"
-{ grep '^#' "$paper"; grep -v '^#' "$paper" | tac | sed 's/$/ # a rank\r/'; } >"$room/tac"
+{ grep '^#' "$example"; grep -v '^#' "$example" | tac | sed 's/$/ # a rank\r/'; } >"$room/tac"
 floor show - <"$room/tac"
 [ "$status" -eq 0 ] && cmp -s "$room/out" "$room/picture"
 report $? 'show of standard input, its lines in another order, with comments and carriage returns'
@@ -82,7 +82,7 @@ report $? 'show of a depth of 16'
 chain 18 | sed '18s/ 16 / 0 /' >"$room/floor"
 floor_prints 'a floor behind --' "$room/floor: a valid floor: 18 ranks, depth 16, 0 services" check -- "$room/floor"
 
-sed 's/^3 .*/3 1 00000003-0123-4567-89ab-cdef01234567 a b\xFFc d/' "$paper" >"$room/floor"
+sed 's/^3 .*/3 1 00000003-0123-4567-89ab-cdef01234567 a b\xFFc d/' "$example" >"$room/floor"
 floor show "$room/floor"
 [ "$status" -eq 0 ] && grep -qF '|  +- 3  00000003-0123-4567-89ab-cdef01234567  a b\xFFc d' "$room/out"
 report $? 'show of more services, and of a byte that is no text'
@@ -131,24 +131,24 @@ report $? 'walk over a floor that is not valid'
 
 # ---- files that are no floor
 
-unreadable 'a line without a rank' '7s/^0/root/' "7: a line begins with a rank, a number, not 'root'"
+unreadable 'a line without a rank' '7s/^0/top/' "7: a line begins with a rank, a number, not 'top'"
 unreadable 'a rank twice' '9s/^2/1/' '9: rank 1 has line 8 already'
 unreadable 'a rank left out' '9d' '12: rank 6 is here, but no line is rank 2'
 unreadable 'a rank far too high' '9s/^2/5000/' "9: a rank is a number from 0 to 1023, not '5000'"
 unreadable 'no parent' '9s/^2.*/2/' '9: the rank has no parent'
-unreadable 'a parent in words' '9s/ 0 / root /' "9: the parent is a number or 'none', not 'root'"
+unreadable 'a parent in words' '9s/ 0 / top /' "9: the parent is a number or 'none', not 'top'"
 unreadable 'no identity' '9s/0000.*//' '9: the rank has no identity'
 unreadable 'a byte that a terminal obeys' '9s/$/ \x1B[2J/' '9: the byte 1B, which is no text'
 unreadable 'a byte above 7F where a number is due' '9s/^2/\xFF/' "9: a line begins with a rank, a number, not '\\xFF'"
 named=$room/floor$'\x1B[31m\x9B'
-cp "$paper" "$named"
+cp "$example" "$named"
 for words in check "walk --enter 9 --topic x -o $room/none" 'walk --enter x --topic x'; do
     # shellcheck disable=SC2086
     floor $words "$named"
     ! LC_ALL=C grep -q '[^ -~]' "$room/out" "$room/err"
     report $? "a file's name with such bytes: $words"
 done
-sed 's/ 0 / 9 /' "$paper" >"$named"
+sed 's/ 0 / 9 /' "$example" >"$named"
 floor check "$named"
 [ "$status" -eq 1 ] && ! LC_ALL=C grep -q '[^ -~]' "$room/out" && grep -qF 'floor\x1B[31m\x9B:8: refused, 14: ' "$room/out"
 report $? "a broken rule in a file of such a name"
@@ -156,13 +156,13 @@ floor_wrong 'a floor that is not there' "cannot read $room/missing" check "$room
 
 # ---- W1 to W11
 
-walks W1 0 'delivered at rank 1, links 1: 3 > 1' walk --enter 3 "$paper" --topic bench.run
+walks W1 0 'delivered at rank 1, links 1: 3 > 1' walk --enter 3 "$example" --topic bench.run
 told 'step 1    rank 3 forwards it to rank 1, its parent: it has no service "bench"'
 told 'step 2    rank 1 delivers it: it has the service "bench" (record 1)'
-walks W2 0 'delivered at rank 4, links 0: 4' walk --enter 4 "$paper" --topic bench.run
-walks W3 0 'error reply 38 at rank 0, links 2: 5 > 2 > 0' walk --enter 5 "$paper" --topic bench.run --matchtag 9 -o "$room/reply"
+walks W2 0 'delivered at rank 4, links 0: 4' walk --enter 4 "$example" --topic bench.run
+walks W3 0 'error reply 38 at rank 0, links 2: 5 > 2 > 0' walk --enter 5 "$example" --topic bench.run --matchtag 9 -o "$room/reply"
 told 'step 3    rank 0 makes the error reply: it has no service "bench", and it has no parent (error 38, ENOSYS)'
-walks W4 0 'delivered at rank 0, links 2: 5 > 2 > 0' walk --enter 5 "$paper" --topic log
+walks W4 0 'delivered at rank 0, links 2: 5 > 2 > 0' walk --enter 5 "$example" --topic log
 floor_prints W5 'enters    at rank 6
 message   request "bench.run", nodeid 4, matchtag 0: 41 bytes, 0 routes
 
@@ -187,17 +187,17 @@ at rest   request "bench.run", nodeid 4, matchtag 0: 193 bytes, 4 routes
   route 1   00000000-0123-4567-89ab-cdef01234567  rank 0
   route 2   00000002-0123-4567-89ab-cdef01234567  rank 2
   route 3   00000006-0123-4567-89ab-cdef01234567  rank 6
-The walk call says the same: answer, rank, links and every byte.' walk --enter 6 "$paper" --nodeid 4 --topic bench.run
-walks W6 0 'error reply 38 at rank 5, links 4: 3 > 1 > 0 > 2 > 5' walk --enter=3 "$paper" --nodeid=5 --topic=bench.run
+The walk call says the same: answer, rank, links and every byte.' walk --enter 6 "$example" --nodeid 4 --topic bench.run
+walks W6 0 'error reply 38 at rank 5, links 4: 3 > 1 > 0 > 2 > 5' walk --enter=3 "$example" --nodeid=5 --topic=bench.run
 told 'rank 5 makes the error reply: it is the request'"'"'s rank, and has no service "bench" (error 38, ENOSYS)'
-walks W7 0 'error reply 113 at rank 3, links 0: 3' walk --enter 3 "$paper" --nodeid 7 --topic bench.run
+walks W7 0 'error reply 113 at rank 3, links 0: 3' walk --enter 3 "$example" --nodeid 7 --topic bench.run
 told 'step 1    rank 3 makes the error reply: rank 7 is not on this floor (error 113, EHOSTUNREACH)'
-walks W8 0 'delivered at rank 1, links 1: 4 > 1' walk --enter 4 "$paper" --nodeid 4 --upstream --topic bench.run
+walks W8 0 'delivered at rank 1, links 1: 4 > 1' walk --enter 4 "$example" --nodeid 4 --upstream --topic bench.run
 told 'upstream from a client of its own: its services are not tried'
-walks W9 0 'error reply 38 at rank 0, links 0: 0' walk --enter 0 "$paper" --nodeid 0 --upstream --topic log.put
+walks W9 0 'error reply 38 at rank 0, links 0: 0' walk --enter 0 "$example" --nodeid 0 --upstream --topic log.put
 told 'its services are not tried, and it has no parent (error 38, ENOSYS)'
-walks W10 0 'error reply 38 at rank 0, links 2: 3 > 1 > 0' walk --enter 3 "$paper" --topic benchmark.run
-walks W11 0 'silenced 38 at rank 0, links 2: 5 > 2 > 0' walk --enter 5 "$paper" --topic bench.run --noresponse
+walks W10 0 'error reply 38 at rank 0, links 2: 3 > 1 > 0' walk --enter 3 "$example" --topic benchmark.run
+walks W11 0 'silenced 38 at rank 0, links 2: 5 > 2 > 0' walk --enter 5 "$example" --topic bench.run --noresponse
 told 'step 3    rank 0 drops it in silence, for noresponse is set: it has no service "bench"'
 
 # ---- bytes left, frames, and home
@@ -207,54 +207,50 @@ told 'step 3    rank 0 drops it in silence, for noresponse is set: it has no ser
 status=0
 cmp "$room/reply" "$room/want" >"$room/out" 2>"$room/err"
 report $? 'the reply of W3 is what the writer makes'
-walks 'the reply of W3 goes home' 0 'home at rank 5, links 2: 0 > 2 > 5' home --from 0 -o "$room/home" "$paper" "$room/reply"
+walks 'the reply of W3 goes home' 0 'home at rank 5, links 2: 0 > 2 > 5' home --from 0 -o "$room/home" "$example" "$room/reply"
 told 'step 1    rank 0 forwards it to rank 2, its child: the top route is rank 2'"'"'s, and is taken off'
 told 'step 3    rank 5 has it home: no route is left, so it is for this broker itself'
 "$FLUX_FRAME" write --type response --errnum 38 --matchtag 9 --topic bench.run >"$room/want"
 cmp "$room/home" "$room/want" >"$room/out" 2>"$room/err"
 report $? 'at home the reply has the routes of the request on entry'
-walks 'a response for a client' 0 'home at rank 3, links 0: 3' home --from 3 "$paper" --topic x --route $two
+walks 'a response for a client' 0 'home at rank 3, links 0: 3' home --from 3 "$example" --topic x --route $two
 told 'the top route is no broker'"'"'s, so it is a client'"'"'s'
 { cat "$room/log"; printf 'behind'; } >"$room/in"
-walks 'a frame from a file, with bytes behind it' 0 'delivered at rank 0, links 2: 6 > 2 > 0' walk --enter 6 -o "$room/left" "$paper" "$room/in"
+walks 'a frame from a file, with bytes behind it' 0 'delivered at rank 0, links 2: 6 > 2 > 0' walk --enter 6 -o "$room/left" "$example" "$room/in"
 [ "$(wc -c <"$room/left")" -eq $((35 + 2 * 38)) ]
 report $? 'only the frame is left'
 cp "$room/log" "$room/in"
-walks 'a frame from standard input' 0 'delivered at rank 0, links 0: 0' walk --enter 0 "$paper" - <"$room/in"
+walks 'a frame from standard input' 0 'delivered at rank 0, links 0: 0' walk --enter 0 "$example" - <"$room/in"
 walks 'the most ranks' 0 'delivered at rank 1000, links 0: 1000' walk --enter 1000 "$room/most.floor" --topic s.x
 
 # ---- refusals
 
-walks 'a rank outside the floor is 17' 1 'refused at rank 7, links 0: 7' walk --enter 7 "$paper" --topic x
+walks 'a rank outside the floor is 17' 1 'refused at rank 7, links 0: 7' walk --enter 7 "$example" --topic x
 told 'step 1    rank 7 refuses it, 17: rank not in the tree'
-walks 'an event is 18' 1 'refused at rank 3, links 0: 3' walk --enter 3 "$paper" --type event --topic x
-walks 'a control is 18' 1 'refused at rank 3, links 0: 3' walk --enter 3 "$paper" --type control
-walks 'no neighbour is 19' 1 'refused at rank 2, links 1: 0 > 2' home --from 0 -o "$room/none" "$paper" --topic x \
+walks 'an event is 18' 1 'refused at rank 3, links 0: 3' walk --enter 3 "$example" --type event --topic x
+walks 'a control is 18' 1 'refused at rank 3, links 0: 3' walk --enter 3 "$example" --type control
+walks 'no neighbour is 19' 1 'refused at rank 2, links 1: 0 > 2' home --from 0 -o "$room/none" "$example" --topic x \
     --route 00000002-0123-4567-89ab-cdef01234567 --route 00000003-0123-4567-89ab-cdef01234567
 [ ! -e "$room/none" ]
 report $? 'a refusal leaves no file'
-walks 'a 65th route is 12' 1 'refused at rank 2, links 1: 5 > 2' walk --enter 5 "$paper" --topic x "${routes[@]:0:126}"
+walks 'a 65th route is 12' 1 'refused at rank 2, links 1: 5 > 2' walk --enter 5 "$example" --topic x "${routes[@]:0:126}"
 printf 'no frame' >"$room/in"
-floor walk --enter 0 "$paper" "$room/in"
+floor walk --enter 0 "$example" "$room/in"
 [ "$status" -eq 1 ] && [ ! -s "$room/out" ] && [ "$(cat "$room/err")" = "flux_floor: refused, 2: $n2" ]
 report $? 'bytes that are no frame are 2'
 head -c 34 "$room/log" >"$room/in"
-floor walk --enter 0 "$paper" "$room/in"
+floor walk --enter 0 "$example" "$room/in"
 [ "$status" -eq 1 ] && [ ! -s "$room/out" ] && [ "$(cat "$room/err")" = "flux_floor: refused, 1: $n1" ]
 report $? 'a frame cut short is 1'
-floor walk --enter 0 "$paper" --topic ''
+floor walk --enter 0 "$example" --topic ''
 [ "$status" -eq 1 ] && [ ! -s "$room/out" ] && [ "$(cat "$room/err")" = "flux_floor: refused, 9: $n9" ]
 report $? 'an empty topic is 9'
 
 # ---- usage
 
-floor --help
-[ "$status" -eq 0 ] && grep -q -- '--enter RANK' "$room/out" && [ ! -s "$room/err" ]
-report $? 'flux_floor --help'
-floor walk --help
-[ "$status" -eq 0 ] && grep -q -- '--enter RANK' "$room/out"
-report $? 'flux_floor walk --help'
-floor show "$paper" --help
+helps floor '--enter RANK'
+helps floor '--enter RANK' walk
+floor show "$example" --help
 [ "$status" -eq 0 ] && grep -q -- '--enter RANK' "$room/out" && ! grep -q '^rank ' "$room/out"
 report $? 'flux_floor show --help, behind a word'
 floor --version
@@ -267,24 +263,24 @@ floor_wrong 'an unknown command of flux_floor' "unknown command 'play'" play
 floor_wrong 'check without a floor' 'check needs the file of a floor' check
 floor_wrong 'show with two floors' "show takes one floor, and 'b' is one more" show a b
 floor_wrong 'an unknown option of show' "unknown option '--all' of show" show --all
-floor_wrong 'an unknown option of walk' "unknown option '--from' of walk" walk --from 3 "$paper" --topic x
+floor_wrong 'an unknown option of walk' "unknown option '--from' of walk" walk --from 3 "$example" --topic x
 floor_wrong 'walk without a floor' 'walk needs the file of a floor' walk --enter 3 --topic x
-floor_wrong 'walk without a rank' 'walk needs --enter RANK' walk "$paper" --topic x
-floor_wrong 'home without a rank' 'home needs --from RANK' home "$paper" --topic x
-floor_wrong 'a rank in words' "--enter takes a rank, a number, not 'three'" walk --enter three "$paper" --topic x
-floor_wrong 'a rank without its value' '--enter needs a value' walk "$paper" --topic x --enter
-floor_wrong 'a rank twice' '--enter is given twice' walk --enter 1 --enter 1 "$paper" --topic x
-floor_wrong 'a topic twice' '--topic is given twice' walk --enter 1 "$paper" --topic x --topic x
-floor_wrong 'a flag with a value' '--upstream takes no value' walk --enter 1 "$paper" --topic x --upstream=yes
-floor_wrong 'no message' 'walk needs a frame, or the options of a message' walk --enter 1 "$paper"
-floor_wrong 'a frame and options' 'give a frame or the options of a message, not both' walk --enter 1 "$paper" "$room/log" --topic x
-floor_wrong 'a word too many' "walk takes a floor and a frame, and 'more' is one more" walk --enter 1 "$paper" "$room/log" more
+floor_wrong 'walk without a rank' 'walk needs --enter RANK' walk "$example" --topic x
+floor_wrong 'home without a rank' 'home needs --from RANK' home "$example" --topic x
+floor_wrong 'a rank in words' "--enter takes a rank, a number, not 'three'" walk --enter three "$example" --topic x
+floor_wrong 'a rank without its value' '--enter needs a value' walk "$example" --topic x --enter
+floor_wrong 'a rank twice' '--enter is given twice' walk --enter 1 --enter 1 "$example" --topic x
+floor_wrong 'a topic twice' '--topic is given twice' walk --enter 1 "$example" --topic x --topic x
+floor_wrong 'a flag with a value' '--upstream takes no value' walk --enter 1 "$example" --topic x --upstream=yes
+floor_wrong 'no message' 'walk needs a frame, or the options of a message' walk --enter 1 "$example"
+floor_wrong 'a frame and options' 'give a frame or the options of a message, not both' walk --enter 1 "$example" "$room/log" --topic x
+floor_wrong 'a word too many' "walk takes a floor and a frame, and 'more' is one more" walk --enter 1 "$example" "$room/log" more
 floor_wrong 'standard input twice' 'only one file can be standard input' walk --enter 1 - -
-floor_wrong 'standard output for two things' '-o takes a file' walk --enter 1 "$paper" --topic x -o -
-floor_wrong 'an option behind --' 'cannot read --topic' walk --enter 1 "$paper" -- --topic
-floor_wrong 'home of a request' 'home takes a response, and this message is of type request' home --from 1 "$paper" "$room/log"
-floor_wrong 'a frame that is not there' "cannot read $room/missing" walk --enter 1 "$paper" "$room/missing"
-for words in "check $paper" "show $paper" "walk --enter 3 $paper --topic x" --help --version; do
+floor_wrong 'standard output for two things' '-o takes a file' walk --enter 1 "$example" --topic x -o -
+floor_wrong 'an option behind --' 'cannot read --topic' walk --enter 1 "$example" -- --topic
+floor_wrong 'home of a request' 'home takes a response, and this message is of type request' home --from 1 "$example" "$room/log"
+floor_wrong 'a frame that is not there' "cannot read $room/missing" walk --enter 1 "$example" "$room/missing"
+for words in "check $example" "show $example" "walk --enter 3 $example --topic x" --help --version; do
     # shellcheck disable=SC2086
     "$FLUX_FLOOR" $words >/dev/full 2>"$room/err"
     status=$?
@@ -292,7 +288,7 @@ for words in "check $paper" "show $paper" "walk --enter 3 $paper --topic x" --he
     [ "$status" -eq 2 ] && grep -q 'cannot write standard output' "$room/err"
     report $? "a full disk: ${words%% *}"
 done
-floor walk --enter 3 "$paper" --topic x -o /dev/full
+floor walk --enter 3 "$example" --topic x -o /dev/full
 [ "$status" -eq 2 ] && grep -q 'cannot write /dev/full' "$room/err"
 report $? 'a full disk for the bytes left'
 
@@ -306,12 +302,12 @@ report $? 'a full disk for the bytes left'
 status=$?
 report "$status" 'flux_floor with a wrong walk compiles'
 for wrong in refusal answer rank links byte; do
-    WRONG=$wrong "$room/wrong_floor" walk --enter 3 -o "$room/none" "$paper" --topic bench.run >"$room/out" 2>"$room/err"
+    WRONG=$wrong "$room/wrong_floor" walk --enter 3 -o "$room/none" "$example" --topic bench.run >"$room/out" 2>"$room/err"
     status=$?
     [ "$status" -eq 3 ] && grep -q "^flux_floor: THE WALK CALL DIFFERS from the steps: $wrong" "$room/err" &&
         [ "$(wc -l <"$room/err")" -eq 1 ] && ! grep -q 'says the same' "$room/out" && [ ! -e "$room/none" ]
     report $? "a walk that differs: $wrong"
 done
-WRONG='' "$room/wrong_floor" walk --enter 3 "$paper" --topic bench.run >"$room/out" 2>"$room/err"
+WRONG='' "$room/wrong_floor" walk --enter 3 "$example" --topic bench.run >"$room/out" 2>"$room/err"
 status=$?
 report "$status" 'a walk that does not differ'

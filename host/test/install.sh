@@ -35,7 +35,7 @@ all='./bin/flux_floor
 ./lib/liblampreycoil.a
 ./lib/pkgconfig/lampreycoil.pc
 ./share/doc/lampreycoil/FORMAT.md
-./share/doc/lampreycoil/paper.floor
+./share/doc/lampreycoil/example.floor
 ./share/man/man1/flux_floor.1
 ./share/man/man1/flux_frame.1'
 
@@ -75,7 +75,7 @@ good 'make install' quiet_make install PREFIX="$usr"
 good 'what is installed' says "$all" files "$usr"
 linked 'an install' "$usr"
 good 'flux_frame is installed' says "flux_frame $version" "$usr/bin/flux_frame" --version
-good 'flux_floor is installed' "$usr/bin/flux_floor" check "$usr/share/doc/lampreycoil/paper.floor"
+good 'flux_floor is installed' "$usr/bin/flux_floor" check "$usr/share/doc/lampreycoil/example.floor"
 echo kept >"$usr/lib/other"
 good 'make uninstall' quiet_make uninstall PREFIX="$usr"
 good 'make uninstall leaves what is not its own' says ./lib/other files "$usr"
