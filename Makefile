@@ -45,7 +45,7 @@ test: deps
 	@tools/gate
 
 bench: deps archive
-	@cd tests/second && CARGO_TARGET_DIR='$(CURDIR)/target/cargo' cargo run --release --offline --features walk --bin bench
+	@cd tests/second && CARGO_TARGET_DIR='$(CURDIR)/target/cargo' cargo run --release --offline --bin bench
 
 archive: $(ARCHIVE)
 

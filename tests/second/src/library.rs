@@ -28,7 +28,6 @@ extern "C" {
     ) -> u32;
 }
 
-#[cfg(feature = "tables")]
 extern "C" {
     pub fn lampreycoil_check_tree(
         tree: *const u8,
@@ -54,7 +53,6 @@ extern "C" {
     ) -> u32;
 }
 
-#[cfg(feature = "step")]
 extern "C" {
     pub fn lampreycoil_step(
         tree: *const u8,
@@ -72,7 +70,6 @@ extern "C" {
     ) -> u32;
 }
 
-#[cfg(feature = "walk")]
 extern "C" {
     pub fn lampreycoil_walk(
         tree: *const u8,

@@ -1,6 +1,5 @@
 //! Both programs behind one type, so that a test or a measurement treats them alike.
 
-#[cfg(feature = "step")]
 use crate::floor::Tables;
 use crate::write::Message;
 use crate::{calls, library};
@@ -12,18 +11,14 @@ type WriteCall = unsafe extern "C" fn(
     *const u8, usize, *const u8, usize, *const u8, usize,
     *mut u8, usize, *mut u8, usize,
 ) -> u32;
-#[cfg(feature = "tables")]
 type TreeCall = unsafe extern "C" fn(*const u8, usize, *mut u8, usize, *mut u8, usize) -> u32;
-#[cfg(feature = "tables")]
 type TableCall = unsafe extern "C" fn(*const u8, usize, *const u8, usize) -> u32;
-#[cfg(feature = "step")]
 #[rustfmt::skip]
 type StepCall = unsafe extern "C" fn(
     *const u8, usize, *const u8, usize, *const u8, usize,
     u32, u32,
     *mut u8, usize, *mut u8, usize,
 ) -> u32;
-#[cfg(feature = "walk")]
 #[rustfmt::skip]
 type WalkCall = unsafe extern "C" fn(
     *const u8, usize, *const u8, usize, *const u8, usize,
@@ -37,15 +32,10 @@ pub struct Side {
     pub name: &'static str,
     read: ReadCall,
     write: WriteCall,
-    #[cfg(feature = "tables")]
     check_tree: TreeCall,
-    #[cfg(feature = "tables")]
     check_services: TableCall,
-    #[cfg(feature = "tables")]
     check_identities: TableCall,
-    #[cfg(feature = "step")]
     step: StepCall,
-    #[cfg(feature = "walk")]
     walk: WalkCall,
 }
 
@@ -53,15 +43,10 @@ pub const LIBRARY: Side = Side {
     name: "library",
     read: library::lampreycoil_read,
     write: library::lampreycoil_write,
-    #[cfg(feature = "tables")]
     check_tree: library::lampreycoil_check_tree,
-    #[cfg(feature = "tables")]
     check_services: library::lampreycoil_check_services,
-    #[cfg(feature = "tables")]
     check_identities: library::lampreycoil_check_identities,
-    #[cfg(feature = "step")]
     step: library::lampreycoil_step,
-    #[cfg(feature = "walk")]
     walk: library::lampreycoil_walk,
 };
 
@@ -69,15 +54,10 @@ pub const SECOND: Side = Side {
     name: "second",
     read: calls::second_read,
     write: calls::second_write,
-    #[cfg(feature = "tables")]
     check_tree: calls::second_check_tree,
-    #[cfg(feature = "tables")]
     check_services: calls::second_check_services,
-    #[cfg(feature = "tables")]
     check_identities: calls::second_check_identities,
-    #[cfg(feature = "step")]
     step: calls::second_step,
-    #[cfg(feature = "walk")]
     walk: calls::second_walk,
 };
 
@@ -119,7 +99,6 @@ impl Side {
         }
     }
 
-    #[cfg(feature = "tables")]
     pub fn check_tree(&self, tree: &[u8], depths: &mut [u8], record: &mut [u8]) -> u32 {
         // Safe: all slices live through the call; depths and record are lent to it alone.
         unsafe {
@@ -134,7 +113,6 @@ impl Side {
         }
     }
 
-    #[cfg(feature = "tables")]
     pub fn check_services(&self, tree: &[u8], services: &[u8]) -> u32 {
         // Safe: both slices live through the call.
         unsafe {
@@ -142,7 +120,6 @@ impl Side {
         }
     }
 
-    #[cfg(feature = "tables")]
     pub fn check_identities(&self, tree: &[u8], identities: &[u8]) -> u32 {
         // Safe: both slices live through the call.
         unsafe {
@@ -155,7 +132,6 @@ impl Side {
         }
     }
 
-    #[cfg(feature = "step")]
     pub fn step(
         &self,
         tables: Tables,
@@ -183,7 +159,6 @@ impl Side {
         }
     }
 
-    #[cfg(feature = "walk")]
     pub fn walk(&self, tables: Tables, rank: u32, buffer: &mut [u8], record: &mut [u8]) -> u32 {
         // Safe: all slices live through the call; buffer and record are lent to it alone.
         unsafe {

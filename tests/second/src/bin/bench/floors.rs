@@ -99,7 +99,6 @@ fn chain(record: &[u8]) -> usize {
 
 /// Two chains of 16 below rank 0, 1 to 16 and 17 to 32, and all other ranks below rank 0. Every rank
 /// has the service "bench".
-#[cfg(feature = "walk")]
 pub fn forked(ranks: usize) -> OwnedTables {
     let mut parents: Vec<u32> = (0..33u32).map(|rank| rank.wrapping_sub(1)).collect();
     parents[17] = 0;

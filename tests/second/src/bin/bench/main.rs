@@ -6,31 +6,22 @@
 //! The parts are frames, tables, steps and walks; without any, all are measured. The files hold
 //! tables of 1,024 records that were made to be slow, as for instance all in one chain of a hash.
 
-#[cfg(feature = "step")]
 mod buffers;
-#[cfg(feature = "tables")]
 mod floors;
 mod frames;
-#[cfg(feature = "step")]
 mod steps;
-#[cfg(feature = "tables")]
 mod tables;
 mod turns;
-#[cfg(feature = "walk")]
 mod walks;
 
 use std::env;
 
-#[cfg(feature = "tables")]
 use second::sample::OwnedTables;
 
-#[cfg(feature = "tables")]
-use turns::print_own_head;
-use turns::{print_head, ROUNDS};
+use turns::{print_head, print_own_head, ROUNDS};
 
 fn main() {
     let words: Vec<String> = env::args().skip(1).collect();
-    #[cfg(feature = "tables")]
     let (words, given) = given_tables(words);
     let wanted = |part: &str| words.is_empty() || words.iter().any(|word| word == part);
     println!("Buffers are warmed and not cleared before a call. Times in nanoseconds a call;");
@@ -41,34 +32,27 @@ fn main() {
     if wanted("frames") {
         frames::measure();
     }
-    #[cfg(feature = "step")]
     if wanted("steps") {
         steps::measure(given.as_ref());
     }
-    #[cfg(feature = "walk")]
     if wanted("walks") {
         walks::measure();
     }
-    #[cfg(feature = "tables")]
     if wanted("tables") {
         tables::measure(given.as_ref());
     }
-    #[cfg(feature = "tables")]
-    if wanted("tables") || cfg!(feature = "walk") && wanted("walks") {
+    if wanted("tables") || wanted("walks") {
         print_own_head();
     }
-    #[cfg(feature = "tables")]
     if wanted("tables") {
         tables::measure_own(given.as_ref());
     }
-    #[cfg(feature = "walk")]
     if wanted("walks") {
         walks::measure_own();
     }
 }
 
 /// The tables that the arguments name, beside right ones, and the other arguments.
-#[cfg(feature = "tables")]
 fn given_tables(words: Vec<String>) -> (Vec<String>, Option<OwnedTables>) {
     let mut tables = floors::binary(1024);
     let (mut parts, mut given) = (Vec::new(), false);

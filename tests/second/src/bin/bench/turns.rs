@@ -28,14 +28,12 @@ pub fn print_row(call: &str, input: &str, bytes: usize, times: &Times) {
 }
 
 /// The table of what one input takes against another, both by the library.
-#[cfg(feature = "tables")]
 pub fn print_own_head() {
     println!();
     println!("| call | of the library's times | median |");
     println!("|---|---|---:|");
 }
 
-#[cfg(feature = "tables")]
 pub fn print_own_row(call: &str, name: &str, times: &Times) {
     println!("| {call} | {name} | {:.2} |", times.middle_ratio);
 }
@@ -53,7 +51,6 @@ pub fn take_turns(mut library: impl FnMut(), mut other: impl FnMut()) -> Times {
 /// The same where a call changes what it is lent. Before each stretch `prepare` puts as many of the
 /// things right as there will be calls, at most `most`, and that is not timed; a call gets its
 /// number. Both sides get the same things, and as many.
-#[cfg(feature = "step")]
 pub fn take_prepared_turns(
     most: usize,
     mut prepare: impl FnMut(usize),

@@ -23,7 +23,6 @@ pub fn run(tester: &mut Tester) {
     if let Some(mut memory) = given(tester, Repeated::new(ABOVE, pattern())) {
         run_in(tester, &mut memory);
     }
-    #[cfg(feature = "step")]
     if let Some(mut memory) = given(tester, Repeated::to_be_written(ABOVE, pattern())) {
         crate::long_steps::run(tester, &mut memory);
     }
@@ -55,7 +54,6 @@ fn run_in(tester: &mut Tester, memory: &mut Repeated) {
     write_above(tester, memory.bytes());
     unchanged(tester, memory, "write");
     long_output(tester, memory);
-    #[cfg(feature = "tables")]
     tables_above(tester, memory.bytes());
     unchanged(tester, memory, "all");
 }
@@ -145,7 +143,6 @@ fn long_output(tester: &mut Tester, memory: &mut Repeated) {
 }
 
 /// Tables whose lengths, cut to 32 bits, would be those of the right table at their front.
-#[cfg(feature = "tables")]
 fn tables_above(tester: &mut Tester, bytes: &mut [u8]) {
     use crate::draft::route;
     use crate::table_calls::star;

@@ -9,7 +9,6 @@ use crate::draft::frame_of;
 use crate::long_lengths::ABOVE;
 use crate::pages::{first_not_zero, Repeated};
 use crate::paper_floor::{request, tables, told_request, told_response, ANY};
-#[cfg(feature = "walk")]
 use crate::step_calls::pushed;
 use crate::step_calls::Told;
 use crate::tester::{hex, Tester};
@@ -22,7 +21,6 @@ pub fn run(tester: &mut Tester, memory: &mut Repeated) {
             step(tester, memory, floor.lent(), *rank, message, told);
         });
     }
-    #[cfg(feature = "walk")]
     tester.case("walk", 0, 0, |tester| {
         memory.refill();
         walk(tester, memory);
@@ -101,7 +99,6 @@ fn check_left(tester: &mut Tester, memory: &mut Repeated, frame: &[u8], cleared:
 }
 
 /// W1.
-#[cfg(feature = "walk")]
 fn walk(tester: &mut Tester, memory: &mut Repeated) {
     let floor = tables();
     let request = request(ANY, 0x00, 1, b"bench.run", b"");

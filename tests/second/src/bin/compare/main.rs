@@ -11,46 +11,29 @@ mod crash;
 mod draft;
 mod faults;
 mod long_lengths;
-#[cfg(feature = "step")]
 mod long_steps;
 mod messages;
 mod pages;
 mod paper;
-#[cfg(feature = "step")]
 mod paper_floor;
 mod reader_bounds;
 mod reader_order;
 mod seeded;
-#[cfg(feature = "step")]
 mod seeded_steps;
-#[cfg(feature = "walk")]
 mod seeded_strays;
-#[cfg(feature = "tables")]
 mod seeded_tables;
-#[cfg(feature = "walk")]
 mod seeded_walks;
-#[cfg(feature = "step")]
 mod step_bounds;
-#[cfg(feature = "step")]
 mod step_calls;
-#[cfg(feature = "step")]
 mod step_order;
-#[cfg(feature = "step")]
 mod step_rules;
-#[cfg(feature = "tables")]
 mod table_bounds;
-#[cfg(feature = "tables")]
 mod table_calls;
 mod tester;
-#[cfg(feature = "walk")]
 mod walk_bounds;
-#[cfg(feature = "walk")]
 mod walk_calls;
-#[cfg(feature = "walk")]
 mod walk_limits;
-#[cfg(feature = "walk")]
 mod walk_paper;
-#[cfg(feature = "walk")]
 mod walk_runs;
 mod writer_bounds;
 mod writer_order;
@@ -77,15 +60,7 @@ fn group(name: &'static str, weight: u64, run: fn(&mut Tester, &Run)) -> Group {
 }
 
 fn groups() -> Vec<Group> {
-    let all = [
-        frame_groups(),
-        #[cfg(feature = "tables")]
-        table_groups(),
-        #[cfg(feature = "step")]
-        step_groups(),
-        #[cfg(feature = "walk")]
-        walk_groups(),
-    ];
+    let all = [frame_groups(), table_groups(), step_groups(), walk_groups()];
     all.into_iter().flatten().collect()
 }
 
@@ -103,7 +78,6 @@ fn frame_groups() -> Vec<Group> {
     ]
 }
 
-#[cfg(feature = "tables")]
 fn table_groups() -> Vec<Group> {
     use table_bounds::{identities, services, trees};
     vec![
@@ -116,7 +90,6 @@ fn table_groups() -> Vec<Group> {
     ]
 }
 
-#[cfg(feature = "step")]
 fn step_groups() -> Vec<Group> {
     vec![
         group("step-rules", 0, |tester, _| step_rules::run(tester)),
@@ -126,7 +99,6 @@ fn step_groups() -> Vec<Group> {
     ]
 }
 
-#[cfg(feature = "walk")]
 fn walk_groups() -> Vec<Group> {
     vec![
         group("walk-paper", 0, |tester, _| walk_paper::run(tester)),

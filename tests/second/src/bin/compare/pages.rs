@@ -13,7 +13,6 @@ const PAGE: usize = 4096;
 const PROT_NONE: c_int = 0;
 const PROT_READ: c_int = 1;
 const PROT_WRITE: c_int = 2;
-#[cfg(feature = "step")]
 const MAP_SHARED: c_int = 0x01;
 const MAP_PRIVATE: c_int = 0x02;
 const MAP_FIXED: c_int = 0x10;
@@ -128,7 +127,6 @@ impl Repeated {
 
     /// The same, but all copies of the pattern between the first and the last are one piece of
     /// memory, so that all of it can be written.
-    #[cfg(feature = "step")]
     pub fn to_be_written(len: usize, pattern: Vec<u8>) -> Result<Repeated, Error> {
         let repeated = Repeated::new(len, pattern)?;
         let (space, pattern) = (&repeated.space, &repeated.pattern);
@@ -141,7 +139,6 @@ impl Repeated {
     }
 
     /// Puts the pattern back everywhere.
-    #[cfg(feature = "step")]
     pub fn refill(&mut self) {
         let pattern = std::mem::take(&mut self.pattern);
         let bytes = self.bytes();
@@ -185,7 +182,6 @@ impl Repeated {
     }
 }
 
-#[cfg(feature = "step")]
 pub fn first_not_zero(bytes: &[u8]) -> Option<usize> {
     const ZEROS: [u8; 4096] = [0; 4096];
     let mut chunks = bytes.chunks(ZEROS.len()).enumerate();
