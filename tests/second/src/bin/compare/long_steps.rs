@@ -9,8 +9,7 @@ use crate::draft::frame_of;
 use crate::long_lengths::ABOVE;
 use crate::pages::{first_not_zero, Repeated};
 use crate::paper_floor::{request, tables, told_request, told_response, ANY};
-use crate::step_calls::pushed;
-use crate::step_calls::Told;
+use crate::step_calls::{pushed, Told};
 use crate::tester::{hex, Tester};
 
 pub fn run(tester: &mut Tester, memory: &mut Repeated) {
