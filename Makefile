@@ -6,6 +6,8 @@ HOST_DIR = target/host
 
 # An install of Rust by its own installer may not be on the path.
 export PATH := $(PATH):$(HOME)/.cargo/bin
+# Proving is quicker where temporary files lie in memory.
+export TMPDIR := $(shell tools/tmpdir)
 
 # What the archive is made of. The program and the must-fail edits are not in it.
 RATTLE := $(wildcard crates.txt) $(shell find crates -path crates/examples -prune -o -name must-fail -prune \
