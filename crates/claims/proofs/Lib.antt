@@ -4,6 +4,7 @@ pub mod Records
 pub mod Frames
 pub mod Trees
 pub mod Ways
+pub mod Steps
 pub mod Stepping
 pub mod There
 pub mod Homeward

@@ -5,6 +5,7 @@ pub mod Records
 pub mod Frames
 pub mod Trees
 pub mod Ways
+pub mod Steps
 pub mod Demand3
 pub mod Corollaries
 pub mod Walks

@@ -8,6 +8,7 @@ ghost use Rattle.lampreycoil.specs.Calls.{headerOf};
 ghost use Rattle.claims.specs.Frames.{RecordHoldsMessage, AcceptedIsWrittenBack, WrittenIsReadBack};
 ghost use Rattle.claims.specs.Trees.{TreeIsChecked};
 ghost use Rattle.claims.specs.Ways.{EveryWay};
+ghost use Rattle.claims.specs.Steps.{StepsByTheRules};
 ghost use Rattle.routing.specs.Routed.{tablesOf};
 ghost use Rattle.claims.specs.Demand3.{DemandThree};
 ghost use Rattle.claims.specs.Corollaries.{EveryReplyComesHome, AtMost32Links, EveryWalkIsRun};
@@ -61,6 +62,20 @@ pub fn tree_is_checked(tree: &[u8])
 pub fn every_way(tree: &[u8])
     ensures { λ _. ⌜ EveryWay (now (tree .entry)) ⌝ }
 {}
+
+// A step call on a buffer that holds a message does what the rules of a step say, and nothing else.
+pub fn steps_by_the_rules(
+    tree: &[u8],
+    services: &[u8],
+    identities: &[u8],
+    rank: u32,
+    from_client: u32,
+    buffer: &[u8],
+)
+    ensures { λ _. ⌜ StepsByTheRules (tablesOf (now (tree .entry)) (now (services .entry)) (now (identities .entry))) rank «from_client» (now (buffer .entry)) ⌝ }
+{
+    are_bytes(buffer);
+}
 
 // Demand 3: a request's walk along its path, and the walk home of every response to it, by steps and by the walk call.
 pub fn demand_three(

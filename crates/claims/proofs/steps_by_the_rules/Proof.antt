@@ -1,0 +1,17 @@
+-- `claims::steps_by_the_rules` meets its contract.
+-- Assumes nothing.
+use borrow.Author.Needs.{needs}
+use Rattle.routing.specs.Routed.{tablesOf}
+use Rattle.claims.proofs.Steps.{steps-by-the-rules}
+use Rattle.claims.proofs.steps_by_the_rules.Statement.{statement}
+use Rattle.claims.proofs.steps_by_the_rules.Tie as tie
+
+are-bytes-requires : tie.Need-are-bytes-requires
+are-bytes-requires c κs = search needs
+
+returns : tie.Need-returns
+returns c = let s = c .before .before .before .before .before .args in
+    steps-by-the-rules (tablesOf (s .tree .now) (s .services .now) (s .identities .now)) (s .rank) (s .from-client) (s .buffer .now) (c .are-bytes .ensures)
+
+pub steps-by-the-rules-spec : {M : Type 1} → statement M
+steps-by-the-rules-spec = tie.close (tie.spec are-bytes-requires returns)
