@@ -1,31 +1,25 @@
-// One broker's step: what it does with the frame at the front of a buffer. It works in place and allocates nothing.
+// One broker's step behind the checks of its tables: what it does with the frame at the front of a buffer. It works in place and allocates nothing.
 use body::FRONT;
 use body::Frame;
 use body::Reading;
-use message::Header;
 use message::Refusal;
 use routing::Back;
 use routing::Broker;
 use routing::Way;
-ghost use mathlib.Core.Path.{_≡_};
 ghost use Rattle.message.specs.Answer.{answered, andThen};
 ghost use Rattle.routing.specs.Requests.{requestWay};
 ghost use Rattle.routing.specs.Responses.{responseWay};
-ghost use Rattle.routing.specs.Messages.{pushed, replyHeader};
+ghost use Rattle.routing.specs.Messages.{pushed};
 ghost use Rattle.routing.specs.Routed.{tablesOf, failed, forwardedIf, requested, responded};
 ghost use Prim.Native.Nat.{_≤_};
 ghost use lib.ListN.{length};
-ghost use Rattle.broker.specs.Step.{roomFor, passOf, stepOf, Makes};
+ghost use Rattle.broker.specs.Step.{roomFor, passOf, Makes};
 ghost use Rattle.broker.specs.Working.{heldIn, Lies};
 
 // The type of a request and of a response.
 const REQUEST: u8 = 1;
 
 const RESPONSE: u8 = 2;
-// An error reply's flags: topic and route, and streaming where the request had it.
-const REPLY: u8 = 0x09;
-
-const STREAMING_REPLY: u8 = 0x49;
 
 // What a step says: why it is refused; or delivered with a record's number, forwarded to a rank, an error reply or silence with the error's number,
 // or home.
@@ -36,24 +30,6 @@ pub enum Stepped {
     Replied(u32),
     Silenced(u32),
     Home,
-}
-
-// The header of the error reply to a request.
-fn reply_header(b: Broker, errnum: u32, request: Header) -> Header
-    ensures { λ r. ⌜ r ≡ replyHeader (b .userid) (b .rolemask) errnum request ⌝ }
-{
-    Header {
-        kind: RESPONSE,
-        flags: if message::is_streaming(request.flags) {
-            STREAMING_REPLY
-        } else {
-            REPLY
-        },
-        userid: b.userid,
-        rolemask: b.rolemask,
-        first: errnum,
-        second: request.second,
-    }
 }
 
 // Forwards a request: this broker's identity goes in front of its body.
@@ -88,7 +64,7 @@ fn fail(buffer: &mut [u8], f: Frame, b: Broker, errnum: u32) -> Stepped
     let topic = f.topic;
     // the topic ends in a zero byte that is not shown
     let kept = topic.start + topic.len + 1 - FRONT;
-    rewrite::put_header(buffer, kept, reply_header(b, errnum, f.header));
+    rewrite::put_header(buffer, kept, routing::reply_header(b, errnum, f.header));
     Stepped::Replied(errnum)
 }
 
@@ -171,26 +147,4 @@ pub fn pass(
             Stepped::Refused(Refusal::NotRouted)
         }
     }
-}
-
-// The whole step: 14, 15 and 16 in front. Each table is checked once.
-pub fn step(
-    tree: &[u8],
-    services: &[u8],
-    identities: &[u8],
-    b: Broker,
-    buffer: &mut [u8],
-) -> Stepped
-    ensures { λ r. ⌜ Makes (stepOf (tablesOf (now (tree .entry)) (now (services .entry)) (now (identities .entry))) b (now (buffer .entry))) (now (buffer .entry)) r (now (buffer .exit)) ⌝ }
-{
-    if !tree::is_tree(tree) {
-        return Stepped::Refused(Refusal::WrongTree);
-    }
-    if !services::are_services(tree, services) {
-        return Stepped::Refused(Refusal::WrongServices);
-    }
-    if !identities::are_identities(tree, identities) {
-        return Stepped::Refused(Refusal::WrongIdentities);
-    }
-    pass(tree, services, identities, b, buffer)
 }

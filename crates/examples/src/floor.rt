@@ -43,7 +43,7 @@ fn broker_of(rank: u32, client: bool) -> Broker {
 }
 
 pub(crate) fn step(rank: u32, client: bool, buffer: &mut [u8]) -> Stepped {
-    broker::step(
+    floor_step::step(
         &TREE,
         &SERVICES,
         &IDENTITIES,

@@ -31,7 +31,7 @@ pub extern "C" fn lampreycoil_step(
         userid: NO_USER,
         rolemask: 0,
     };
-    let stepped = broker::step(tree, services, identities, b, buffer);
+    let stepped = floor_step::step(tree, services, identities, b, buffer);
     let refusal = rows::refusal_in(stepped);
     if refusal != 0 {
         return refusal;

@@ -1,9 +1,10 @@
-// Where a broker sends a request or a response. Nothing here looks at a frame, and every table may hold any bytes.
+// Where a broker sends a request or a response, and the header of its error reply. Nothing here looks at a frame, and every table may hold any bytes.
 use message::Header;
 use records::Found;
 ghost use mathlib.Core.Path.{_≡_};
 ghost use Rattle.routing.specs.Requests.{deliverOr, toParent, upwards, toRank, requestWay};
 ghost use Rattle.routing.specs.Responses.{towardsBroker};
+ghost use Rattle.routing.specs.Messages.{replyHeader};
 ghost use Rattle.identities.specs.Identities.{brokerOf};
 
 // The nodeid of any rank.
@@ -15,6 +16,12 @@ const NO_RANK: u32 = 113;
 
 // The most ranks that a tree has.
 const MOST_RANKS: usize = 1024;
+// The type of a response.
+const RESPONSE: u8 = 2;
+// An error reply's flags: topic and route, and streaming where the request had it.
+const REPLY: u8 = 0x09;
+
+const STREAMING_REPLY: u8 = 0x49;
 
 // The broker that makes a step: its rank, whether it has the message from a local client, and the userid and rolemask of its error replies.
 pub struct Broker {
@@ -123,5 +130,23 @@ pub fn response_way(tree: &[u8], identities: &[u8], rank: u32, top: &[u8]) -> Ba
                 Back::Stray
             }
         }
+    }
+}
+
+// The header of the error reply to a request.
+pub fn reply_header(b: Broker, errnum: u32, request: Header) -> Header
+    ensures { λ r. ⌜ r ≡ replyHeader (b .userid) (b .rolemask) errnum request ⌝ }
+{
+    Header {
+        kind: RESPONSE,
+        flags: if message::is_streaming(request.flags) {
+            STREAMING_REPLY
+        } else {
+            REPLY
+        },
+        userid: b.userid,
+        rolemask: b.rolemask,
+        first: errnum,
+        second: request.second,
     }
 }

@@ -69,7 +69,7 @@ pub fn walk(tree: &[u8], services: &[u8], identities: &[u8], b: Broker, buffer: 
             links: 0,
         };
     }
-    let stepped = broker::step(tree, services, identities, b, buffer);
+    let stepped = floor_step::step(tree, services, identities, b, buffer);
     if let Stepped::Forwarded(next) = stepped {
         go_on(tree, services, identities, next, b, buffer)
     } else {

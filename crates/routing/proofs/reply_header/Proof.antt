@@ -1,4 +1,4 @@
--- `broker::reply_header` meets its contract.
+-- `routing::reply_header` meets its contract.
 -- Assumes nothing.
 use borrow.Author.Needs.{needs}
 use mathlib.Core.Path.{_≡_, sym, _∙_}
@@ -6,9 +6,9 @@ use mathlib.Core.Bool.{Bool, true, false}
 use Prim.Native.Nat.{ℕ}
 use Rattle.message.specs.declared.Header.{Header}
 use Rattle.message.specs.Header.{isStreaming}
 use Rattle.routing.specs.Messages.{replyHeader}
-use Rattle.broker.proofs.reply_header.Statement.{statement}
-use Rattle.broker.proofs.reply_header.Tie as tie
+use Rattle.routing.proofs.reply_header.Statement.{statement}
+use Rattle.routing.proofs.reply_header.Tie as tie
 
 -- flags 49 where the request streams, else 09
 streams : (userid rolemask errnum : ℕ) (h : Header) → isStreaming (h .flags) ≡ true →

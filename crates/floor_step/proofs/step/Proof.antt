@@ -1,4 +1,4 @@
--- `broker::step` meets its contract.
+-- `floor_step::step` meets its contract.
 -- Assumes nothing.
 use borrow.Author.Needs.{needs}
 use mathlib.Core.Path.{_≡_, sym, _∙_}
@@ -10,10 +10,10 @@ use Rattle.tree.specs.Depths.{treeGood}
 use Rattle.services.specs.Services.{servicesGood}
 use Rattle.routing.specs.declared.Broker.{Broker}
 use Rattle.routing.specs.Routed.{Tables, tablesOf}
 use Rattle.broker.proofs.Lying.{refuses, makes-as}
 use Rattle.broker.proofs.Passing.{step-tree, step-services, step-identities, step-pass}
-use Rattle.broker.proofs.step.Statement.{statement}
-use Rattle.broker.proofs.step.Tie as tie
+use Rattle.floor_step.proofs.step.Statement.{statement}
+use Rattle.floor_step.proofs.step.Tie as tie
 
 module _ (s : tie.Start) where
   abbrev b : List ℕ
