@@ -15,7 +15,7 @@ pub fn step(
 ) -> Stepped
     ensures { λ r. ⌜ Makes (stepOf (tablesOf (now (tree .entry)) (now (services .entry)) (now (identities .entry))) b (now (buffer .entry))) (now (buffer .entry)) r (now (buffer .exit)) ⌝ }
 {
-    if !tree::is_tree(tree) {
+    if !tree_check::is_tree(tree) {
         return Stepped::Refused(Refusal::WrongTree);
     }
     if !services::are_services(tree, services) {

@@ -2,12 +2,12 @@
 use form::ROUTE;
 use message::Refusal;
 use records::Found;
-use tree::Checked;
+use tree_check::Checked;
 ghost use mathlib.Core.Path.{_≡_};
 ghost use Prim.Native.Nat.{_+_, _*_, _<_, _≤_};
 ghost use lib.ListN.{length};
 ghost use Rattle.form.specs.Forms.{routeLength};
-ghost use Rattle.tree.specs.Checking.{told};
+ghost use Rattle.tree_check.specs.Checking.{told};
 ghost use Rattle.identities.specs.Identities.{identityAt, sameIdentity, identitiesGood, checkOf, brokerOf};
 
 // The identity of a rank.
@@ -66,7 +66,7 @@ pub fn are_identities(tree: &[u8], identities: &[u8]) -> bool
 pub fn check_identities(tree: &[u8], identities: &[u8]) -> Checked
     ensures { λ r. ⌜ told r ≡ checkOf (now (tree .entry)) (now (identities .entry)) ⌝ }
 {
-    if !tree::is_tree(tree) {
+    if !tree_check::is_tree(tree) {
         return Checked::Refused(Refusal::WrongTree);
     }
     if !are_identities(tree, identities) {

@@ -12,7 +12,7 @@ use Rattle.message.specs.Answer.{Answer, refused, answered}
 use Rattle.message.proofs.Answers.{not-answered, answered-same, passed}
 use Rattle.tree.specs.Tree.{ranksIn}
 use Rattle.tree.specs.Depths.{treeGood, depthsOf}
-use Rattle.tree.specs.Checking.{depthsInto, howMany}
+use Rattle.tree_check.specs.Checking.{depthsInto, howMany}
 use Rattle.lampreycoil.specs.Calls.{returned, treeCall, wrote}
 use Rattle.lampreycoil.proofs.Telling.{done}
 

@@ -15,7 +15,7 @@ use Rattle.message.specs.Answer.{Answer, refused, answered, refuseIf, andThen, 
 use Rattle.message.specs.Message.{Message}
 use Rattle.message.specs.Reading.{readingOf}
 use Rattle.message.specs.Writing.{writingInto}
-use Rattle.tree.specs.Checking.{depthsInto}
+use Rattle.tree_check.specs.Checking.{depthsInto}
 use Rattle.routing.specs.declared.Broker.{Broker}
 use Rattle.routing.specs.Routed.{Tables, Outcome}
 use Rattle.broker.specs.Step.{stepOf, leftBy, toldAs}

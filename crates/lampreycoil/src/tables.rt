@@ -1,9 +1,9 @@
 // The checks of the floor's tables.
 use crate::COUNT_RECORD;
 use message::Refusal;
-use tree::Checked;
+use tree_check::Checked;
 ghost use mathlib.Core.Path.{_≡_};
-ghost use Rattle.tree.specs.Checking.{told};
+ghost use Rattle.tree_check.specs.Checking.{told};
 ghost use Rattle.services.specs.Services;
 ghost use Rattle.identities.specs.Identities;
 ghost use Rattle.lampreycoil.specs.Calls.{returned, ChecksTree};
@@ -16,7 +16,7 @@ pub extern "C" fn lampreycoil_check_tree(tree: &[u8], depths: &mut [u8], row: &m
     if row.len() < COUNT_RECORD {
         return message::number(Refusal::ShortOutput);
     }
-    match tree::check_tree(tree, depths) {
+    match tree_check::check_tree(tree, depths) {
         Checked::Refused(r) => message::number(r),
         Checked::Passed(n) => {
             octets::put_row(row, &[n]);

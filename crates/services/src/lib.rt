@@ -1,13 +1,13 @@
 // The services that brokers register: the table's check.
 use message::Refusal;
-use tree::Checked;
+use tree_check::Checked;
 ghost use mathlib.Core.Path.{_≡_};
 ghost use Prim.Native.Nat.{_+_, _*_, _<_, _≤_};
 ghost use mathlib.Core.Bool.{cond};
 ghost use lib.Dec.{eqb};
 ghost use lib.ListN.{length, getD};
 ghost use Rattle.records.specs.Below.{allBelow};
-ghost use Rattle.tree.specs.Checking.{told};
+ghost use Rattle.tree_check.specs.Checking.{told};
 ghost use Rattle.services.specs.Working.{mayStand};
 ghost use Rattle.services.specs.Services.{serviceWidth, serviceAt, serviceGood, servicesGood, checkOf};
 
@@ -109,7 +109,7 @@ pub fn are_services(tree: &[u8], services: &[u8]) -> bool
 pub fn check_services(tree: &[u8], services: &[u8]) -> Checked
     ensures { λ r. ⌜ told r ≡ checkOf (now (tree .entry)) (now (services .entry)) ⌝ }
 {
-    if !tree::is_tree(tree) {
+    if !tree_check::is_tree(tree) {
         return Checked::Refused(Refusal::WrongTree);
     }
     if !are_services(tree, services) {

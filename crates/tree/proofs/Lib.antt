@@ -1,4 +1,3 @@
 -- Laws about the tree, for the proofs of this crate and of the crates above.
 pub mod Tree
 pub mod Depths
-pub mod Checking

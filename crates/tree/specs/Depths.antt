@@ -1,4 +1,4 @@
--- Which trees are accepted: by the paper's sentence, and by a test that can be computed. That they are the same is the law `check-is-right` (proofs/Checking.antt).
+-- Which trees are accepted: by the paper's sentence, and by a test that can be computed. That they are the same is the law `check-is-right` (tree_check's proofs/Checking.antt).
 -- Assumes nothing.
 use mathlib.Core.Path.{_≡_}
 use Prim.Native.Nat.{ℕ, zero, suc, _+_, _≤_, _<_}

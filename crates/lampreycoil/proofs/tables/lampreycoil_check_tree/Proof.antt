@@ -7,7 +7,7 @@ use mathlib.Core.List.{List}
 use Prim.Native.Nat.{ℕ, _≤_}
 use lib.ListN.{length}
 use Rattle.message.specs.Answer.{Answer}
-use Rattle.tree.specs.Checking.{told, depthsInto}
+use Rattle.tree_check.specs.Checking.{told, depthsInto}
 use Rattle.lampreycoil.proofs.Telling.{fills-none, fills-refused, fills-counted, fills-on}
 use Rattle.lampreycoil.proofs.TreeCalls.{tree-short, tree-on, tree-refused, tree-counted}
 use Rattle.lampreycoil.proofs.tables.lampreycoil_check_tree.Statement.{statement}

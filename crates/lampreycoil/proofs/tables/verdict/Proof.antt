@@ -3,8 +3,8 @@
 use borrow.Author.Needs.{needs}
 use mathlib.Core.Path.{sym, ap, _∙_}
 use Rattle.lampreycoil.specs.Calls.{returned}
-use Rattle.tree.specs.Checking.{told}
-use Rattle.tree.specs.declared.Checked.{Checked}
+use Rattle.tree_check.specs.Checking.{told}
+use Rattle.tree_check.specs.declared.Checked.{Checked}
 use Rattle.lampreycoil.proofs.tables.verdict.Statement.{statement}
 use Rattle.lampreycoil.proofs.tables.verdict.Tie as tie
 

@@ -1,4 +1,4 @@
--- `tree::check_tree` meets its contract.
+-- `tree_check::check_tree` meets its contract.
 -- Assumes nothing.
 use mathlib.Core.Path.{_≡_, refl, sym, ap, _∙_}
 use mathlib.Core.Bool.{true}
@@ -11,15 +11,15 @@ use lib.Seq.{length-take-le}
 use Rattle.octets.proofs.Buffers.{laid-room}
 use Rattle.message.specs.declared.Refusal.the-variants.{ShortOutput}
 use Rattle.message.specs.Answer.{refused, answered, writtenOver}
 use Rattle.tree.specs.Tree.{ranksIn}
 use Rattle.tree.specs.Depths.{treeGood, depthsOf}
-use Rattle.tree.specs.Checking.{depthsInto, howMany}
+use Rattle.tree_check.specs.Checking.{depthsInto, howMany}
 use Rattle.tree.proofs.Tree.{whole-few}
 use Rattle.tree.proofs.Depths.{good-whole}
-use Rattle.tree.proofs.Checking.{into-wrong, into-short, into-right, length-depths, depths-found}
+use Rattle.tree_check.proofs.Checking.{into-wrong, into-short, into-right, length-depths, depths-found}
 use borrow.Author.Needs.{needs}
-use Rattle.tree.proofs.check_tree.Statement.{statement}
-use Rattle.tree.proofs.check_tree.Tie as tie
+use Rattle.tree_check.proofs.check_tree.Statement.{statement}
+use Rattle.tree_check.proofs.check_tree.Tie as tie
 
 -- where the test has passed, the tree is right, and its depths are found
 module _ (c : tie.Else1) where

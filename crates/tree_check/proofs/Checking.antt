@@ -11,11 +11,11 @@ use lib.ListN.{length, getD, take, length-append, List·getD-append}
 use lib.Seq.{getD-at, getD-take, length-take-le, ext-getD}
 use Rattle.message.specs.declared.Refusal.the-variants.{WrongTree, ShortOutput}
 use Rattle.message.specs.Answer.{refused, answered}
 use Rattle.tree.specs.Tree.{ranksIn}
 use Rattle.tree.specs.Depths.{Depths, Accepted, depthOf, treeGood, depthsBelow, depthsOf}
 use Rattle.tree.proofs.Depths.{accepted-of, good-of, depths-are}
-use Rattle.tree.specs.Checking.{depthsInto}
-use Rattle.tree.specs.Working.{Shallow}
+use Rattle.tree_check.specs.Checking.{depthsInto}
+use Rattle.tree_check.specs.Working.{Shallow}
 
 module _ (tree : List ℕ) where
   pub length-depths : (n : ℕ) → length (depthsBelow tree n) ≡ n

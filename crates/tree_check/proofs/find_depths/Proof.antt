@@ -1,4 +1,4 @@
--- `tree::find_depths` meets its contract: the depths of the ranks below r are found, and none is above 16.
+-- `tree_check::find_depths` meets its contract: the depths of the ranks below r are found, and none is above 16.
 -- Assumes nothing.
 use mathlib.Core.Path.{_≡_, refl, sym, _∙_}
 use mathlib.Core.Bool.{true}
@@ -7,12 +7,12 @@ use borrow.Author.Count.{falls}
 use borrow.Author.Tests.{not-true, not-false}
 use native.Mathlib.Omega.{arith}
 use lib.ListN.{length, length-set}
 use Rattle.tree.specs.Tree.{ranksIn, wholeTree}
-use Rattle.tree.specs.Working.{Shallow}
+use Rattle.tree_check.specs.Working.{Shallow}
 use Rattle.tree.proofs.Tree.{whole-few}
-use Rattle.tree.proofs.Depths.{bad-whole, bad-top, bad-depth, shallow-none, shallow-more, finds-none, finds-all}
-use Rattle.tree.proofs.find_depths.Statement.{statement}
-use Rattle.tree.proofs.find_depths.Tie as tie
+use Rattle.tree_check.proofs.Finding.{bad-whole, bad-top, bad-depth, shallow-none, shallow-more, finds-none, finds-all}
+use Rattle.tree_check.proofs.find_depths.Statement.{statement}
+use Rattle.tree_check.proofs.find_depths.Tie as tie
 
 abbrev Inv-loop : tie.InvT-loop
 Inv-loop tree depths₀ n r₀ depths r = (r ≤ n) × (n ≡ ranksIn tree) × (n ≤ 1024) × (length depths ≡ length depths₀) × Shallow tree depths r

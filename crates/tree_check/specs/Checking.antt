@@ -6,10 +6,10 @@ use lib.Dec.{ltb}
 use lib.ListN.{length}
 use Rattle.message.specs.declared.Refusal.the-variants.{WrongTree, ShortOutput}
 use Rattle.message.specs.Answer.{Answer, refused, answered, refuseIf}
-use Rattle.tree.specs.declared.Checked.{Checked}
-use Rattle.tree.specs.declared.Checked.the-variants.{Refused, Passed}
+use Rattle.tree_check.specs.declared.Checked.{Checked}
+use Rattle.tree_check.specs.declared.Checked.the-variants.{Refused, Passed}
 use Rattle.tree.specs.Tree.{ranksIn}
 use Rattle.tree.specs.Depths.{treeGood, depthsOf}
 
 -- what a check says: the refusal, or how many entries the table has
 abbrev pub told : Checked → Answer ℕ

@@ -1,14 +1,14 @@
--- `tree::depth_after` meets its contract: a rank is one deeper than its parent.
+-- `tree_check::depth_after` meets its contract: a rank is one deeper than its parent.
 -- Assumes nothing.
 use mathlib.Core.Path.{ap, _∙_}
 use Prim.Native.Nat.{_<_}
 use native.Mathlib.Omega.{arith}
 use Rattle.tree.specs.Tree.{parentOf}
 use Rattle.tree.specs.Depths.{depthOf}
 use Rattle.tree.proofs.Depths.{depth-next}
 use borrow.Author.Needs.{needs}
-use Rattle.tree.proofs.depth_after.Statement.{statement}
-use Rattle.tree.proofs.depth_after.Tie as tie
+use Rattle.tree_check.proofs.depth_after.Statement.{statement}
+use Rattle.tree_check.proofs.depth_after.Tie as tie
 
 parent-of-requires : tie.Need-parent-of-requires
 parent-of-requires c κs = search needs
