@@ -26,7 +26,7 @@ use Rattle.broker.specs.declared.Stepped.{Stepped}
 use Rattle.broker.specs.declared.Stepped.the-variants.{Delivered, Forwarded, Replied, Silenced, Home}
 use Rattle.broker.specs.Step.{ValidTables}
 use Rattle.walk.specs.Walk.{leastBuffer}
-use Rattle.rows.specs.Steps.{stepRow, frameLength}
+use Rattle.answers.specs.Steps.{stepRow, frameLength}
 use Rattle.lampreycoil.specs.Calls.{hostBroker, Steps, stepRecord, Plays, walkRecord}
 
 -- ---- the premises

@@ -59,7 +59,7 @@ fn go(entry: u32, picture: &mut [u8], buffer: &mut [u8]) -> Walked {
 
 // The numbers of a walk's end, as a C program gets them.
 fn put_end(out: &mut [u8], w: Walked) {
-    octets::put_row(out, &rows::walk_row(w, 0));
+    octets::put_row(out, &answers::walk_row(w, 0));
 }
 
 // Whether two walks ended with the same answer, at the same rank, after as many links.

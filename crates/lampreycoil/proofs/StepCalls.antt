@@ -23,7 +23,7 @@ use Rattle.routing.specs.Routed.{Tables, Outcome, delivered, forwarded, replied
 use Rattle.broker.specs.declared.Stepped.{Stepped}
 use Rattle.broker.specs.Step.{stepOf, leftBy, toldAs}
 use Rattle.broker.proofs.Passing.{step-took}
-use Rattle.rows.specs.Steps.{refusalIn, stepRow, frameLength}
+use Rattle.answers.specs.Steps.{refusalIn, stepRow, frameLength}
 use Rattle.lampreycoil.specs.Calls.{stepCall, Tells}
 use Rattle.lampreycoil.proofs.Telling.{Done}
 

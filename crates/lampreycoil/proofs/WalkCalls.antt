@@ -25,7 +25,7 @@ use Rattle.broker.specs.Step.{toldAs}
 use Rattle.walk.specs.declared.Walked.{Walked}
 use Rattle.walk.specs.Walk.{Walk, walkOf, Walks}
 use Rattle.walk.proofs.Walking.{walk-short}
-use Rattle.rows.specs.Steps.{refusalIn, stepRow, walkRow, frameLength}
+use Rattle.answers.specs.Steps.{refusalIn, stepRow, walkRow, frameLength}
 use Rattle.lampreycoil.specs.Calls.{returned, walkNumbers, Reports, Plays}
 use Rattle.lampreycoil.proofs.StepCalls.{no-refusal}
 

@@ -21,7 +21,7 @@ use Rattle.routing.specs.Routed.{Tables, Outcome}
 use Rattle.broker.specs.Step.{stepOf, leftBy, toldAs}
 use Rattle.walk.specs.Walk.{Walk, walkOf}
 use Rattle.rows.specs.Rows.{readRow}
-use Rattle.rows.specs.Steps.{stepRow, frameLength}
+use Rattle.answers.specs.Steps.{stepRow, frameLength}
 use Rattle.body.specs.Places.{placesOf}
 
 -- ---- what a call tells of its answer

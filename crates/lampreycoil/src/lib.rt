@@ -7,7 +7,7 @@ use message::Refusal;
 ghost use mathlib.Core.Path.{_≡_};
 ghost use Prim.Native.Nat.{_≤_};
 ghost use lib.ListN.{length};
-ghost use Rattle.rows.specs.Steps.{frameLength};
+ghost use Rattle.answers.specs.Steps.{frameLength};
 ghost use Rattle.lampreycoil.specs.Calls.{Reads, headerOf, Writes};
 ghost use Rattle.message.specs.Writing.{givenMessage};
 

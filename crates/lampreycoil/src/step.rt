@@ -32,10 +32,10 @@ pub extern "C" fn lampreycoil_step(
         rolemask: 0,
     };
     let stepped = floor_step::step(tree, services, identities, b, buffer);
-    let refusal = rows::refusal_in(stepped);
+    let refusal = answers::refusal_in(stepped);
     if refusal != 0 {
         return refusal;
     }
-    octets::put_row(row, &rows::step_row(stepped, frame_length(buffer)));
+    octets::put_row(row, &answers::step_row(stepped, frame_length(buffer)));
     0
 }

@@ -32,11 +32,11 @@ pub extern "C" fn lampreycoil_walk(
     };
     let walked = walk::walk(tree, services, identities, b, buffer);
     let stepped = walked.step;
-    let refusal = rows::refusal_in(stepped);
+    let refusal = answers::refusal_in(stepped);
     if refusal != 0 {
-        octets::put_row(row, &rows::walk_row(walked, 0));
+        octets::put_row(row, &answers::walk_row(walked, 0));
         return refusal;
     }
-    octets::put_row(row, &rows::walk_row(walked, frame_length(buffer)));
+    octets::put_row(row, &answers::walk_row(walked, frame_length(buffer)));
     0
 }

@@ -1,3 +1,2 @@
--- What the promises of this crate's functions cite: an answer as a row of numbers.
+-- What the promises of this crate's functions cite: a read's answer as a row of numbers.
 pub mod Rows
-pub mod Steps

@@ -1,4 +1,4 @@
--- Answers as rows of numbers. Assumes nothing.
+-- A read's answer as a row of numbers. Assumes nothing.
 use Prim.Native.Nat.{ℕ}
 use mathlib.Core.List.{List, [], _∷_}
 use Rattle.body.specs.declared.Frame.{Frame}

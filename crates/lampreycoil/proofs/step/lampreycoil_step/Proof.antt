@@ -10,7 +10,7 @@ use Rattle.message.specs.Answer.{Answer}
 use Rattle.routing.specs.declared.Broker.{Broker}
 use Rattle.routing.specs.Routed.{Tables, Outcome, tablesOf}
 use Rattle.broker.specs.Step.{stepOf}
-use Rattle.rows.specs.Steps.{refusalIn}
+use Rattle.answers.specs.Steps.{refusalIn}
 use Rattle.lampreycoil.specs.Calls.{hostBroker}
 use Rattle.lampreycoil.proofs.StepCalls.{step-short, step-on, tells-on, tells-refused, tells-no, tells-yes, frame-there}
 use Rattle.lampreycoil.proofs.step.lampreycoil_step.Statement.{statement}

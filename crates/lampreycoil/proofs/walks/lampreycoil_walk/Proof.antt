@@ -9,7 +9,7 @@ use lib.ListN.{length}
 use Rattle.routing.specs.declared.Broker.{Broker}
 use Rattle.routing.specs.Routed.{Tables, tablesOf}
 use Rattle.walk.specs.Walk.{Walk, walkOf}
-use Rattle.rows.specs.Steps.{refusalIn}
+use Rattle.answers.specs.Steps.{refusalIn}
 use Rattle.lampreycoil.specs.Calls.{hostBroker}
 use Rattle.lampreycoil.proofs.WalkCalls.{plays-short, plays-on, reports-no, reports-yes, walk-long}
 use Rattle.lampreycoil.proofs.walks.lampreycoil_walk.Statement.{statement}

@@ -1,11 +1,11 @@
--- `rows::step_row` meets its contract.
+-- `answers::step_row` meets its contract.
 -- Assumes nothing.
 use borrow.Author.Needs.{needs}
 use mathlib.Core.Path.{_≡_, sym, ap, _∙_}
 use Rattle.broker.specs.declared.Stepped.{Stepped}
-use Rattle.rows.specs.Steps.{stepRow}
-use Rattle.rows.proofs.step_row.Statement.{statement}
-use Rattle.rows.proofs.step_row.Tie as tie
+use Rattle.answers.specs.Steps.{stepRow}
+use Rattle.answers.proofs.step_row.Statement.{statement}
+use Rattle.answers.proofs.step_row.Tie as tie
 
 enum-told : tie.Need-enum-told
 enum-told c = search needs

@@ -1,4 +1,4 @@
--- `rows::walk_row` meets its contract.
+-- `answers::walk_row` meets its contract.
 -- Assumes nothing.
 use borrow.Author.Needs.{needs}
 use mathlib.Core.Path.{_≡_, refl, ap, _∙_}
@@ -7,9 +7,9 @@ use mathlib.Core.List.{List, [], _∷_, _++_}
 use lib.ListN.{getD}
 use Rattle.broker.specs.declared.Stepped.{Stepped}
 use Rattle.broker.specs.declared.Stepped.the-variants.{Refused, Delivered, Forwarded, Replied, Silenced, Home}
-use Rattle.rows.specs.Steps.{stepRow}
-use Rattle.rows.proofs.walk_row.Statement.{statement}
-use Rattle.rows.proofs.walk_row.Tie as tie
+use Rattle.answers.specs.Steps.{stepRow}
+use Rattle.answers.proofs.walk_row.Statement.{statement}
+use Rattle.answers.proofs.walk_row.Tie as tie
 
 -- a step's four numbers, one by one
 abbrev firstFour : List ℕ → List ℕ

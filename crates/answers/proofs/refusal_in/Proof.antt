@@ -1,11 +1,11 @@
--- `rows::refusal_in` meets its contract.
+-- `answers::refusal_in` meets its contract.
 -- Assumes nothing.
 use borrow.Author.Needs.{needs}
 use native.Mathlib.Omega.{arith}
 use mathlib.Core.Path.{_≡_, sym, ap}
-use Rattle.rows.specs.Steps.{refusalIn}
-use Rattle.rows.proofs.refusal_in.Statement.{statement}
-use Rattle.rows.proofs.refusal_in.Tie as tie
+use Rattle.answers.specs.Steps.{refusalIn}
+use Rattle.answers.proofs.refusal_in.Statement.{statement}
+use Rattle.answers.proofs.refusal_in.Tie as tie
 
 enum-known-s : tie.Need-enum-known-s
 enum-known-s c = search needs
