@@ -67,5 +67,5 @@ pub fn write_header(out: &mut [u8], header: Header) -> usize
         header.second as usize,
     ];
     octets::put_row(&mut held[4..], &numbers);
-    parts::write::write_part(out, &held)
+    part_writer::write_part(out, &held)
 }

@@ -16,11 +16,12 @@ use Rattle.message.specs.Frame.{sizeBytes, partBytes, joined}
 use Rattle.message.specs.Reading.{firstPart, partsIn, front, beforeEmpty}
 use Rattle.message.proofs.Lists.{front-snoc}
 use Rattle.message.proofs.Parts.{first-split}
-use Rattle.parts.specs.declared.size.Size.the-variants.{Wrong, Data}
+use Rattle.part_size.specs.declared.Size.the-variants.{Wrong, Data}
 use Rattle.parts.specs.declared.walk.Walk.the-variants.{Refused, Counted}
-use Rattle.parts.specs.Walk.{sizeAt, walkedAs}
+use Rattle.part_size.specs.Sizes.{sizeAt}
+use Rattle.parts.specs.Walk.{walkedAs}
 use Rattle.parts.specs.Working.{nextEmpty}
-use Rattle.parts.proofs.Sizes.{CutBy, part-wrong, part-cut}
+use Rattle.part_size.proofs.Sizes.{CutBy, part-wrong, part-cut}
 
 -- what is left behind a place, as a part of a slice has it
 pub part-from : (b : List ℕ) (at : ℕ) → take (length b - at) (drop at b) ≡ drop at b

@@ -1,4 +1,2 @@
-// The parts of a body: the size in front of each, the walk over them all, and a part written.
-pub mod size;
+// The parts of a body: the walk over them all.
 pub mod walk;
-pub mod write;

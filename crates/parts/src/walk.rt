@@ -1,7 +1,7 @@
 // The walk over a body's parts.
-use crate::size::Size;
-use crate::size::size_at;
 use message::Refusal;
+use part_size::Size;
+use part_size::size_at;
 ghost use mathlib.Core.Path.{_≡_};
 ghost use Prim.Native.Nat.{_<_, _≤_};
 ghost use Rattle.message.specs.Reading.{partsIn};

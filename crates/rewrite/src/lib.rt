@@ -28,7 +28,7 @@ pub fn put_part(buffer: &mut [u8], size: usize, part: &[u8])
             if FRONT + grown <= buffer.len() {
                 let at = FRONT + 1 + n;
                 moving::move_within(buffer, FRONT, at, size);
-                parts::write::write_part(&mut buffer[FRONT..], part);
+                part_writer::write_part(&mut buffer[FRONT..], part);
                 renew(buffer, grown);
             }
         }

@@ -7,7 +7,7 @@ ghost use lib.ListN.{length};
 ghost use Rattle.message.specs.Frame.{joined, partIf, groupIf};
 ghost use Rattle.message.specs.Writing.{cut};
 ghost use Rattle.octets.specs.Lays.{Lays};
-use parts::write::write_part;
+use part_writer::write_part;
 
 // The most bytes that a topic has, with its zero byte.
 const TOPIC: usize = 256;

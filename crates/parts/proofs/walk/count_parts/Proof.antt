@@ -8,7 +8,7 @@ use lib.ListN.{length, drop}
 use borrow.Author.Needs.{needs}
 use Rattle.octets.proofs.Numbers.{bytes-of}
 use Rattle.parts.proofs.Passing.{Passed, passed-none, passed-all, passed-many, passed-wrong, passed-more, part-from, empty-few}
-use Rattle.parts.specs.Walk.{sizeAt}
+use Rattle.part_size.specs.Sizes.{sizeAt}
 use Rattle.parts.proofs.walk.count_parts.Statement.{statement}
 use Rattle.parts.proofs.walk.count_parts.Tie as tie
 

@@ -8,7 +8,7 @@ use mathlib.Core.List.{List, [], _∷_, _++_}
 use lib.ListN.{length}
 use Rattle.message.specs.Frame.{partBytes, joined, groupIf}
 use Rattle.message.specs.Writing.{cut}
-use Rattle.parts.proofs.Writing.{part-laid}
+use Rattle.part_writer.proofs.Writing.{part-laid}
 use Rattle.writer.proofs.Parts.{group-parts}
 use Rattle.writer.proofs.Bodies.{front-fits}
 use Rattle.octets.proofs.Buffers.{count-within}

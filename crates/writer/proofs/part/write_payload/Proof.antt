@@ -2,7 +2,7 @@
 -- Assumes nothing.
 use mathlib.Core.Path.{refl}
 use Rattle.writer.proofs.Parts.{one-part}
-use Rattle.parts.proofs.Writing.{part-laid}
+use Rattle.part_writer.proofs.Writing.{part-laid}
 use borrow.Author.Needs.{needs}
 use Rattle.writer.proofs.part.write_payload.Statement.{statement}
 use Rattle.writer.proofs.part.write_payload.Tie as tie

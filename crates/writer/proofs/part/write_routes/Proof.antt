@@ -12,7 +12,7 @@ use Rattle.message.specs.Frame.{partBytes, joined}
 use Rattle.message.specs.Writing.{cut}
 use Rattle.octets.specs.Lays.{Lays}
 use Rattle.draft.proofs.Cuts.{route-width}
-use Rattle.parts.proofs.Writing.{part-laid}
+use Rattle.part_writer.proofs.Writing.{part-laid}
 use Rattle.writer.proofs.Parts.{cut-next}
 use Rattle.octets.proofs.Buffers.{count-within}
 use Rattle.octets.proofs.Laying.{lays-none, lays-more, lays-length, lays-rest}

@@ -4,7 +4,7 @@ use native.Mathlib.Omega.{arith}
 use mathlib.Core.List.{[], _∷_, _++_}
 use lib.ListN.{length-append}
 use Rattle.writer.proofs.Parts.{one-part, held-front}
-use Rattle.parts.proofs.Writing.{part-laid}
+use Rattle.part_writer.proofs.Writing.{part-laid}
 use borrow.Author.Needs.{needs}
 use Rattle.writer.proofs.part.write_topic.Statement.{statement}
 use Rattle.writer.proofs.part.write_topic.Tie as tie

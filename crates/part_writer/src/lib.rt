@@ -1,5 +1,5 @@
 // A part written: its size, and its data behind that.
-use crate::size::LONG;
+use part_size::LONG;
 ghost use mathlib.Core.Path.{_≡_};
 ghost use Rattle.message.specs.Frame.{partBytes};
 ghost use Rattle.octets.specs.Laid.{laidCount, laidIfRoom};

@@ -13,8 +13,8 @@ use Rattle.message.specs.declared.Refusal.the-variants.{WrongSize}
 use Rattle.message.specs.Answer.{refused, answered}
 use Rattle.message.specs.Frame.{sizeBytes}
 use Rattle.message.specs.Reading.{firstPart}
-use Rattle.parts.specs.declared.size.Size.the-variants.{Wrong, Data}
-use Rattle.parts.specs.Walk.{sizedAs, sizeAt}
+use Rattle.part_size.specs.declared.Size.the-variants.{Wrong, Data}
+use Rattle.part_size.specs.Sizes.{sizedAs, sizeAt}
 
 -- ---- the part itself
 

@@ -1,12 +1,12 @@
--- `parts::size::size_at` meets its contract.
+-- `part_size::size_at` meets its contract.
 -- Assumes nothing.
 use borrow.Author.Needs.{needs}
 use native.Mathlib.Omega.{arith}
 use mathlib.Core.Path.{ap, _∙_}
-use Rattle.parts.proofs.Sizes.{size-none, size-short-passes, size-short, size-cut, size-small, size-long-passes, size-long}
-use Rattle.parts.specs.declared.size.Size.the-variants.{Data}
-use Rattle.parts.proofs.size.size_at.Statement.{statement}
-use Rattle.parts.proofs.size.size_at.Tie as tie
+use Rattle.part_size.proofs.Sizes.{size-none, size-short-passes, size-short, size-cut, size-small, size-long-passes, size-long}
+use Rattle.part_size.specs.declared.Size.the-variants.{Data}
+use Rattle.part_size.proofs.size_at.Statement.{statement}
+use Rattle.part_size.proofs.size_at.Tie as tie
 
 returns : tie.Need-returns
 returns c = size-none (c .before .before .args .s .now) (c .if1 .taken)

@@ -1,9 +1,9 @@
 // The size in front of a part.
 ghost use mathlib.Core.Path.{_≡_};
-ghost use Rattle.parts.specs.Walk.{sizeAt};
+ghost use Rattle.part_size.specs.Sizes.{sizeAt};
 
 // A part of so many bytes or more has a size of five bytes, the first of which is this.
-pub(crate) const LONG: usize = 255;
+pub const LONG: usize = 255;
 
 // Where a part's data starts, counted from its size byte, and how many bytes it has; or its size is wrong.
 pub enum Size {

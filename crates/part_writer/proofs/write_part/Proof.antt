@@ -1,4 +1,4 @@
--- `parts::write::write_part` meets its contract.
+-- `part_writer::write_part` meets its contract.
 -- Assumes nothing.
 use borrow.Author.Needs.{needs}
 use native.Mathlib.Omega.{arith}
@@ -8,9 +8,9 @@ use Prim.Native.Nat.{ℕ, _-_}
 use lib.ListN.{length, set, length-set}
 use borrow.Rule.Slice.PartMut.{putMid}
 use Rattle.octets.proofs.Buffers.{length-lent}
-use Rattle.parts.proofs.Writing.{short-no-room, short-written, long-no-room, long-written}
-use Rattle.parts.proofs.write.write_part.Statement.{statement}
-use Rattle.parts.proofs.write.write_part.Tie as tie
+use Rattle.part_writer.proofs.Writing.{short-no-room, short-written, long-no-room, long-written}
+use Rattle.part_writer.proofs.write_part.Statement.{statement}
+use Rattle.part_writer.proofs.write_part.Tie as tie
 
 -- the output with four bytes laid behind its first one, and that it is as long as it was
 module _ (c : tie.After-put-number) where

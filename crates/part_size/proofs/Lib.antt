@@ -1,0 +1,2 @@
+-- Laws on the size in front of a part.
+pub mod Sizes

@@ -1,0 +1,2 @@
+-- To be believed: Sizes, which the public promise cites.
+pub mod Sizes

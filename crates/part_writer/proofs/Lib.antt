@@ -1,0 +1,2 @@
+-- Laws on a part that is written.
+pub mod Writing
