@@ -5,7 +5,7 @@ use Rattle.message.specs.Reading.{bodyLength}
 use Rattle.message.specs.Refusals.{numberOf}
 use Rattle.broker.specs.declared.Stepped.{Stepped}
 use Rattle.broker.specs.declared.Stepped.the-variants.{Refused, Delivered, Forwarded, Replied, Silenced, Home}
-use Rattle.walk.specs.declared.Walked.{Walked}
+use Rattle.onward.specs.declared.Walked.{Walked}
 
 -- "Its return is the refusal number, or 0."
 abbrev pub refusalIn : Stepped → ℕ

@@ -8,7 +8,7 @@ use body::Stretch;
 use broker::Stepped;
 use message::Header;
 use message::Refusal;
-use walk::Walked;
+use onward::Walked;
 
 // "any"
 const ANY: u32 = 4294967295;

@@ -2,7 +2,7 @@
 use crate::floor;
 use crate::print;
 use broker::Stepped;
-use walk::Walked;
+use onward::Walked;
 
 fn target(nodeid: u32) {
     if nodeid == 4294967295 {

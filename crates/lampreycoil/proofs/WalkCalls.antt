@@ -22,7 +22,7 @@ use Rattle.routing.specs.Routed.{Tables, Outcome}
 use Rattle.broker.specs.declared.Stepped.{Stepped}
 use Rattle.broker.specs.declared.Stepped.the-variants.{Refused, Delivered, Forwarded, Replied, Silenced, Home}
 use Rattle.broker.specs.Step.{toldAs}
-use Rattle.walk.specs.declared.Walked.{Walked}
+use Rattle.onward.specs.declared.Walked.{Walked}
 use Rattle.walk.specs.Walk.{Walk, walkOf, Walks}
 use Rattle.walk.proofs.Walking.{walk-short}
 use Rattle.answers.specs.Steps.{refusalIn, stepRow, walkRow, frameLength}

@@ -1,68 +1,23 @@
--- A turn of the walk, by what the step says.
+-- A turn of the walk, and that a walk on valid tables is a step and passes behind it.
 -- Assumes nothing.
-use mathlib.Core.Path.{_≡_, refl, sym, ap, _∙_, subst, subst⁻¹}
+use mathlib.Core.Path.{_≡_, refl, ap, _∙_}
 use Prim.Native.Nat.{ℕ, zero, suc, _+_, _-_, _<_, _≤_}
-use mathlib.Core.List.{List, [], _∷_}
+use mathlib.Core.List.{List}
 use native.Mathlib.Omega.{arith}
 use borrow.Author.Tests.{lt-ltb, le-ltb}
 use lib.ListN.{length}
-use types.Run.{OneOf, miss}
-use denote.Enum.Declared.{tagOf}
-use Rattle.message.specs.declared.Refusal.the-variants.{ShortOutput, NoForwarding}
+use Rattle.message.specs.declared.Refusal.the-variants.{ShortOutput}
 use Rattle.message.specs.Answer.{Answer, refused, answered}
-use Rattle.message.specs.Message.{Message}
 use Rattle.routing.specs.declared.Broker.{Broker}
 use Rattle.routing.specs.Routed.{Tables, Outcome, delivered, forwarded, replied, silenced, home}
 use Rattle.broker.specs.declared.Stepped.{Stepped}
-use Rattle.broker.proofs.Stepped.{the-type}
 use Rattle.broker.specs.declared.Stepped.the-variants.{Forwarded}
-use Rattle.broker.specs.Step.{ValidTables, passOf, stepOf, leftBy, toldAs}
+use Rattle.broker.specs.Step.{ValidTables, passOf, stepOf, leftAfter, toldAs}
 use Rattle.broker.proofs.Passing.{step-pass, step-took}
-use Rattle.walk.specs.declared.Walked.{Walked}
-use Rattle.walk.specs.Walk.{Walk, onward, restsAt, afterStep, walkFrom, walkOf, Walks}
-
--- the numbers of the answers at which a walk rests, as the code tells them apart: all but the third, Forwarded
-abbrev pub restingTags : List ℕ
-restingTags = 0 ∷ 1 ∷ 3 ∷ 4 ∷ 5 ∷ []
-
--- ---- what comes of a step
-
--- a step that rests is none that forwards
-module _ {s : Stepped} (rests : OneOf restingTags (tagOf the-type s)) where
-  never-on : {next : ℕ} → s ≡ Forwarded next → ⊥
-  never-on e = miss restingTags 2 tt (subst (λ (x : Stepped). OneOf restingTags (tagOf the-type x)) e rests)
-
--- it forwards
-record On (answer : Answer Outcome) (next : ℕ) : Type 0 where
-  pub message : Message
-  pub is : answer ≡ answered (forwarded next message)
-
-told-on : (answer : Answer Outcome) {s : Stepped} {next : ℕ} → s ≡ toldAs answer → s ≡ Forwarded next → On answer next
-told-on (refused r) says is = absurd (let z : _≡_ {A = ℕ} 0 1 = cc in omega arith)
-told-on (answered (delivered number)) says is = absurd (let z : _≡_ {A = ℕ} 0 1 = cc in omega arith)
-told-on (answered (forwarded last m)) says is = record { message = m; is = cc }
-told-on (answered (replied errnum m)) says is = absurd (let z : _≡_ {A = ℕ} 0 1 = cc in omega arith)
-told-on (answered (silenced errnum)) says is = absurd (let z : _≡_ {A = ℕ} 0 1 = cc in omega arith)
-told-on (answered home) says is = absurd (let z : _≡_ {A = ℕ} 0 1 = cc in omega arith)
-
--- so the next broker goes on with what it left
-pub goes-on : (goOn : Broker → ℕ → List ℕ → Walk) (who : Broker) (links : ℕ) (buffer : List ℕ) (answer : Answer Outcome) {s : Stepped} {next : ℕ} {left : List ℕ} →
-    s ≡ toldAs answer → s ≡ Forwarded next → left ≡ leftBy answer buffer → afterStep goOn who links buffer answer ≡ goOn (onward next who) (links + 1) left
-goes-on goOn who links buffer answer {next = next} says is leaves =
-    let on = told-on answer says is in
-    let left = leaves ∙ ap (λ (a : Answer Outcome). leftBy a buffer) (on .is) in
-    ap (afterStep goOn who links buffer) (on .is) ∙ ap (goOn (onward next who) (links + 1)) (sym left)
-
--- it does not: the walk rests there
-pub rests-here : (goOn : Broker → ℕ → List ℕ → Walk) (who : Broker) (links : ℕ) (buffer : List ℕ) (answer : Answer Outcome) {s : Stepped} {left : List ℕ} →
-    s ≡ toldAs answer → OneOf restingTags (tagOf the-type s) → left ≡ leftBy answer buffer →
-    Walks (afterStep goOn who links buffer answer) (record { step = s; rank = who .rank; links = links }) left
-rests-here goOn who links buffer (refused r) says rests leaves = record { told = λ i. record { step = says i; rank = who .rank; links = links }; leaves = leaves }
-rests-here goOn who links buffer (answered (delivered number)) says rests leaves = record { told = λ i. record { step = says i; rank = who .rank; links = links }; leaves = leaves }
-rests-here goOn who links buffer (answered (forwarded next m)) says rests leaves = absurd (never-on rests says)
-rests-here goOn who links buffer (answered (replied errnum m)) says rests leaves = record { told = λ i. record { step = says i; rank = who .rank; links = links }; leaves = leaves }
-rests-here goOn who links buffer (answered (silenced errnum)) says rests leaves = record { told = λ i. record { step = says i; rank = who .rank; links = links }; leaves = leaves }
-rests-here goOn who links buffer (answered home) says rests leaves = record { told = λ i. record { step = says i; rank = who .rank; links = links }; leaves = leaves }
+use Rattle.onward.specs.Onward.{Walk, onward, restsAt, afterStep}
+use Rattle.onward.specs.Passes.{passesFrom}
+use Rattle.onward.proofs.Resting.{told-on}
+use Rattle.walk.specs.Walk.{walkFrom, walkOf}
 
 -- ---- a turn of the walk
 
@@ -74,15 +29,6 @@ module _ (t : Tables) (who : Broker) (links : ℕ) (buffer : List ℕ) where
     where
       less : (n : ℕ) → n ≡ suc n - 1
       less n = omega arith
-
-  pub walk-out : (n : ℕ) → n ≡ 0 → walkFrom n t who links buffer ≡ restsAt (refused NoForwarding) who links buffer
-  unfolding walkFrom
-  walk-out zero e = refl
-  walk-out (suc n) e = absurd (omega arith)
-
-  -- where the tables are right, a step is the pass behind their checks
-  pub walk-pass : (n : ℕ) → 0 < n → ValidTables t → walkFrom n t who links buffer ≡ afterStep (walkFrom (n - 1) t) who links buffer (passOf t who buffer)
-  walk-pass n h r = walk-turn n h ∙ ap (afterStep (walkFrom (n - 1) t) who links buffer) (step-pass t who buffer (r .tree) (r .services) (r .identities))
 
 module _ (t : Tables) (who : Broker) (buffer : List ℕ) where
   pub walk-short : length buffer < 32776 → walkOf t who buffer ≡ restsAt (refused ShortOutput) who 0 buffer
@@ -96,10 +42,6 @@ module _ (t : Tables) (who : Broker) (buffer : List ℕ) where
   pub walk-begins : 32776 ≤ length buffer → walkOf t who buffer ≡ afterStep (walkFrom 64 t) who 0 buffer (stepOf t who buffer)
   walk-begins h = walk-whole h ∙ walk-turn t who 0 buffer 65 (omega arith)
 
--- a walk that is equal to another says and leaves the same
-pub walks-as : {w v : Walk} {r : Walked} {left : List ℕ} → w ≡ v → Walks v r left → Walks w r left
-walks-as {r = r} {left} e x = subst⁻¹ (λ (u : Walk). Walks u r left) e x
-
 -- ---- a step that forwards has found the tables right
 
 pub forwards-right : (t : Tables) (who : Broker) (buffer : List ℕ) {s : Stepped} {next : ℕ} → s ≡ toldAs (stepOf t who buffer) → s ≡ Forwarded next → ValidTables t
@@ -107,3 +49,22 @@ forwards-right t who buffer {next = next} says is =
     let on = told-on (stepOf t who buffer) says is in
     let took = step-took t who buffer (forwarded next (on .message)) (on .is) in
     record { tree = took .tree; services = took .services; identities = took .identities }
+
+-- ---- on valid tables the passes are the walk
+
+-- what comes of an answer is the same where the rest of the walk is
+same-rest : (f g : Broker → ℕ → List ℕ → Walk) → ((b : Broker) (links : ℕ) (buffer : List ℕ) → f b links buffer ≡ g b links buffer) →
+    (b : Broker) (links : ℕ) (buffer : List ℕ) (answer : Answer Outcome) → afterStep f b links buffer answer ≡ afterStep g b links buffer answer
+same-rest f g e b links buffer (refused r) = refl
+same-rest f g e b links buffer (answered (delivered number)) = refl
+same-rest f g e b links buffer (answered (forwarded next m)) = e (onward next b) (links + 1) (leftAfter (forwarded next m) buffer)
+same-rest f g e b links buffer (answered (replied errnum m)) = refl
+same-rest f g e b links buffer (answered (silenced errnum)) = refl
+same-rest f g e b links buffer (answered home) = refl
+
+pub passes-walk : (t : Tables) → ValidTables t → (n : ℕ) (b : Broker) (links : ℕ) (buffer : List ℕ) → walkFrom n t b links buffer ≡ passesFrom n t b links buffer
+unfolding walkFrom passesFrom
+passes-walk t right zero b links buffer = refl
+passes-walk t right (suc n) b links buffer =
+    ap (afterStep (walkFrom n t) b links buffer) (step-pass t b buffer (right .tree) (right .services) (right .identities))
+    ∙ same-rest (walkFrom n t) (passesFrom n t) (passes-walk t right n) b links buffer (passOf t b buffer)

@@ -9,8 +9,10 @@ use lib.ListN.{length}
 use Rattle.routing.specs.declared.Broker.{Broker}
 use Rattle.routing.specs.Routed.{Tables, tablesOf}
 use Rattle.broker.specs.Step.{stepOf}
-use Rattle.walk.specs.Walk.{walkFrom, afterStep, walkOf}
-use Rattle.walk.proofs.Walking.{goes-on, rests-here, walk-short, walk-begins, walks-as, forwards-right}
+use Rattle.onward.specs.Onward.{onward, afterStep}
+use Rattle.walk.specs.Walk.{walkFrom, walkOf}
+use Rattle.onward.proofs.Resting.{goes-on, rests-here, walks-as}
+use Rattle.walk.proofs.Walking.{walk-short, walk-begins, forwards-right, passes-walk}
 use Rattle.walk.proofs.walk.Statement.{statement}
 use Rattle.walk.proofs.walk.Tie as tie
 
@@ -40,10 +42,7 @@ enum-known-stepped : tie.Need-enum-known-stepped
 enum-known-stepped c = search needs
 
 go-on-requires : tie.Need-go-on-requires
-go-on-requires c κs = let known = c .before .before in
-    let d = known .before .before .before .before in
-    let s = start d in
-    forwards-right (tables s) (s .args .b) (b s) (d .step .ensures .told) (known .stepped .given .1)
+go-on-requires c κs = search needs
 
 same-length : tie.Need-same-length
 same-length c = search needs
@@ -53,8 +52,12 @@ returns-2 c = let went = c .before .before in
     let known = went .before .before .before in
     let d = known .before .before .before .before in
     let s = start d in
+    let next = known .stepped .given in
+    let right = forwards-right (tables s) (s .args .b) (b s) (d .step .ensures .told) (next .1) in
     walks-as
-    (begins d ∙ goes-on (walkFrom 64 (tables s)) (s .args .b) 0 (b s) (stepOf (tables s) (s .args .b) (b s)) (d .step .ensures .told) (known .stepped .given .1) (d .step .ensures .leaves))
+    (begins d
+    ∙ goes-on (walkFrom 64 (tables s)) (s .args .b) 0 (b s) (stepOf (tables s) (s .args .b) (b s)) (d .step .ensures .told) (next .1) (d .step .ensures .leaves)
+    ∙ passes-walk (tables s) right 64 (onward (next .0 .0) (s .args .b)) 1 _)
     (went .go-on .ensures)
 
 same-length-2 : tie.Need-same-length-2

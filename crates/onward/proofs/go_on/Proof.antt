@@ -1,4 +1,4 @@
--- `walk::go_on` meets its contract. The invariant: the walk from here on is the walk from the first link on.
+-- `onward::go_on` meets its contract. The invariant: the passes from here on are those from the first link on.
 -- Assumes nothing.
 use borrow.Author.Needs.{needs}
 use native.Mathlib.Omega.{arith}
@@ -9,16 +9,17 @@ use lib.ListN.{length}
 use Rattle.routing.specs.declared.Broker.{Broker}
 use Rattle.routing.specs.Routed.{Tables, tablesOf}
 use Rattle.broker.specs.Step.{passOf}
-use Rattle.walk.specs.Walk.{Walk, onward, afterStep, walkFrom}
-use Rattle.walk.proofs.Walking.{goes-on, rests-here, walk-out, walk-pass, walks-as}
-use Rattle.walk.proofs.go_on.Statement.{statement}
-use Rattle.walk.proofs.go_on.Tie as tie
+use Rattle.onward.specs.Onward.{Walk, onward, afterStep}
+use Rattle.onward.specs.Passes.{passesFrom}
+use Rattle.onward.proofs.Resting.{goes-on, rests-here, pass-turn, pass-out, walks-as}
+use Rattle.onward.proofs.go_on.Statement.{statement}
+use Rattle.onward.proofs.go_on.Tie as tie
 
 abbrev Inv-loop : tie.InvT-loop
 Inv-loop tree services identities first b buffer₀ rank₀ links₀ buffer rank links =
     let t = tablesOf tree services identities in
     (1 ≤ links) × (links ≤ 65) × (length buffer ≡ length buffer₀)
-    × (walkFrom (65 - links) t (onward rank b) links buffer ≡ walkFrom 64 t (onward first b) 1 buffer₀)
+    × (passesFrom (65 - links) t (onward rank b) links buffer ≡ passesFrom 64 t (onward first b) 1 buffer₀)
 
 abbrev μ-loop : tie.MeasureT-loop
 μ-loop tree services identities first b buffer₀ rank₀ links₀ buffer rank links = 65 - links
@@ -51,13 +52,13 @@ module _ (p : tie.After-pass Inv-loop μ-loop) where
   links = at .loop .links
 
   abbrev rest : Broker → ℕ → List ℕ → Walk
-  rest = walkFrom (65 - (links + 1)) (tables start)
+  rest = passesFrom (65 - (links + 1)) (tables start)
 
-  turns : walkFrom (65 - links) (tables start) who links buffer ≡ afterStep rest who links buffer (passOf (tables start) who buffer)
+  turns : passesFrom (65 - links) (tables start) who links buffer ≡ afterStep rest who links buffer (passOf (tables start) who buffer)
   turns =
       let fewer : 65 - links - 1 ≡ 65 - (links + 1) = omega arith in
-      walk-pass (tables start) who links buffer (65 - links) (omega (arith, inside .loop-test)) (start .pre)
-      ∙ ap (λ (n : ℕ). afterStep (walkFrom n (tables start)) who links buffer (passOf (tables start) who buffer)) fewer
+      pass-turn (tables start) who links buffer (65 - links) (omega (arith, inside .loop-test))
+      ∙ ap (λ (n : ℕ). afterStep (passesFrom n (tables start)) who links buffer (passOf (tables start) who buffer)) fewer
 
 loop-holds : tie.Need-loop-holds Inv-loop μ-loop
 loop-holds c = (omega arith, omega arith, refl, refl)
@@ -95,7 +96,7 @@ returns-2 : tie.Need-returns-2 Inv-loop μ-loop
 returns-2 c = let v = c .before .loop in
     let s = c .before .before .before .before .before .before in
     walks-as
-    (sym (v .inv .3) ∙ walk-out (tables s) (onward (v .rank) (s .args .b)) (v .links) (v .buffer) (65 - v .links) (omega (arith, c .loop-test)))
+    (sym (v .inv .3) ∙ pass-out (tables s) (onward (v .rank) (s .args .b)) (v .links) (v .buffer) (65 - v .links) (omega (arith, c .loop-test)))
     (record { told = refl; leaves = refl })
 
 pub go-on-spec : {M : Type 1} → statement M

@@ -1,0 +1,2 @@
+-- The laws of a walk's turns.
+pub mod Resting
