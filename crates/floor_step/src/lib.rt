@@ -21,7 +21,7 @@ pub fn step(
     if !services::are_services(tree, services) {
         return Stepped::Refused(Refusal::WrongServices);
     }
-    if !identities::are_identities(tree, identities) {
+    if !identity_check::are_identities(tree, identities) {
         return Stepped::Refused(Refusal::WrongIdentities);
     }
     broker::pass(tree, services, identities, b, buffer)

@@ -48,5 +48,5 @@ pub extern "C" fn lampreycoil_check_services(tree: &[u8], services: &[u8]) -> u3
 pub extern "C" fn lampreycoil_check_identities(tree: &[u8], identities: &[u8]) -> u32
     ensures { λ r. ⌜ r ≡ returned (Identities.checkOf (now (tree .entry)) (now (identities .entry))) ⌝ }
 {
-    verdict(identities::check_identities(tree, identities))
+    verdict(identity_check::check_identities(tree, identities))
 }

@@ -1,4 +1,4 @@
--- `identities::are_identities` meets its contract: the identities of the ranks below `rank` are of the form.
+-- `identity_check::are_identities` meets its contract: the identities of the ranks below `rank` are of the form.
 -- Assumes nothing.
 use Prim.Native.Nat.{_≤_, _-_}
 use mathlib.Core.Path.{_≡_, sym, ap, _∙_}
@@ -11,10 +11,10 @@ use Rattle.records.specs.Records.{distinct}
 use Rattle.octets.proofs.Truth.{and-both as both}
 use Rattle.records.proofs.Below.{all-none, all-more}
 use Rattle.tree.specs.Tree.{ranksIn}
 use Rattle.identities.specs.Identities.{identityAt}
-use Rattle.identities.proofs.Identities.{bad-many, bad-torn, bad-one, rest-distinct}
-use Rattle.identities.proofs.are_identities.Statement.{statement}
-use Rattle.identities.proofs.are_identities.Tie as tie
+use Rattle.identity_check.proofs.Checking.{bad-many, bad-torn, bad-one, rest-distinct}
+use Rattle.identity_check.proofs.are_identities.Statement.{statement}
+use Rattle.identity_check.proofs.are_identities.Tie as tie
 
 abbrev Inv-loop : tie.InvT-loop
 Inv-loop tree identities n rank₀ rank = (rank ≤ n) × (n ≡ ranksIn tree) × (allBelow rank (λ rank. isRoute (identityAt identities rank)) ≡ true)
@@ -41,8 +41,11 @@ returns-2 c =
 loop-holds : tie.Need-loop-holds Inv-loop μ-loop
 loop-holds c = (omega arith, c .before .before .ranks-in .ensures, all-none _)
 
-identity-at-requires : tie.Need-identity-at-requires Inv-loop μ-loop
-identity-at-requires c κs = omega arith
+cast-identity-of : tie.Need-cast-identity-of Inv-loop μ-loop
+cast-identity-of c = omega arith
+
+identity-of-requires : tie.Need-identity-of-requires Inv-loop μ-loop
+identity-of-requires c κs = tt
 
 is-route-requires : tie.Need-is-route-requires Inv-loop μ-loop
 is-route-requires c κs = tt
@@ -52,7 +55,7 @@ returns-3 c =
     let at-loop = c .before .before .before .before in
     let args = c .before .before .before .before .before .before .before .before .before .before .args in
     sym (bad-one (args .tree .now) (args .identities .now) (at-loop .loop .rank) (omega (arith, at-loop .loop .inv .1))
-    (rw (← c .before .before .identity-at .ensures) (sym (c .before .is-route .ensures) ∙ not-true _ (c .if3 .taken))))
+    (rw (← c .before .before .identity-of .ensures) (sym (c .before .is-route .ensures) ∙ not-true _ (c .if3 .taken))))
 
 add-rank : tie.Need-add-rank Inv-loop μ-loop
 add-rank c = omega arith
@@ -66,7 +69,7 @@ loop-again c =
       omega arith,
       at-loop .loop .inv .1,
       all-more _ (at-loop .loop .rank) ∙ both (at-loop .loop .inv .2)
-          (rw (← c .before .before .identity-at .ensures) (sym (c .before .is-route .ensures) ∙ not-false _ (c .if3 .left))),
+          (rw (← c .before .before .identity-of .ensures) (sym (c .before .is-route .ensures) ∙ not-false _ (c .if3 .left))),
     )
 
 cast-are-distinct : tie.Need-cast-are-distinct Inv-loop μ-loop
@@ -96,7 +99,8 @@ are-identities-spec =
     mul-if2
     returns-2
     loop-holds
-    identity-at-requires
+    cast-identity-of
+    identity-of-requires
     is-route-requires
     returns-3
     add-rank

@@ -1,12 +1,12 @@
--- `identities::check_identities` meets its contract.
+-- `identity_check::check_identities` meets its contract.
 -- Assumes nothing.
 use mathlib.Core.Path.{sym, ap, _∙_}
 use borrow.Author.Tests.{not-true, not-false}
 use Rattle.message.specs.Answer.{answered}
-use Rattle.identities.proofs.Identities.{check-tree-wrong, check-wrong, check-right}
+use Rattle.identity_check.proofs.Checking.{check-tree-wrong, check-wrong, check-right}
 use borrow.Author.Needs.{needs}
-use Rattle.identities.proofs.check_identities.Statement.{statement}
-use Rattle.identities.proofs.check_identities.Tie as tie
+use Rattle.identity_check.proofs.check_identities.Statement.{statement}
+use Rattle.identity_check.proofs.check_identities.Tie as tie
 
 is-tree-requires : tie.Need-is-tree-requires
 is-tree-requires c κs = search needs
