@@ -39,7 +39,7 @@ use Rattle.broker.specs.Step.{ValidTables, leftAfter, toldAs}
 use Rattle.message.proofs.Frames.{frame-long}
 use Rattle.broker.proofs.Keeping.{Sound, sound-read, sound-route, sound-short}
 use Rattle.walk.specs.Runs.{Run}
-use Rattle.lampreycoil.specs.Calls.{hostBroker}
+use Rattle.calls.specs.Calls.{hostBroker}
 use Rattle.claims.specs.Demand3.{Enters, Responds, Goes, routesAtRest, answerAt, messageAt, asOnEntry, leftOf, ThereAndHome, DemandThree}
 use Rattle.claims.proofs.Stepping.{run-goes}
 use Rattle.claims.proofs.There.{endOutcome, atEnd, bufferAt, request-run, end-sound, at-end, buffer-behind, cleared-again}

@@ -22,9 +22,9 @@ use Rattle.body.specs.Places.{placesOf}
 use Rattle.message.proofs.Frames.{frame-long}
 use Rattle.body.proofs.Holding.{Begins, begins-read, begins-written, topic-told, payload-told, topic-absent, payload-absent, route-told}
 use Rattle.rows.specs.Rows.{readRow}
-use Rattle.lampreycoil.specs.Calls.{returned, recorded, wrote, Reads, Writes}
-use Rattle.lampreycoil.proofs.ReadCalls.{ReadDone, read-done, read-on}
-use Rattle.lampreycoil.proofs.WriteCalls.{WriteDone, write-whole, write-done}
+use Rattle.calls.specs.Calls.{returned, recorded, wrote, Reads, Writes}
+use Rattle.calls.proofs.ReadCalls.{ReadDone, read-done, read-on}
+use Rattle.calls.proofs.WriteCalls.{WriteDone, write-whole, write-done}
 use Rattle.claims.specs.Records.{numberIn, taken, fieldsIn, routesFrom, routesAt, topicAt, payloadAt, handedOn}
 use Rattle.claims.specs.Frames.{Holds, HeldMessage, RecordHoldsMessage, WrittenBack, AcceptedIsWrittenBack, ReadBack, WrittenIsReadBack}
 use Rattle.claims.proofs.Routes.{flat, flat-cut, cut-flat, routes-from}

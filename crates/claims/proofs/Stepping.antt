@@ -21,8 +21,8 @@ use Rattle.walk.specs.Runs.{Run, rests, goes}
 use Rattle.walk.proofs.Walking.{walk-whole}
 use Rattle.walk.proofs.Running.{run-walk}
 use Rattle.answers.specs.Steps.{stepRow, frameLength}
-use Rattle.lampreycoil.specs.Calls.{hostBroker, Tells, Steps, Reports, Plays}
-use Rattle.lampreycoil.proofs.StepCalls.{step-on, four-numbers}
+use Rattle.calls.specs.Calls.{hostBroker, Tells, Steps, Reports, Plays}
+use Rattle.calls.proofs.StepCalls.{step-on, four-numbers}
 use Rattle.claims.specs.Demand3.{Says, StepsOver, WalksOver, Goes}
 
 -- ---- one step call

@@ -12,8 +12,8 @@ use Rattle.routing.specs.Routed.{Tables, Outcome, routed}
 use Rattle.rules.proofs.Deciding.{requests-by-the-rules, responses-by-the-rules}
 use Rattle.rules.proofs.Neither.{others-by-the-rules}
 use Rattle.broker.proofs.Passing.{pass-read, step-pass}
-use Rattle.lampreycoil.specs.Calls.{hostBroker, Tells}
-use Rattle.lampreycoil.proofs.StepCalls.{step-on}
+use Rattle.calls.specs.Calls.{hostBroker, Tells}
+use Rattle.calls.proofs.StepCalls.{step-on}
 use Rattle.claims.specs.Steps.{StepsByTheRules}
 
 pub steps-by-the-rules : (t : Tables) (rank client : ℕ) (buffer : List ℕ) → Bytes buffer → StepsByTheRules t rank client buffer

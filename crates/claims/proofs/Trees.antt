@@ -15,8 +15,8 @@ use Rattle.octets.proofs.Truth.{outcome}
 use Rattle.tree.specs.Tree.{ranksIn}
 use Rattle.tree.specs.Depths.{Depths, Accepted, treeGood, depthsOf}
 use Rattle.tree_check.proofs.Checking.{CheckIsRight, check-is-right, into-wrong, into-right}
-use Rattle.lampreycoil.specs.Calls.{returned, recorded, wrote, treeCall, ChecksTree}
-use Rattle.lampreycoil.proofs.TreeCalls.{TreeDone, tree-on, tree-done}
+use Rattle.calls.specs.Calls.{returned, recorded, wrote, treeCall, ChecksTree}
+use Rattle.calls.proofs.TreeCalls.{TreeDone, tree-on, tree-done}
 use Rattle.claims.specs.Trees.{DepthsWritten, TreeIsChecked}
 
 module _ (tree : List ℕ) where

@@ -32,7 +32,7 @@ use Rattle.broker.specs.declared.Stepped.{Stepped}
 use Rattle.broker.specs.Step.{ValidTables}
 use Rattle.message.proofs.Frames.{frame-long}
 use Rattle.answers.specs.Steps.{stepRow, frameLength}
-use Rattle.lampreycoil.specs.Calls.{walkRecord}
+use Rattle.calls.specs.Calls.{walkRecord}
 use Rattle.claims.specs.Demand3.{Enters, StepsOver, Goes, answerAt}
 use Rattle.claims.specs.Walks.{floorIdentities, floor, requestOf, entering, answerOf, EndsAs, RowEnds, EachRow, WalksOfTheTable}
 use Rattle.claims.proofs.Demand3.{demand-three}

@@ -1,5 +1,5 @@
 -- Demand 3, "one claim over whole walks", of the C calls: of lampreycoil_step called one after another, and of lampreycoil_walk. Their promises are `Steps`
--- and `Plays` (the crate lampreycoil's specs/Calls.antt), the path is `pathOf` (the crate path's specs/Path.antt), and nothing else lies between this
+-- and `Plays` (the crate calls' specs/Calls.antt), the path is `pathOf` (the crate path's specs/Path.antt), and nothing else lies between this
 -- statement and the calls. Assumes nothing.
 use mathlib.Core.Path.{_≡_}
 use mathlib.Core.Bool.{Bool, false, cond, _&&_}
@@ -27,7 +27,7 @@ use Rattle.broker.specs.declared.Stepped.the-variants.{Delivered, Forwarded, Re
 use Rattle.broker.specs.Step.{ValidTables}
 use Rattle.walk.specs.Walk.{leastBuffer}
 use Rattle.answers.specs.Steps.{stepRow, frameLength}
-use Rattle.lampreycoil.specs.Calls.{hostBroker, Steps, stepRecord, Plays, walkRecord}
+use Rattle.calls.specs.Calls.{hostBroker, Steps, stepRecord, Plays, walkRecord}
 
 -- ---- the premises
 

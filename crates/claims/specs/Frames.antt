@@ -15,7 +15,7 @@ use Rattle.message.specs.Reading.{readingOf}
 use Rattle.form.specs.Forms.{routeLength}
 use Rattle.message.specs.Writing.{givenMessage}
 use Rattle.body.specs.Places.{stretch}
-use Rattle.lampreycoil.specs.Calls.{Reads, Writes, readRecord, countRecord}
+use Rattle.calls.specs.Calls.{Reads, Writes, readRecord, countRecord}
 use Rattle.claims.specs.Records.{numberIn, routePart, taken, fieldsIn, routesAt, topicAt, payloadAt, handedOn}
 
 -- ---- a record holds the message that was read

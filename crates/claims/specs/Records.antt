@@ -8,7 +8,7 @@ use Rattle.message.specs.Message.{Message}
 use Rattle.form.specs.Forms.{routeLength}
 use Rattle.message.specs.Writing.{givenMessage}
 use Rattle.body.specs.Places.{stretch}
-use Rattle.lampreycoil.specs.Calls.{headerOf}
+use Rattle.calls.specs.Calls.{headerOf}
 
 -- the number with the index i in a record: "a row of 4-byte big-endian numbers"
 abbrev pub numberIn : List ℕ → ℕ → ℕ

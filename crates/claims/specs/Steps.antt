@@ -12,7 +12,7 @@ use Rattle.routing.specs.declared.Broker.{Broker}
 use Rattle.routing.specs.Routed.{Tables, Outcome}
 use Rattle.rules.specs.Rules.{Right, RequestRules, GoesBack, Unrouted}
 use Rattle.broker.specs.Step.{roomFor}
-use Rattle.lampreycoil.specs.Calls.{hostBroker, stepRecord, Tells, Steps}
+use Rattle.calls.specs.Calls.{hostBroker, stepRecord, Tells, Steps}
 
 -- what came of a step call on a buffer that held the message m: an answer that meets the rules, of a request, of a response, and 18 of an event or a
 -- control message; and the call tells it, and leaves the buffer by it, unless a request that goes on has no room: 11

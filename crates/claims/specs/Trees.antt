@@ -7,7 +7,7 @@ use lib.ListN.{length, getD, drop}
 use Rattle.octets.specs.Number.{four}
 use Rattle.tree.specs.Tree.{ranksIn}
 use Rattle.tree.specs.Depths.{Depths, Accepted}
-use Rattle.lampreycoil.specs.Calls.{ChecksTree, countRecord}
+use Rattle.calls.specs.Calls.{ChecksTree, countRecord}
 
 -- what lampreycoil_check_tree leaves where it returns 0: in front of the lent buffer the depth of each rank, whoever gives the depths, and how many
 -- they are in its record; the tails stay

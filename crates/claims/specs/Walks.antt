@@ -15,7 +15,7 @@ use Rattle.broker.specs.declared.Stepped.{Stepped}
 use Rattle.broker.specs.declared.Stepped.the-variants.{Delivered, Replied, Silenced}
 use Rattle.walk.specs.Walk.{leastBuffer}
 use Rattle.answers.specs.Steps.{stepRow, frameLength}
-use Rattle.lampreycoil.specs.Calls.{hostBroker, Plays, walkRecord}
+use Rattle.calls.specs.Calls.{hostBroker, Plays, walkRecord}
 use Rattle.claims.specs.Demand3.{Enters, StepsOver}
 
 -- ---- the floor's tables

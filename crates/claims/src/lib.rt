@@ -4,7 +4,7 @@
 use routing::Broker;
 ghost use Rattle.octets.specs.Number.{Bytes};
 ghost use Rattle.message.specs.Writing.{givenMessage};
-ghost use Rattle.lampreycoil.specs.Calls.{headerOf};
+ghost use Rattle.calls.specs.Calls.{headerOf};
 ghost use Rattle.claims.specs.Frames.{RecordHoldsMessage, AcceptedIsWrittenBack, WrittenIsReadBack};
 ghost use Rattle.claims.specs.Trees.{TreeIsChecked};
 ghost use Rattle.claims.specs.Ways.{EveryWay};

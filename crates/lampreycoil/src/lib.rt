@@ -1,51 +1,18 @@
 // The library that a C program links. Every call takes numbers and byte slices, returns 0 or the refusal's number, and lists its
 // answer as a row of four-byte numbers in a lent slice. include/lampreycoil.h declares them for C.
-use body::Reading;
-use draft::Written;
-use message::Header;
-use message::Refusal;
 ghost use mathlib.Core.Path.{_≡_};
-ghost use Prim.Native.Nat.{_≤_};
-ghost use lib.ListN.{length};
-ghost use Rattle.answers.specs.Steps.{frameLength};
-ghost use Rattle.lampreycoil.specs.Calls.{Reads, headerOf, Writes};
 ghost use Rattle.message.specs.Writing.{givenMessage};
-
-pub mod step;
-pub mod tables;
-pub mod walks;
-
-// Bytes of a record: thirteen numbers of a read, and one that counts bytes.
-const READ_RECORD: usize = 52;
-
-const COUNT_RECORD: usize = 4;
-
-// The userid of an error reply: nobody's. Its rolemask is 0.
-const NO_USER: u32 = 4294967295;
-
-// How long the frame at the front of a buffer is, by its first eight bytes.
-fn frame_length(buffer: &[u8]) -> usize
-    requires { ⌜ 8 ≤ length (now buffer) ⌝ }
-    ensures { λ r. ⌜ r ≡ frameLength (now (buffer .entry)) ⌝ }
-{
-    body::FRONT + octets::number_of(buffer[4], buffer[5], buffer[6], buffer[7]) as usize
-}
+ghost use Rattle.services.specs.Services;
+ghost use Rattle.identities.specs.Identities;
+ghost use Rattle.routing.specs.Routed.{tablesOf};
+ghost use Rattle.calls.specs.Calls.{returned, Reads, headerOf, Writes, ChecksTree, hostBroker, Steps, Plays};
 
 // Reads the frame at the front of bytes, and lists where its parts lie.
 #[no_mangle]
 pub extern "C" fn lampreycoil_read(bytes: &[u8], row: &mut [u8]) -> u32
     ensures { λ r. ⌜ Reads (now (bytes .entry)) (now (row .entry)) r (now (row .exit)) ⌝ }
 {
-    if row.len() < READ_RECORD {
-        return message::number(Refusal::ShortOutput);
-    }
-    match reader::read(bytes) {
-        Reading::Refused(r) => message::number(r),
-        Reading::Accepted(f) => {
-            rows::put_frame(row, f);
-            0
-        }
-    }
+    frame_calls::read(bytes, row)
 }
 
 // Writes a message's frame to the front of out, and lists its length. The header's fields come one by one, in the header's order.
@@ -65,22 +32,72 @@ pub extern "C" fn lampreycoil_write(
 ) -> u32
     ensures { λ r. ⌜ Writes (givenMessage (headerOf kind flags userid rolemask first second) (now (routes .entry)) (now (topic .entry)) (now (payload .entry))) (now (out .entry)) (now (row .entry)) r (now (out .exit)) (now (row .exit)) ⌝ }
 {
-    if row.len() < COUNT_RECORD {
-        return message::number(Refusal::ShortOutput);
-    }
-    let header = Header {
+    frame_calls::write(
         kind,
         flags,
         userid,
         rolemask,
         first,
         second,
-    };
-    match writer::write(header, routes, topic, payload, out) {
-        Written::Refused(r) => message::number(r),
-        Written::Frame(n) => {
-            octets::put_row(row, &[n]);
-            0
-        }
-    }
+        routes,
+        topic,
+        payload,
+        out,
+        row,
+    )
+}
+
+// Checks a tree, writes one depth byte a rank to the front of depths, and lists how many they are.
+#[no_mangle]
+pub extern "C" fn lampreycoil_check_tree(tree: &[u8], depths: &mut [u8], row: &mut [u8]) -> u32
+    ensures { λ r. ⌜ ChecksTree (now (tree .entry)) (now (depths .entry)) (now (row .entry)) r (now (depths .exit)) (now (row .exit)) ⌝ }
+{
+    table_calls::check_tree(tree, depths, row)
+}
+
+// Checks the services of a tree.
+#[no_mangle]
+pub extern "C" fn lampreycoil_check_services(tree: &[u8], services: &[u8]) -> u32
+    ensures { λ r. ⌜ r ≡ returned (Services.checkOf (now (tree .entry)) (now (services .entry))) ⌝ }
+{
+    table_calls::check_services(tree, services)
+}
+
+// Checks the identities of a tree's ranks.
+#[no_mangle]
+pub extern "C" fn lampreycoil_check_identities(tree: &[u8], identities: &[u8]) -> u32
+    ensures { λ r. ⌜ r ≡ returned (Identities.checkOf (now (tree .entry)) (now (identities .entry))) ⌝ }
+{
+    table_calls::check_identities(tree, identities)
+}
+
+// Makes one broker's step with the frame at the front of buffer, and lists what came of it.
+#[no_mangle]
+pub extern "C" fn lampreycoil_step(
+    tree: &[u8],
+    services: &[u8],
+    identities: &[u8],
+    rank: u32,
+    from_client: u32,
+    buffer: &mut [u8],
+    row: &mut [u8],
+) -> u32
+    ensures { λ r. ⌜ Steps (tablesOf (now (tree .entry)) (now (services .entry)) (now (identities .entry))) (hostBroker rank «from_client») (now (buffer .entry)) (now (row .entry)) r (now (buffer .exit)) (now (row .exit)) ⌝ }
+{
+    route_calls::steps::step(tree, services, identities, rank, from_client, buffer, row)
+}
+
+// Plays a walk that begins at a rank with the frame at the front of buffer, and lists what it came to, a refusal too.
+#[no_mangle]
+pub extern "C" fn lampreycoil_walk(
+    tree: &[u8],
+    services: &[u8],
+    identities: &[u8],
+    rank: u32,
+    buffer: &mut [u8],
+    row: &mut [u8],
+) -> u32
+    ensures { λ r. ⌜ Plays (tablesOf (now (tree .entry)) (now (services .entry)) (now (identities .entry))) (hostBroker rank 1) (now (buffer .entry)) (now (row .entry)) r (now (buffer .exit)) (now (row .exit)) ⌝ }
+{
+    route_calls::walks::walk(tree, services, identities, rank, buffer, row)
 }

@@ -1,7 +1,7 @@
 -- `claims::written_is_read_back` meets its contract: a field of 32 bits has four bytes.
 -- Assumes nothing.
 use native.Mathlib.Omega.{arith}
-use Rattle.lampreycoil.specs.Calls.{headerOf}
+use Rattle.calls.specs.Calls.{headerOf}
 use Rattle.message.specs.Message.{FieldsFit}
 use Rattle.claims.proofs.Frames.{written-is-read-back}
 use Rattle.claims.proofs.written_is_read_back.Statement.{statement}

@@ -1,0 +1,51 @@
+// The calls that check the floor's tables. Each returns 0 or the refusal's number.
+use message::Refusal;
+use tree_check::Checked;
+ghost use mathlib.Core.Path.{_≡_};
+ghost use Rattle.tree_check.specs.Checking.{told};
+ghost use Rattle.services.specs.Services;
+ghost use Rattle.identities.specs.Identities;
+ghost use Rattle.calls.specs.Calls.{returned, ChecksTree};
+
+// Bytes of a record: how many depths there are.
+const COUNT_RECORD: usize = 4;
+
+// Checks a tree, writes one depth byte a rank to the front of depths, and lists how many they are.
+pub fn check_tree(tree: &[u8], depths: &mut [u8], row: &mut [u8]) -> u32
+    ensures { λ r. ⌜ ChecksTree (now (tree .entry)) (now (depths .entry)) (now (row .entry)) r (now (depths .exit)) (now (row .exit)) ⌝ }
+{
+    if row.len() < COUNT_RECORD {
+        return message::number(Refusal::ShortOutput);
+    }
+    match tree_check::check_tree(tree, depths) {
+        Checked::Refused(r) => message::number(r),
+        Checked::Passed(n) => {
+            octets::put_row(row, &[n]);
+            0
+        }
+    }
+}
+
+// What a check that lists nothing returns.
+fn verdict(checked: Checked) -> u32
+    ensures { λ r. ⌜ r ≡ returned (told checked) ⌝ }
+{
+    match checked {
+        Checked::Refused(r) => message::number(r),
+        Checked::Passed(_) => 0,
+    }
+}
+
+// Checks the services of a tree.
+pub fn check_services(tree: &[u8], services: &[u8]) -> u32
+    ensures { λ r. ⌜ r ≡ returned (Services.checkOf (now (tree .entry)) (now (services .entry))) ⌝ }
+{
+    verdict(services::check_services(tree, services))
+}
+
+// Checks the identities of a tree's ranks.
+pub fn check_identities(tree: &[u8], identities: &[u8]) -> u32
+    ensures { λ r. ⌜ r ≡ returned (Identities.checkOf (now (tree .entry)) (now (identities .entry))) ⌝ }
+{
+    verdict(identity_check::check_identities(tree, identities))
+}
