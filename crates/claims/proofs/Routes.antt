@@ -9,7 +9,7 @@ use lib.ListN.{length, getD, take, drop, length-append, length-drop, take-append
 use lib.Seq.{take-at, drop-at}
 use Rattle.message.specs.Writing.{cutRoutes, cut}
 use Rattle.message.proofs.Lists.{Each}
-use Rattle.draft.proofs.Cuts.{cut-more}
+use Rattle.fitting.proofs.Cuts.{cut-more}
 use Rattle.body.specs.Places.{stretch}
 use Rattle.claims.specs.Records.{routesFrom}
 

@@ -20,7 +20,7 @@ use Rattle.message.specs.Writing.{partsGivenFit, routesGood, cut, writingInto, 
 use Rattle.draft.specs.declared.Written.the-variants.{Refused, Frame}
 use Rattle.draft.specs.Written.{writtenAs}
 use Rattle.draft.specs.Working.{measured}
-use Rattle.draft.proofs.Cuts.{good-whole}
+use Rattle.fitting.proofs.Cuts.{good-whole}
 use Rattle.draft.proofs.Judging.{order-is, topic-short}
 
 pub told-refused : (a : Answer (List ℕ)) {r : Refusal} → writtenAs a ≡ Refused r → a ≡ refused r

@@ -2,14 +2,13 @@
 -- Assumes nothing.
 use mathlib.Core.Path.{_≡_, refl, sym, ap, _∙_}
 use mathlib.Core.Bool.{Bool, true, false, not, _&&_, _||_, true≢false}
-use Prim.Native.Nat.{ℕ, suc, _<_, _≤_}
-use mathlib.Core.List.{List, [], _∷_}
+use Prim.Native.Nat.{ℕ, _<_, _≤_}
+use mathlib.Core.List.{List}
 use native.Mathlib.Omega.{arith}
 use native.Mathlib.Decide.{decLe}
 use native.Mathlib.Nat.{lt-of-not-le}
-use lib.Dec.{eqb}
 use lib.ListN.{length}
-use borrow.Author.Tests.{eq-eqb, ne-eqb, eqb-true, lt-ltb, le-ltb}
+use borrow.Author.Tests.{lt-ltb, le-ltb}
 use Rattle.message.specs.declared.Header.{Header}
 use Rattle.message.specs.declared.Refusal.{Refusal}
 use Rattle.message.specs.declared.Refusal.the-variants.{LongBody, WrongHeader, WrongParts, WrongRoute, WrongTopic, WrongField, ShortOutput}
@@ -23,30 +22,14 @@ use Rattle.draft.specs.declared.Written.the-variants.{Refused, Frame}
 use Rattle.draft.specs.Written.{writtenAs}
 use Rattle.draft.specs.Working.{measured}
 use Rattle.form.proofs.Topics.{topic-long}
-use Rattle.draft.proofs.Cuts.{cut-empty}
+use Rattle.fitting.proofs.Giving.{is-empty, agrees}
 use Rattle.draft.proofs.Bodies.{payload-shorter}
-
-empty-length : (xs : List ℕ) → eqb (length xs) 0 ≡ isEmpty xs
-empty-length [] = refl
-empty-length (x ∷ xs) = ne-eqb (suc (length xs)) 0 (λ (e : suc (length xs) ≡ 0). omega arith)
-
--- an empty part may be given, and one that is not where its flag is set
-pub given-empty : (flag : Bool) (xs : List ℕ) → length xs ≡ 0 → true ≡ (flag || isEmpty xs)
-given-empty true xs e = refl
-given-empty false xs e = sym (sym (empty-length xs) ∙ eq-eqb (length xs) 0 e)
-
-pub given-full : (flag : Bool) (xs : List ℕ) → 0 < length xs → flag ≡ (flag || isEmpty xs)
-given-full true xs h = refl
-given-full false xs h = sym (sym (empty-length xs) ∙ ne-eqb (length xs) 0 (λ (e : length xs ≡ 0). omega arith))
 
 last-two : (f a b c : Bool) → (f && (a && (b && c))) ≡ true → (b ≡ true) × (c ≡ true)
 last-two true true true c e = (refl, e)
 last-two true true false c e = absurd (true≢false (sym e))
 last-two true false b c e = absurd (true≢false (sym e))
 last-two false a b c e = absurd (true≢false (sym e))
-
-is-empty : (xs : List ℕ) → isEmpty xs ≡ true → length xs ≡ 0
-is-empty xs e = eqb-true (length xs) 0 (empty-length xs ∙ e)
 
 -- what follows an answer follows each of its refusals
 then-if : (test : Bool) (r : Refusal) (next : Answer (List ℕ)) (f : List ℕ → Answer (List ℕ)) → andThen (refuseIf test r next) f ≡ refuseIf test r (andThen next f)
@@ -77,11 +60,6 @@ module _ {h p r t f : Bool} {rest whole : Answer (List ℕ)} (o : Order h p r t 
   told-rest e₁ e₂ e₃ e₄ e₅ = ap writtenAs (rw (e₁, e₂, e₃, e₄, e₅) at (o .order))
 
 module _ (h : Header) (routes topic payload : List ℕ) where
-  -- r, t and p say which flags are set, f whether they fit the type
-  pub agrees : {f r t p a b c : Bool} → f ≡ partsFit h → r ≡ hasRoute (h .flags) → t ≡ hasTopic (h .flags) → p ≡ hasPayload (h .flags) → a ≡ (r || isEmpty routes) → b ≡ (t || isEmpty topic) → c ≡ (p || isEmpty payload) → (f && (a && (b && c))) ≡ (partsFit h && partsGivenFit (givenMessage h routes topic payload))
-  unfolding partsGivenFit givenMessage
-  agrees ef er et ep ea eb ec = rw (ea, eb, ec, ef, er, et, ep, cut-empty)
-
   -- the writer's order, up to the body's length and the output's
   pub order-is : (room : ℕ) {k a r t f : Bool} → k ≡ isKnown h → a ≡ (partsFit h && partsGivenFit (givenMessage h routes topic payload)) → r ≡ routesGood (cut routes) → t ≡ (hasTopic (h .flags) && not (isTopic topic)) → f ≡ fieldsGood h → refuseIf (not k) WrongHeader (refuseIf (not a) WrongParts (refuseIf (not r) WrongRoute (refuseIf t WrongTopic (refuseIf (not f) WrongField (measured room (givenMessage h routes topic payload)))))) ≡ writingInto room (givenMessage h routes topic payload)
   unfolding writingInto writing measured givenMessage
@@ -90,7 +68,7 @@ module _ (h : Header) (routes topic payload : List ℕ) where
   -- what is known where the parts agree with type and flags
   module _ (agree : (partsFit h && partsGivenFit (givenMessage h routes topic payload)) ≡ true) where
     given : ((hasTopic (h .flags) || isEmpty topic) ≡ true) × ((hasPayload (h .flags) || isEmpty payload) ≡ true)
-    given = last-two (partsFit h) (hasRoute (h .flags) || isEmpty routes) (hasTopic (h .flags) || isEmpty topic) (hasPayload (h .flags) || isEmpty payload) (agrees refl refl refl refl refl refl refl ∙ agree)
+    given = last-two (partsFit h) (hasRoute (h .flags) || isEmpty routes) (hasTopic (h .flags) || isEmpty topic) (hasPayload (h .flags) || isEmpty payload) (agrees h routes topic payload refl refl refl refl refl refl refl ∙ agree)
 
     -- a topic that is not refused is short, there or not
     pub topic-short : (hasTopic (h .flags) && not (isTopic topic)) ≡ false → length topic ≤ 255

@@ -1,5 +1,4 @@
 -- Laws about this crate's definitions.
-pub mod Cuts
 pub mod Parts
 pub mod Bodies
 pub mod Judging

@@ -14,7 +14,7 @@ use Rattle.octets.specs.Number.{four}
 use Rattle.message.specs.Frame.{sizeBytes, partBytes, joined, partIf, groupIf}
 use Rattle.message.specs.Writing.{cut}
 use Rattle.draft.specs.Working.{groupLength, partLength}
-use Rattle.draft.proofs.Cuts.{cut-length}
+use Rattle.fitting.proofs.Cuts.{cut-length}
 
 pub size-one : (n : ℕ) → n < 255 → sizeBytes n ≡ n ∷ []
 size-one n h = rw (lt-ltb n 255 h)

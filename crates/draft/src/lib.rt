@@ -10,7 +10,6 @@ ghost use Rattle.draft.specs.Working.{measured};
 use message::Header;
 use message::Refusal;
 
-mod agree;
 mod length;
 
 // How many bytes stand in front of the body: FF EE 00 12, and the body's length.
@@ -20,6 +19,17 @@ pub const FRONT: usize = 8;
 pub enum Written {
     Refused(Refusal),
     Frame(usize),
+}
+
+// Whether there is a topic that is not of the form.
+fn topic_wrong(flags: u8, topic: &[u8]) -> bool
+    ensures { λ r. ⌜ r ≡ (hasTopic flags && not (isTopic (now (topic .entry)))) ⌝ }
+{
+    if message::has_topic(flags) {
+        !form::is_topic(topic)
+    } else {
+        false
+    }
 }
 
 // 3 and 11, of a message that 6 to 10 let through. A payload above 32,768 bytes makes a body above that, and is not added up.
@@ -49,9 +59,9 @@ pub fn judge(header: Header, routes: &[u8], topic: &[u8], payload: &[u8], room: 
     ensures { λ r. ⌜ r ≡ writtenAs (writingInto room (givenMessage header (now (routes .entry)) (now (topic .entry)) (now (payload .entry)))) ⌝ }
 {
     let known = message::is_known(header);
-    let agree = agree::parts_agree(header, routes, topic, payload);
-    let good = agree::routes_good(routes);
-    let wrong = agree::topic_wrong(header.flags, topic);
+    let agree = fitting::parts_agree(header, routes, topic, payload);
+    let good = fitting::routes_good(routes);
+    let wrong = topic_wrong(header.flags, topic);
     let fields = message::fields_good(header);
     if !known {
         return Written::Refused(Refusal::WrongHeader);

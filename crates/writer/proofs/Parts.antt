@@ -14,7 +14,7 @@ use Rattle.message.specs.declared.Header.{Header}
 use Rattle.message.specs.Header.{headerBytes}
 use Rattle.message.specs.Frame.{partBytes, joined, partIf, groupIf}
 use Rattle.message.specs.Writing.{cut}
-use Rattle.draft.proofs.Cuts.{cut-more}
+use Rattle.fitting.proofs.Cuts.{cut-more}
 use Rattle.message.proofs.Parts.{joined-append}
 
 -- the parts from the route at i on

@@ -13,7 +13,7 @@ use Rattle.message.specs.Writing.{givenMessage}
 use Rattle.draft.specs.declared.Written.the-variants.{Refused, Frame}
 use Rattle.draft.specs.Written.{writtenAs}
 use Rattle.draft.specs.Working.{measured}
-use Rattle.draft.proofs.Cuts.{good-few, good-whole}
+use Rattle.fitting.proofs.Cuts.{good-few, good-whole}
 use Rattle.draft.proofs.Bodies.{body-most, frame-length}
 use Rattle.draft.proofs.Judging.{topic-short, payload-long, measured-long, measured-short, measured-fits}
 use Rattle.draft.proofs.measure.Statement.{statement}

@@ -11,7 +11,7 @@ use borrow.Rule.Slice.PartMut.{midOf, putMid}
 use Rattle.message.specs.Frame.{partBytes, joined}
 use Rattle.message.specs.Writing.{cut}
 use Rattle.octets.specs.Lays.{Lays}
-use Rattle.draft.proofs.Cuts.{route-width}
+use Rattle.fitting.proofs.Cuts.{route-width}
 use Rattle.part_writer.proofs.Writing.{part-laid}
 use Rattle.writer.proofs.Parts.{cut-next}
 use Rattle.octets.proofs.Buffers.{count-within}

@@ -1,9 +1,9 @@
--- `draft::agree::may_be_given` meets its contract.
+-- `fitting::may_be_given` meets its contract.
 -- Assumes nothing.
 use native.Mathlib.Omega.{arith}
-use Rattle.draft.proofs.Judging.{given-empty, given-full}
-use Rattle.draft.proofs.agree.may_be_given.Statement.{statement}
-use Rattle.draft.proofs.agree.may_be_given.Tie as tie
+use Rattle.fitting.proofs.Giving.{given-empty, given-full}
+use Rattle.fitting.proofs.may_be_given.Statement.{statement}
+use Rattle.fitting.proofs.may_be_given.Tie as tie
 
 returns : tie.Need-returns
 returns c = let args = c .before .args in

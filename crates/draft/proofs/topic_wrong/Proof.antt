@@ -1,9 +1,9 @@
--- `draft::agree::topic_wrong` meets its contract.
+-- `draft::topic_wrong` meets its contract.
 -- Assumes nothing.
 use mathlib.Core.Path.{sym, ap, _∙_}
 use mathlib.Core.Bool.{not}
-use Rattle.draft.proofs.agree.topic_wrong.Statement.{statement}
-use Rattle.draft.proofs.agree.topic_wrong.Tie as tie
+use Rattle.draft.proofs.topic_wrong.Statement.{statement}
+use Rattle.draft.proofs.topic_wrong.Tie as tie
 
 has-topic-requires : tie.Need-has-topic-requires
 has-topic-requires c κs = tt

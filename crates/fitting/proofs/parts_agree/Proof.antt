@@ -1,11 +1,11 @@
--- `draft::agree::parts_agree` meets its contract: one law, at the tests that led to each return.
+-- `fitting::parts_agree` meets its contract: one law, at the tests that led to each return.
 -- Assumes nothing.
 use mathlib.Core.Path.{_≡_, refl}
 use mathlib.Core.Bool.{true}
 use borrow.Author.Tests.{not-true, not-false}
-use Rattle.draft.proofs.Judging.{agrees}
-use Rattle.draft.proofs.agree.parts_agree.Statement.{statement}
-use Rattle.draft.proofs.agree.parts_agree.Tie as tie
+use Rattle.fitting.proofs.Giving.{agrees}
+use Rattle.fitting.proofs.parts_agree.Statement.{statement}
+use Rattle.fitting.proofs.parts_agree.Tie as tie
 
 -- the tests that were passed before a later part is looked at
 fit : (m : tie.After-may-be-given) → m .before .before .before .parts-fit .result ≡ true

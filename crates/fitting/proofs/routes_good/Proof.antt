@@ -1,4 +1,4 @@
--- `draft::agree::routes_good` meets its contract: whether all routes are of the form is whether those from i on are.
+-- `fitting::routes_good` meets its contract: whether all routes are of the form is whether those from i on are.
 -- Assumes nothing.
 use native.Mathlib.Omega.{arith}
 use mathlib.Core.Path.{_≡_, refl, sym, _∙_}
@@ -7,9 +7,9 @@ use Prim.Native.Nat.{_-_, _%_, _≤_}
 use lib.ListN.{length, drop, drop-of-length-le}
 use borrow.Author.Tests.{not-true, not-false}
 use Rattle.message.specs.Writing.{allRoutes, cut}
-use Rattle.draft.proofs.Cuts.{all-next, routes-few, routes-many, routes-uneven}
-use Rattle.draft.proofs.agree.routes_good.Statement.{statement}
-use Rattle.draft.proofs.agree.routes_good.Tie as tie
+use Rattle.fitting.proofs.Cuts.{all-next, routes-few, routes-many, routes-uneven}
+use Rattle.fitting.proofs.routes_good.Statement.{statement}
+use Rattle.fitting.proofs.routes_good.Tie as tie
 
 abbrev Inv-loop : tie.InvT-loop
 Inv-loop routes i₀ i = (i ≤ length routes) × (i % 37 ≡ 0) × (allRoutes (cut (drop i routes)) ≡ allRoutes (cut routes))

@@ -1,9 +1,7 @@
-// Whether the parts that are given agree with the header, and are of their forms.
+// Whether the parts that the writer is given fit: whether they agree with the header, and whether the routes are of their form.
 ghost use mathlib.Core.Path.{_≡_};
-ghost use mathlib.Core.Bool.{_&&_, _||_, not};
-ghost use lib.ListN.{length};
-ghost use Rattle.message.specs.Header.{hasTopic, partsFit};
-ghost use Rattle.form.specs.Forms.{isTopic};
+ghost use mathlib.Core.Bool.{_&&_, _||_};
+ghost use Rattle.message.specs.Header.{partsFit};
 ghost use Rattle.message.specs.Writing.{isEmpty, partsGivenFit, routesGood, cut, givenMessage};
 use message::Header;
 
@@ -21,7 +19,7 @@ fn may_be_given(flag: bool, part: &[u8]) -> bool
 }
 
 // Whether the flags fit the type and no part is given without its flag.
-pub(crate) fn parts_agree(header: Header, routes: &[u8], topic: &[u8], payload: &[u8]) -> bool
+pub fn parts_agree(header: Header, routes: &[u8], topic: &[u8], payload: &[u8]) -> bool
     ensures { λ r. ⌜ r ≡ (partsFit header && partsGivenFit (givenMessage header (now (routes .entry)) (now (topic .entry)) (now (payload .entry)))) ⌝ }
 {
     let flags = header.flags;
@@ -38,7 +36,7 @@ pub(crate) fn parts_agree(header: Header, routes: &[u8], topic: &[u8], payload: 
 }
 
 // Whether there are at most 64 routes of 37 bytes, and each is of the form.
-pub(crate) fn routes_good(routes: &[u8]) -> bool
+pub fn routes_good(routes: &[u8]) -> bool
     ensures { λ r. ⌜ r ≡ routesGood (cut (now (routes .entry))) ⌝ }
 {
     if MOST_ROUTES < routes.len() {
@@ -55,15 +53,4 @@ pub(crate) fn routes_good(routes: &[u8]) -> bool
         i += form::ROUTE;
     }
     true
-}
-
-// Whether there is a topic that is not of the form.
-pub(crate) fn topic_wrong(flags: u8, topic: &[u8]) -> bool
-    ensures { λ r. ⌜ r ≡ (hasTopic flags && not (isTopic (now (topic .entry)))) ⌝ }
-{
-    if message::has_topic(flags) {
-        !form::is_topic(topic)
-    } else {
-        false
-    }
 }
