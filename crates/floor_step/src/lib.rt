@@ -18,7 +18,7 @@ pub fn step(
     if !tree_check::is_tree(tree) {
         return Stepped::Refused(Refusal::WrongTree);
     }
-    if !services::are_services(tree, services) {
+    if !service_check::are_services(tree, services) {
         return Stepped::Refused(Refusal::WrongServices);
     }
     if !identity_check::are_identities(tree, identities) {

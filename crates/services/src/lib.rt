@@ -1,15 +1,11 @@
-// The services that brokers register: the table's check.
-use message::Refusal;
-use tree_check::Checked;
+// The services that brokers register: one record of the table.
 ghost use mathlib.Core.Path.{_≡_};
-ghost use Prim.Native.Nat.{_+_, _*_, _<_, _≤_};
-ghost use mathlib.Core.Bool.{cond};
+ghost use mathlib.Core.Bool.{cond, _&&_};
 ghost use lib.Dec.{eqb};
 ghost use lib.ListN.{length, getD};
 ghost use Rattle.records.specs.Below.{allBelow};
-ghost use Rattle.tree_check.specs.Checking.{told};
 ghost use Rattle.services.specs.Working.{mayStand};
-ghost use Rattle.services.specs.Services.{serviceWidth, serviceAt, serviceGood, servicesGood, checkOf};
+ghost use Rattle.services.specs.Services.{serviceWidth, serviceGood};
 
 // Bytes a record.
 pub const WIDTH: usize = 32;
@@ -17,15 +13,6 @@ pub const WIDTH: usize = 32;
 pub const NAME: usize = 5;
 // How many bytes a name has at most.
 pub const LONGEST: usize = 27;
-
-// The record with the number i.
-fn service_at(services: &[u8], i: usize) -> &[u8]
-    requires { ⌜ i * serviceWidth + serviceWidth ≤ length (now services) ⌝ }
-    ensures { λ r. ⌜ now r ≡ serviceAt (now (services .entry)) i ⌝ }
-{
-    let at = i * WIDTH;
-    &services[at..at + WIDTH]
-}
 
 // 1 for a byte that may not stand at its place in a record whose name ends in front of `end`: a zero or a period in the name, and anything but a
 // zero behind it.
@@ -64,11 +51,13 @@ fn strays(row: &[u8], end: u8) -> u8
     n
 }
 
-// Whether a record is of the form, in a tree of so many ranks.
-fn is_service(row: &[u8], ranks: usize) -> bool
-    requires { ⌜ length (now row) ≡ serviceWidth ⌝ }
-    ensures { λ r. ⌜ r ≡ serviceGood ranks (now (row .entry)) ⌝ }
+// Whether the bytes are a record, and of the form, in a tree of so many ranks.
+pub fn is_service(row: &[u8], ranks: usize) -> bool
+    ensures { λ r. ⌜ r ≡ (eqb (length (now (row .entry))) serviceWidth && serviceGood ranks (now (row .entry))) ⌝ }
 {
+    if row.len() != WIDTH {
+        return false;
+    }
     let rank = octets::number_of(row[0], row[1], row[2], row[3]);
     if rank as usize >= ranks {
         return false;
@@ -81,39 +70,4 @@ fn is_service(row: &[u8], ranks: usize) -> bool
         return false;
     }
     strays(row, (NAME + size) as u8) == 0
-}
-
-// Whether the bytes are the services of a tree.
-pub fn are_services(tree: &[u8], services: &[u8]) -> bool
-    ensures { λ r. ⌜ r ≡ servicesGood (now (tree .entry)) (now (services .entry)) ⌝ }
-{
-    let n = services.len() / WIDTH;
-    if n > 1024 {
-        return false;
-    }
-    if services.len() != n * WIDTH {
-        return false;
-    }
-    let ranks = tree::ranks_in(tree);
-    let mut i = 0;
-    while i < n {
-        if !is_service(service_at(services, i), ranks) {
-            return false;
-        }
-        i += 1;
-    }
-    distinct::are_distinct(services, WIDTH as u8, n)
-}
-
-// The service check: 14, then 15, or how many records there are.
-pub fn check_services(tree: &[u8], services: &[u8]) -> Checked
-    ensures { λ r. ⌜ told r ≡ checkOf (now (tree .entry)) (now (services .entry)) ⌝ }
-{
-    if !tree_check::is_tree(tree) {
-        return Checked::Refused(Refusal::WrongTree);
-    }
-    if !are_services(tree, services) {
-        return Checked::Refused(Refusal::WrongServices);
-    }
-    Checked::Passed(services.len() / WIDTH)
 }

@@ -40,7 +40,7 @@ fn verdict(checked: Checked) -> u32
 pub fn check_services(tree: &[u8], services: &[u8]) -> u32
     ensures { λ r. ⌜ r ≡ returned (Services.checkOf (now (tree .entry)) (now (services .entry))) ⌝ }
 {
-    verdict(services::check_services(tree, services))
+    verdict(service_check::check_services(tree, services))
 }
 
 // Checks the identities of a tree's ranks.

@@ -1,4 +1,4 @@
--- `services::are_services` meets its contract: the records in front of i are of the form.
+-- `service_check::are_services` meets its contract: the records in front of i are of the form.
 -- Assumes nothing.
 use Prim.Native.Nat.{_≤_, _-_}
 use mathlib.Core.Path.{_≡_, sym, _∙_}
@@ -11,10 +11,11 @@ use Rattle.octets.proofs.Truth.{and-both as both}
 use Rattle.records.proofs.Below.{all-none, all-more}
 use Rattle.records.proofs.Records.{length-record}
 use Rattle.tree.specs.Tree.{ranksIn}
 use Rattle.services.specs.Services.{servicesIn, serviceAt, serviceGood}
-use Rattle.services.proofs.Services.{services-are, bad-many, bad-torn, bad-one, rest-distinct}
-use Rattle.services.proofs.are_services.Statement.{statement}
-use Rattle.services.proofs.are_services.Tie as tie
+use Rattle.services.proofs.Services.{services-are, whole-row}
+use Rattle.service_check.proofs.Checking.{bad-many, bad-torn, bad-one, rest-distinct}
+use Rattle.service_check.proofs.are_services.Statement.{statement}
+use Rattle.service_check.proofs.are_services.Tie as tie
 
 abbrev Inv-loop : tie.InvT-loop
 Inv-loop tree services n ranks i₀ i = (i ≤ n) × (ranks ≡ ranksIn tree) × (n ≡ servicesIn services) × (allBelow i (λ i. serviceGood (ranksIn tree) (serviceAt services i)) ≡ true)
@@ -45,15 +46,16 @@ service-at-requires : tie.Need-service-at-requires Inv-loop μ-loop
 service-at-requires c κs = omega arith
 
 is-service-requires : tie.Need-is-service-requires Inv-loop μ-loop
-is-service-requires c κs =
-    rw (c .service-at .ensures) (length-record 32 (c .before .before .loop .i) (c .before .before .before .before .before .before .before .before .args .services .now) (omega arith))
+is-service-requires c κs = tt
 
 returns-3 : tie.Need-returns-3 Inv-loop μ-loop
 returns-3 c =
     let at-loop = c .before .before .before .before in
     let args = c .before .before .before .before .before .before .before .before .before .before .args in
-    sym (bad-one (args .tree .now) (args .services .now) (at-loop .loop .i) (omega (arith, at-loop .loop .inv .2))
-    (rw (← c .before .before .service-at .ensures, ← at-loop .loop .inv .1) (sym (c .before .is-service .ensures) ∙ not-true _ (c .if3 .taken))))
+    let i = at-loop .loop .i in
+    let whole = whole-row (ranksIn (args .tree .now)) (serviceAt (args .services .now) i) (length-record 32 i (args .services .now) (omega arith)) in
+    sym (bad-one (args .tree .now) (args .services .now) i (omega (arith, at-loop .loop .inv .2))
+    (sym whole ∙ rw (← c .before .before .service-at .ensures, ← at-loop .loop .inv .1) (sym (c .before .is-service .ensures) ∙ not-true _ (c .if3 .taken))))
 
 add-i : tie.Need-add-i Inv-loop μ-loop
 add-i c = omega arith
@@ -64,12 +66,14 @@ loop-less c = omega arith
 loop-again : tie.Need-loop-again Inv-loop μ-loop
 loop-again c =
     let at-loop = c .before .before .before .before in
-    let args = c .before .before .before .before .before .before .before .before .before .before .args in (
+    let args = c .before .before .before .before .before .before .before .before .before .before .args in
+    let i = at-loop .loop .i in
+    let whole = whole-row (ranksIn (args .tree .now)) (serviceAt (args .services .now) i) (length-record 32 i (args .services .now) (omega arith)) in (
       omega arith,
       at-loop .loop .inv .1,
       at-loop .loop .inv .2,
-      all-more _ (at-loop .loop .i) ∙ both (at-loop .loop .inv .3)
-          (rw (← c .before .before .service-at .ensures, ← at-loop .loop .inv .1) (sym (c .before .is-service .ensures) ∙ not-false _ (c .if3 .left))),
+      all-more _ i ∙ both (at-loop .loop .inv .3)
+          (sym whole ∙ rw (← c .before .before .service-at .ensures, ← at-loop .loop .inv .1) (sym (c .before .is-service .ensures) ∙ not-false _ (c .if3 .left))),
     )
 
 cast-are-distinct : tie.Need-cast-are-distinct Inv-loop μ-loop

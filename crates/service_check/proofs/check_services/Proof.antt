@@ -1,12 +1,13 @@
--- `services::check_services` meets its contract.
+-- `service_check::check_services` meets its contract.
 -- Assumes nothing.
 use mathlib.Core.Path.{sym, ap, _∙_}
 use borrow.Author.Tests.{not-true, not-false}
 use Rattle.message.specs.Answer.{answered}
-use Rattle.services.proofs.Services.{services-are, check-tree-wrong, check-wrong, check-right}
+use Rattle.services.proofs.Services.{services-are}
+use Rattle.service_check.proofs.Checking.{check-tree-wrong, check-wrong, check-right}
 use borrow.Author.Needs.{needs}
-use Rattle.services.proofs.check_services.Statement.{statement}
-use Rattle.services.proofs.check_services.Tie as tie
+use Rattle.service_check.proofs.check_services.Statement.{statement}
+use Rattle.service_check.proofs.check_services.Tie as tie
 
 is-tree-requires : tie.Need-is-tree-requires
 is-tree-requires c κs = search needs

@@ -1,11 +1,11 @@
--- `services::service_at` meets its contract.
+-- `service_check::service_at` meets its contract.
 -- Assumes nothing.
 use Prim.Native.Nat.{_+_, _*_, _-_}
 use mathlib.Core.Path.{_≡_, refl}
 use native.Mathlib.Omega.{arith}
 use borrow.Author.Needs.{needs}
-use Rattle.services.proofs.service_at.Statement.{statement}
-use Rattle.services.proofs.service_at.Tie as tie
+use Rattle.service_check.proofs.service_at.Statement.{statement}
+use Rattle.service_check.proofs.service_at.Tie as tie
 
 mul-at : tie.Need-mul-at
 mul-at c = search needs

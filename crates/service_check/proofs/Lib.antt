@@ -1,0 +1,2 @@
+-- Laws on the check of the services.
+pub mod Checking
