@@ -1,5 +1,4 @@
 -- Laws about this crate's definitions.
-pub mod Topics
 pub mod Stretches
 pub mod Routing
 pub mod Cursors

@@ -18,7 +18,7 @@ ghost use Prim.Native.Nat.{_<_, _≤_};
 ghost use lib.ListN.{length, take, drop};
 ghost use Rattle.message.specs.Answer.{andThen};
 ghost use Rattle.message.specs.Writing.{allRoutes};
-ghost use Rattle.message.specs.Reading.{partsIn, front, judged, judgedAs, isTopicPart};
+ghost use Rattle.message.specs.Reading.{partsIn, front, judged, judgedAs};
 ghost use Rattle.body.specs.Places.{readAs};
 ghost use Rattle.body.specs.Judging.{partsFound, Found, HasSize, stretchAt, firstRoute, pieceIf, Within, topicWrong, Placeable, placedAs, WalkedOver, Headed, Sorted};
 
@@ -76,20 +76,6 @@ fn piece_if(body: &[u8], flag: bool, at: usize) -> Piece
     }
 }
 
-// Whether a part holds a topic with its zero byte.
-fn is_topic_part(p: &[u8]) -> bool
-    ensures { λ r. ⌜ r ≡ isTopicPart (now (p .entry)) ⌝ }
-{
-    if p.len() == 0 {
-        return false;
-    }
-    let end = p.len() - 1;
-    if p[end] != 0 {
-        return false;
-    }
-    form::is_topic(&p[..end])
-}
-
 // Whether the first so many parts are routes. Those in front of a part that is looked at have 38 bytes each.
 fn are_routes(body: &[u8], routes: usize) -> bool
     requires { ⌜ Found (now body) ⌝ }
@@ -126,7 +112,7 @@ fn topic_wrong(body: &[u8], flags: u8, topic: Piece) -> bool
     let from = topic.at;
     let to = topic.next;
     if message::has_topic(flags) {
-        !is_topic_part(&body[from..to])
+        !topic_part::is_topic_part(&body[from..to])
     } else {
         false
     }

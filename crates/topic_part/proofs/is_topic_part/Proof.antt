@@ -1,4 +1,4 @@
--- `body::judge::is_topic_part` meets its contract.
+-- `topic_part::is_topic_part` meets its contract.
 -- Assumes nothing.
 use borrow.Author.Needs.{needs}
 use native.Mathlib.Omega.{arith}
@@ -6,9 +6,9 @@ use mathlib.Core.Path.{sym, _∙_}
 use Prim.Native.Nat.{_-_}
 use lib.ListN.{length}
 use lib.Seq.{length-take-le}
-use Rattle.body.proofs.Topics.{topic-none, topic-open, topic-closed}
-use Rattle.body.proofs.judge.is_topic_part.Statement.{statement}
-use Rattle.body.proofs.judge.is_topic_part.Tie as tie
+use Rattle.topic_part.proofs.Topics.{topic-none, topic-open, topic-closed}
+use Rattle.topic_part.proofs.is_topic_part.Statement.{statement}
+use Rattle.topic_part.proofs.is_topic_part.Tie as tie
 
 returns : tie.Need-returns
 returns c = topic-none (c .before .before .args .p .now) (c .if1 .taken)
