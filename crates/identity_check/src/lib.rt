@@ -19,7 +19,8 @@ pub fn are_identities(tree: &[u8], identities: &[u8]) -> bool
     }
     let mut rank = 0;
     while rank < n {
-        if !form::is_route(identities::identity_of(identities, rank as u32)) {
+        let at = rank * ROUTE;
+        if !form::is_route(&identities[at..at + ROUTE]) {
             return false;
         }
         rank += 1;

@@ -1,10 +1,12 @@
 -- `identity_check::are_identities` meets its contract: the identities of the ranks below `rank` are of the form.
 -- Assumes nothing.
-use Prim.Native.Nat.{_≤_, _-_}
-use mathlib.Core.Path.{_≡_, sym, ap, _∙_}
+use Prim.Native.Nat.{ℕ, _+_, _*_, _≤_, _-_}
+use mathlib.Core.Path.{_≡_, refl, sym, ap, _∙_}
 use mathlib.Core.Bool.{true}
+use mathlib.Core.List.{List}
 use native.Mathlib.Omega.{arith}
 use borrow.Author.Tests.{not-true, not-false}
+use lib.ListN.{take, drop}
 use Rattle.form.specs.Forms.{isRoute}
 use Rattle.records.specs.Below.{allBelow}
 use Rattle.records.specs.Records.{distinct}
@@ -15,6 +17,10 @@ use Rattle.identities.specs.Identities.{identityAt}
 use Rattle.identity_check.proofs.Checking.{bad-many, bad-torn, bad-one, rest-distinct}
 use Rattle.identity_check.proofs.are_identities.Statement.{statement}
 use Rattle.identity_check.proofs.are_identities.Tie as tie
+
+-- an identity is what the code cuts out for it
+cut-out : (identities : List ℕ) (rank : ℕ) → isRoute (identityAt identities rank) ≡ isRoute (take (rank * 37 + 37 - rank * 37) (drop (rank * 37) identities))
+cut-out identities rank = let size : rank * 37 + 37 - rank * 37 ≡ 37 = omega arith in rw size refl
 
 abbrev Inv-loop : tie.InvT-loop
 Inv-loop tree identities n rank₀ rank = (rank ≤ n) × (n ≡ ranksIn tree) × (allBelow rank (λ rank. isRoute (identityAt identities rank)) ≡ true)
@@ -41,11 +47,20 @@ returns-2 c =
 loop-holds : tie.Need-loop-holds Inv-loop μ-loop
 loop-holds c = (omega arith, c .before .before .ranks-in .ensures, all-none _)
 
-cast-identity-of : tie.Need-cast-identity-of Inv-loop μ-loop
-cast-identity-of c = omega arith
+mul-at : tie.Need-mul-at Inv-loop μ-loop
+mul-at c = omega arith
 
-identity-of-requires : tie.Need-identity-of-requires Inv-loop μ-loop
-identity-of-requires c κs = tt
+add-is-route : tie.Need-add-is-route Inv-loop μ-loop
+add-is-route c = omega arith
+
+sub-is-route : tie.Need-sub-is-route Inv-loop μ-loop
+sub-is-route c = omega arith
+
+part-is-route-start : tie.Need-part-is-route-start Inv-loop μ-loop
+part-is-route-start c = omega arith
+
+part-is-route-end : tie.Need-part-is-route-end Inv-loop μ-loop
+part-is-route-end c = omega arith
 
 is-route-requires : tie.Need-is-route-requires Inv-loop μ-loop
 is-route-requires c κs = tt
@@ -55,7 +70,7 @@ returns-3 c =
     let at-loop = c .before .before .before .before in
     let args = c .before .before .before .before .before .before .before .before .before .before .args in
     sym (bad-one (args .tree .now) (args .identities .now) (at-loop .loop .rank) (omega (arith, at-loop .loop .inv .1))
-    (rw (← c .before .before .identity-of .ensures) (sym (c .before .is-route .ensures) ∙ not-true _ (c .if3 .taken))))
+    (cut-out (args .identities .now) (at-loop .loop .rank) ∙ sym (c .before .is-route .ensures) ∙ not-true _ (c .if3 .taken)))
 
 add-rank : tie.Need-add-rank Inv-loop μ-loop
 add-rank c = omega arith
@@ -65,11 +80,12 @@ loop-less c = omega arith
 
 loop-again : tie.Need-loop-again Inv-loop μ-loop
 loop-again c =
-    let at-loop = c .before .before .before .before in (
+    let at-loop = c .before .before .before .before in
+    let args = c .before .before .before .before .before .before .before .before .before .before .args in (
       omega arith,
       at-loop .loop .inv .1,
       all-more _ (at-loop .loop .rank) ∙ both (at-loop .loop .inv .2)
-          (rw (← c .before .before .identity-of .ensures) (sym (c .before .is-route .ensures) ∙ not-false _ (c .if3 .left))),
+          (cut-out (args .identities .now) (at-loop .loop .rank) ∙ sym (c .before .is-route .ensures) ∙ not-false _ (c .if3 .left)),
     )
 
 cast-are-distinct : tie.Need-cast-are-distinct Inv-loop μ-loop
@@ -99,8 +115,11 @@ are-identities-spec =
     mul-if2
     returns-2
     loop-holds
-    cast-identity-of
-    identity-of-requires
+    mul-at
+    add-is-route
+    sub-is-route
+    part-is-route-start
+    part-is-route-end
     is-route-requires
     returns-3
     add-rank
