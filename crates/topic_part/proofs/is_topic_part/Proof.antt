@@ -11,7 +11,7 @@ use Rattle.topic_part.proofs.is_topic_part.Statement.{statement}
 use Rattle.topic_part.proofs.is_topic_part.Tie as tie
 
 returns : tie.Need-returns
-returns c = topic-none (c .before .before .args .p .now) (c .if1 .taken)
+returns c = topic-none (c .before .before .args .p .now) (omega (arith, c .if1 .taken))
 
 sub-end : tie.Need-sub-end
 sub-end c = search needs
@@ -20,7 +20,7 @@ shared-slice-read-if2 : tie.Need-shared-slice-read-if2
 shared-slice-read-if2 c = search needs
 
 returns-2 : tie.Need-returns-2
-returns-2 c = topic-open (c .before .before .before .before .args .p .now) (c .before .before .if1 .left) (c .if2 .taken)
+returns-2 c = topic-open (c .before .before .before .before .args .p .now) (λ e. omega (arith, c .before .before .if1 .left)) (λ e. omega (arith, c .if2 .taken))
 
 slice-aggregate-is-topic : tie.Need-slice-aggregate-is-topic
 slice-aggregate-is-topic c = let p = c .before .before .before .before .before .args .p .now in sym (length-take-le (length p - 1) p (omega arith))
@@ -29,7 +29,7 @@ is-topic-requires : tie.Need-is-topic-requires
 is-topic-requires c κs = search needs
 
 returns-3 : tie.Need-returns-3
-returns-3 c = c .is-topic .ensures ∙ topic-closed (c .before .before .before .before .before .before .args .p .now) (c .before .before .before .before .if1 .left) (c .before .before .if2 .left)
+returns-3 c = c .is-topic .ensures ∙ topic-closed (c .before .before .before .before .before .before .args .p .now) (λ e. omega (arith, c .before .before .before .before .if1 .left)) (omega (arith, c .before .before .if2 .left))
 
 pub is-topic-part-spec : {M : Type 1} → statement M
 is-topic-part-spec =
