@@ -1,10 +1,10 @@
--- `claims::every_walk_is_run` meets its contract.
+-- `claimed::every_walk_is_run` meets its contract.
 -- Assumes nothing.
 use borrow.Author.Needs.{needs}
 use Rattle.routing.specs.Routed.{tablesOf}
 use Rattle.claims.proofs.Corollaries.{every-walk-is-run}
-use Rattle.claims.proofs.every_walk_is_run.Statement.{statement}
-use Rattle.claims.proofs.every_walk_is_run.Tie as tie
+use Rattle.claimed.proofs.every_walk_is_run.Statement.{statement}
+use Rattle.claimed.proofs.every_walk_is_run.Tie as tie
 
 are-bytes-requires : tie.Need-are-bytes-requires
 are-bytes-requires c κs = search needs

@@ -1,10 +1,10 @@
--- `claims::steps_by_the_rules` meets its contract.
+-- `claimed::steps_by_the_rules` meets its contract.
 -- Assumes nothing.
 use borrow.Author.Needs.{needs}
 use Rattle.routing.specs.Routed.{tablesOf}
 use Rattle.claims.proofs.Steps.{steps-by-the-rules}
-use Rattle.claims.proofs.steps_by_the_rules.Statement.{statement}
-use Rattle.claims.proofs.steps_by_the_rules.Tie as tie
+use Rattle.claimed.proofs.steps_by_the_rules.Statement.{statement}
+use Rattle.claimed.proofs.steps_by_the_rules.Tie as tie
 
 are-bytes-requires : tie.Need-are-bytes-requires
 are-bytes-requires c κs = search needs

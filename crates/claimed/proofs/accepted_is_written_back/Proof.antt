@@ -1,9 +1,9 @@
--- `claims::accepted_is_written_back` meets its contract.
+-- `claimed::accepted_is_written_back` meets its contract.
 -- Assumes nothing.
 use borrow.Author.Needs.{needs}
 use Rattle.claims.proofs.Frames.{accepted-is-written-back}
-use Rattle.claims.proofs.accepted_is_written_back.Statement.{statement}
-use Rattle.claims.proofs.accepted_is_written_back.Tie as tie
+use Rattle.claimed.proofs.accepted_is_written_back.Statement.{statement}
+use Rattle.claimed.proofs.accepted_is_written_back.Tie as tie
 
 are-bytes-requires : tie.Need-are-bytes-requires
 are-bytes-requires c κs = search needs

@@ -1,9 +1,9 @@
--- `claims::are_bytes` meets its contract.
+-- `claimed::are_bytes` meets its contract.
 -- Assumes nothing.
 use borrow.Author.Needs.{needs}
 use Rattle.octets.proofs.Numbers.{bytes-of}
-use Rattle.claims.proofs.are_bytes.Statement.{statement}
-use Rattle.claims.proofs.are_bytes.Tie as tie
+use Rattle.claimed.proofs.are_bytes.Statement.{statement}
+use Rattle.claimed.proofs.are_bytes.Tie as tie
 
 lend-requires : tie.Need-lend-requires
 lend-requires c κs = search needs

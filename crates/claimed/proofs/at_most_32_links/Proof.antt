@@ -1,9 +1,9 @@
--- `claims::at_most_32_links` meets its contract.
+-- `claimed::at_most_32_links` meets its contract.
 -- Assumes nothing.
 use Rattle.routing.specs.Routed.{tablesOf}
 use Rattle.claims.proofs.Corollaries.{at-most-32-links}
-use Rattle.claims.proofs.at_most_32_links.Statement.{statement}
-use Rattle.claims.proofs.at_most_32_links.Tie as tie
+use Rattle.claimed.proofs.at_most_32_links.Statement.{statement}
+use Rattle.claimed.proofs.at_most_32_links.Tie as tie
 
 returns : tie.Need-returns
 returns c = let s = c .args in at-most-32-links (tablesOf (s .tree .now) (s .services .now) (s .identities .now)) (s .entry) (s .buffer .now)

@@ -1,11 +1,11 @@
--- `claims::written_is_read_back` meets its contract: a field of 32 bits has four bytes.
+-- `claimed::written_is_read_back` meets its contract: a field of 32 bits has four bytes.
 -- Assumes nothing.
 use native.Mathlib.Omega.{arith}
 use Rattle.calls.specs.Calls.{headerOf}
 use Rattle.message.specs.Message.{FieldsFit}
 use Rattle.claims.proofs.Frames.{written-is-read-back}
-use Rattle.claims.proofs.written_is_read_back.Statement.{statement}
-use Rattle.claims.proofs.written_is_read_back.Tie as tie
+use Rattle.claimed.proofs.written_is_read_back.Statement.{statement}
+use Rattle.claimed.proofs.written_is_read_back.Tie as tie
 
 module _ (c : tie.Start) where
   fits : FieldsFit (headerOf (c .args .kind) (c .args .flags) (c .args .userid) (c .args .rolemask) (c .args .first) (c .args .second))

@@ -1,10 +1,10 @@
--- `claims::every_reply_comes_home` meets its contract.
+-- `claimed::every_reply_comes_home` meets its contract.
 -- Assumes nothing.
 use borrow.Author.Needs.{needs}
 use Rattle.routing.specs.Routed.{tablesOf}
 use Rattle.claims.proofs.Corollaries.{every-reply-comes-home}
-use Rattle.claims.proofs.every_reply_comes_home.Statement.{statement}
-use Rattle.claims.proofs.every_reply_comes_home.Tie as tie
+use Rattle.claimed.proofs.every_reply_comes_home.Statement.{statement}
+use Rattle.claimed.proofs.every_reply_comes_home.Tie as tie
 
 are-bytes-requires : tie.Need-are-bytes-requires
 are-bytes-requires c κs = search needs

@@ -1,9 +1,9 @@
--- `claims::record_holds_message` meets its contract.
+-- `claimed::record_holds_message` meets its contract.
 -- Assumes nothing.
 use borrow.Author.Needs.{needs}
 use Rattle.claims.proofs.Frames.{record-holds-message}
-use Rattle.claims.proofs.record_holds_message.Statement.{statement}
-use Rattle.claims.proofs.record_holds_message.Tie as tie
+use Rattle.claimed.proofs.record_holds_message.Statement.{statement}
+use Rattle.claimed.proofs.record_holds_message.Tie as tie
 
 are-bytes-requires : tie.Need-are-bytes-requires
 are-bytes-requires c κs = search needs

@@ -1,10 +1,10 @@
--- `claims::demand_three` meets its contract.
+-- `claimed::demand_three` meets its contract.
 -- Assumes nothing.
 use borrow.Author.Needs.{needs}
 use Rattle.routing.specs.Routed.{tablesOf}
 use Rattle.claims.proofs.Demand3.{demand-three}
-use Rattle.claims.proofs.demand_three.Statement.{statement}
-use Rattle.claims.proofs.demand_three.Tie as tie
+use Rattle.claimed.proofs.demand_three.Statement.{statement}
+use Rattle.claimed.proofs.demand_three.Tie as tie
 
 are-bytes-requires : tie.Need-are-bytes-requires
 are-bytes-requires c κs = search needs

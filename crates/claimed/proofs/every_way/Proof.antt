@@ -1,0 +1,11 @@
+-- `claimed::every_way` meets its contract.
+-- Assumes nothing.
+use Rattle.claims.proofs.Ways.{every-way}
+use Rattle.claimed.proofs.every_way.Statement.{statement}
+use Rattle.claimed.proofs.every_way.Tie as tie
+
+returns : tie.Need-returns
+returns c = every-way (c .args .tree .now)
+
+pub every-way-spec : {M : Type 1} → statement M
+every-way-spec = tie.close (tie.spec returns)

@@ -1,0 +1,123 @@
+// The claims, for every slice and number that a call can get. Each function does nothing: its parameters are those of the call that the claim is
+// about, and its promise is the claim. So the premises of a law, that bytes are below 256 and that a field has four bytes, are met here once and for
+// all, and nothing is left for a caller to check.
+use routing::Broker;
+ghost use Rattle.octets.specs.Number.{Bytes};
+ghost use Rattle.message.specs.Writing.{givenMessage};
+ghost use Rattle.calls.specs.Calls.{headerOf};
+ghost use Rattle.claims.specs.Frames.{RecordHoldsMessage, AcceptedIsWrittenBack, WrittenIsReadBack};
+ghost use Rattle.claims.specs.Trees.{TreeIsChecked};
+ghost use Rattle.claims.specs.Ways.{EveryWay};
+ghost use Rattle.claims.specs.Steps.{StepsByTheRules};
+ghost use Rattle.routing.specs.Routed.{tablesOf};
+ghost use Rattle.claims.specs.Demand3.{DemandThree};
+ghost use Rattle.claims.specs.Corollaries.{EveryReplyComesHome, AtMost32Links, EveryWalkIsRun};
+ghost use Rattle.claims.specs.Walks.{WalksOfTheTable};
+
+// Takes any slice.
+fn lend(_bytes: &[u8]) {}
+
+// What stands in a slice of bytes is below 256: the prover says so of a slice that is lent on.
+fn are_bytes(bytes: &[u8])
+    ensures { λ _. ⌜ Bytes (now (bytes .entry)) ⌝ }
+{
+    lend(bytes);
+}
+
+// A read's record says where the message lies.
+pub fn record_holds_message(bytes: &[u8])
+    ensures { λ _. ⌜ RecordHoldsMessage (now (bytes .entry)) ⌝ }
+{
+    are_bytes(bytes);
+}
+
+// Every frame that is accepted is written back as the same bytes.
+pub fn accepted_is_written_back(bytes: &[u8])
+    ensures { λ _. ⌜ AcceptedIsWrittenBack (now (bytes .entry)) ⌝ }
+{
+    are_bytes(bytes);
+}
+
+// Every message that is written is read back as the same message.
+pub fn written_is_read_back(
+    kind: u8,
+    flags: u8,
+    userid: u32,
+    rolemask: u32,
+    first: u32,
+    second: u32,
+    routes: &[u8],
+    topic: &[u8],
+    payload: &[u8],
+)
+    ensures { λ _. ⌜ WrittenIsReadBack (headerOf kind flags userid rolemask first second) (now (routes .entry)) (now (topic .entry)) (now (payload .entry)) ⌝ }
+{}
+
+// The tree check accepts the trees that the paper's sentence accepts, and writes their depths.
+pub fn tree_is_checked(tree: &[u8])
+    ensures { λ _. ⌜ TreeIsChecked (now (tree .entry)) ⌝ }
+{}
+
+// From each rank of a right tree the hops lead to every other, over the lowest common ancestor.
+pub fn every_way(tree: &[u8])
+    ensures { λ _. ⌜ EveryWay (now (tree .entry)) ⌝ }
+{}
+
+// A step call on a buffer that holds a message does what the rules of a step say, and nothing else.
+pub fn steps_by_the_rules(
+    tree: &[u8],
+    services: &[u8],
+    identities: &[u8],
+    rank: u32,
+    from_client: u32,
+    buffer: &[u8],
+)
+    ensures { λ _. ⌜ StepsByTheRules (tablesOf (now (tree .entry)) (now (services .entry)) (now (identities .entry))) rank «from_client» (now (buffer .entry)) ⌝ }
+{
+    are_bytes(buffer);
+}
+
+// Demand 3: a request's walk along its path, and the walk home of every response to it, by steps and by the walk call.
+pub fn demand_three(
+    tree: &[u8],
+    services: &[u8],
+    identities: &[u8],
+    entry: u32,
+    buffer: &[u8],
+    back: &[u8],
+)
+    ensures { λ _. ⌜ DemandThree (tablesOf (now (tree .entry)) (now (services .entry)) (now (identities .entry))) entry (now (buffer .entry)) (now (back .entry)) ⌝ }
+{
+    are_bytes(buffer);
+    are_bytes(back);
+}
+
+// An error reply that is left at rest comes home.
+pub fn every_reply_comes_home(
+    tree: &[u8],
+    services: &[u8],
+    identities: &[u8],
+    entry: u32,
+    buffer: &[u8],
+)
+    ensures { λ _. ⌜ EveryReplyComesHome (tablesOf (now (tree .entry)) (now (services .entry)) (now (identities .entry))) entry (now (buffer .entry)) ⌝ }
+{
+    are_bytes(buffer);
+}
+
+// No request that meets the premises of demand 3 crosses more than 32 links.
+pub fn at_most_32_links(tree: &[u8], services: &[u8], identities: &[u8], entry: u32, buffer: &[u8])
+    ensures { λ _. ⌜ AtMost32Links (tablesOf (now (tree .entry)) (now (services .entry)) (now (identities .entry))) entry (now (buffer .entry)) ⌝ }
+{}
+
+// Whatever the tables and the buffer hold, a walk is its steps one after another, and ends otherwise than with a message that goes on.
+pub fn every_walk_is_run(tree: &[u8], services: &[u8], identities: &[u8], b: Broker, buffer: &[u8])
+    ensures { λ _. ⌜ EveryWalkIsRun (tablesOf (now (tree .entry)) (now (services .entry)) (now (identities .entry))) b (now (buffer .entry)) ⌝ }
+{
+    are_bytes(buffer);
+}
+
+// The walks of the example floor's table, as the walk call reports them and as the steps end them.
+pub fn walks_of_the_table()
+    ensures { λ _. ⌜ WalksOfTheTable ⌝ }
+{}
