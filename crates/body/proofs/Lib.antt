@@ -8,3 +8,4 @@ pub mod Heading
 pub mod Agreeing
 pub mod Judged
 pub mod Holding
+pub mod Readings

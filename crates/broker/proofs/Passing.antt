@@ -16,8 +16,9 @@ use Rattle.message.specs.Frame.{frameOf}
 use Rattle.message.specs.Reading.{readingOf}
 use Rattle.message.proofs.Answers.{answered-same, passed, both}
 use Rattle.body.specs.declared.Frame.{Frame}
-use Rattle.body.specs.declared.Reading.the-variants.{Refused, Accepted}
+use Rattle.body.specs.declared.Reading.the-variants.{Accepted}
 use Rattle.body.specs.Places.{readAs, placesOf}
+use Rattle.body.proofs.Readings.{accepted-read}
 use Rattle.tree.specs.Tree.{ranksIn}
 use Rattle.tree.specs.Depths.{treeGood}
 use Rattle.services.specs.Services.{servicesGood}
@@ -29,32 +30,21 @@ use Rattle.routing.specs.Routed.{Tables, Outcome, delivered, forwarded, replied
 use Rattle.broker.specs.Step.{roomFor, passOf, stepOf}
 use Rattle.broker.specs.Working.{heldIn}
 
-never : {r : Refusal} {f : Frame} → Refused r ≡ Accepted f → ⊥
-never e = let z : _≡_ {A = ℕ} 0 1 = cc in omega arith
-
 -- ---- a reading, by what the reader says of it
-
-pub read-refused : (b : List ℕ) (r : Refusal) → Refused r ≡ readAs (readingOf b) → readingOf b ≡ refused r
-read-refused b r e = go (readingOf b) e
-  where
-    go : (a : Answer Message) → Refused r ≡ readAs a → a ≡ refused r
-    go (refused q) e = cc
-    go (answered m) e = absurd (never e)
 
 pub record Read (b : List ℕ) (f : Frame) : Type 0 where
   pub read : readingOf b ≡ answered (heldIn b)
   pub places : f ≡ placesOf (heldIn b)
 
-pub read-accepted : (b : List ℕ) (f : Frame) → Accepted f ≡ readAs (readingOf b) → Read b f
+held-read : (b : List ℕ) (m : Message) → readingOf b ≡ answered m → heldIn b ≡ m
 unfolding heldIn
-read-accepted b f e = go (readingOf b) refl e
-  where
-    go : (a : Answer Message) → readingOf b ≡ a → Accepted f ≡ readAs a → Read b f
-    go (refused q) is e = absurd (never (sym e))
-    go (answered m) is e =
-        let same : f ≡ placesOf m = cc in
-        let held : heldIn b ≡ m = rw is in
-        record { read = is ∙ ap answered (sym held); places = same ∙ ap placesOf (sym held) }
+held-read b m e = rw e
+
+pub read-accepted : (b : List ℕ) (f : Frame) → Accepted f ≡ readAs (readingOf b) → Read b f
+read-accepted b f e =
+    let r = accepted-read (readingOf b) e in
+    let held = held-read b (r .message) (r .is) in
+    record { read = r .is ∙ ap answered (sym held); places = r .places ∙ ap placesOf (sym held) }
 
 -- ---- the step where the tables are right
 

@@ -5,3 +5,4 @@ pub mod WriteCalls
 pub mod TreeCalls
 pub mod StepCalls
 pub mod WalkCalls
+pub mod StreamCalls

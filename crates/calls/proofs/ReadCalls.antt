@@ -14,13 +14,11 @@ use Rattle.message.specs.Reading.{readingOf}
 use Rattle.body.specs.declared.Frame.{Frame}
 use Rattle.body.specs.declared.Reading.the-variants.{Refused, Accepted}
 use Rattle.body.specs.Places.{readAs, placesOf}
+use Rattle.body.proofs.Readings.{refused-read, accepted-read}
 use Rattle.rows.specs.Rows.{readRow}
 use Rattle.message.proofs.Answers.{passed, both}
 use Rattle.calls.specs.Calls.{returned, readCall}
 use Rattle.calls.proofs.Telling.{done}
-
-never : {r : Refusal} {f : Frame} → Refused r ≡ Accepted f → ⊥
-never e = let z : _≡_ {A = ℕ} 0 1 = cc in omega arith
 
 -- a read that returns 0 has room for its record, and a message
 pub record ReadDone (b : List ℕ) (room : ℕ) : Type 0 where
@@ -55,16 +53,8 @@ module _ (b : List ℕ) (room : ℕ) where
   module _ (h : 52 ≤ room) where
     pub read-refused : (r : Refusal) → Refused r ≡ readAs (readingOf b) → readCall b room ≡ refused r
     unfolding readCall
-    read-refused r e = rw (le-ltb room 52 h) (go (readingOf b) e)
-      where
-        go : (a : Answer Message) → Refused r ≡ readAs a → andThen a (λ m. answered (readRow (placesOf m))) ≡ refused r
-        go (refused q) e = cc
-        go (answered m) e = absurd (never e)
+    read-refused r e = rw (le-ltb room 52 h, refused-read (readingOf b) e)
 
     pub read-accepted : (f : Frame) → Accepted f ≡ readAs (readingOf b) → readCall b room ≡ answered (readRow f)
-    unfolding readCall
-    read-accepted f e = rw (le-ltb room 52 h) (go (readingOf b) e)
-      where
-        go : (a : Answer Message) → Accepted f ≡ readAs a → andThen a (λ m. answered (readRow (placesOf m))) ≡ answered (readRow f)
-        go (refused q) e = absurd (never (sym e))
-        go (answered m) e = let same : f ≡ placesOf m = cc in ap (λ (g : Frame). answered (readRow g)) (sym same)
+    read-accepted f e = let r = accepted-read (readingOf b) e in
+        read-on (r .message) h (r .is) ∙ ap (λ (g : Frame). answered (readRow g)) (sym (r .places))

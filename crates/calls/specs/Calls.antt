@@ -22,6 +22,7 @@ use Rattle.broker.specs.Step.{stepOf, leftBy, toldAs}
 use Rattle.walk.specs.Walk.{Walk, walkOf}
 use Rattle.rows.specs.Rows.{readRow}
 use Rattle.answers.specs.Steps.{stepRow, frameLength}
+use Rattle.stream.specs.Stream.{Stream, streamOf, listRow}
 use Rattle.body.specs.Places.{placesOf}
 
 -- ---- what a call tells of its answer
@@ -135,3 +136,23 @@ pub record Reports (w : Walk) (row : List ℕ) (r : ℕ) (left listed : List ℕ
 pub record Plays (t : Tables) (b : Broker) (buffer row : List ℕ) (r : ℕ) (left listed : List ℕ) : Type 0 where
   pub short : length row < walkRecord → (r ≡ numberOf ShortOutput) × (left ≡ buffer) × (listed ≡ row)
   pub walks : walkRecord ≤ length row → Reports (walkOf t b buffer) row r left listed
+
+-- ---- the stream
+
+abbrev pub streamRecord : ℕ
+streamRecord = 12
+
+-- how many frames were listed, "which refusal stopped it and where that frame starts"
+abbrev pub streamNumbers : Stream → List ℕ
+streamNumbers s = length (s .frames) ∷ numberOf (s .stopped) ∷ s .stop ∷ []
+
+-- a stream that comes to s: the refusal that stopped it is its answer, so it returns 0; and it leaves the list and the record so
+pub record ListsFrames (s : Stream) (list row : List ℕ) (r : ℕ) (filled listed : List ℕ) : Type 0 where
+  pub returns : r ≡ 0
+  pub fills : filled ≡ laid (rowBytes (listRow (s .frames))) list
+  pub lists : listed ≡ laid (rowBytes (streamNumbers s)) row
+
+-- lampreycoil_read_stream: a record that is too short is 11 before all else, and nothing is written
+pub record ReadsStream (bytes list row : List ℕ) (r : ℕ) (filled listed : List ℕ) : Type 0 where
+  pub short : length row < streamRecord → (r ≡ numberOf ShortOutput) × (filled ≡ list) × (listed ≡ row)
+  pub streams : streamRecord ≤ length row → ListsFrames (streamOf (length list) bytes) list row r filled listed

@@ -6,6 +6,7 @@ ghost use Rattle.octets.specs.Number.{Bytes};
 ghost use Rattle.message.specs.Writing.{givenMessage};
 ghost use Rattle.calls.specs.Calls.{headerOf};
 ghost use Rattle.claims.specs.Frames.{RecordHoldsMessage, AcceptedIsWrittenBack, WrittenIsReadBack};
+ghost use Rattle.claims.specs.Streams.{StreamIsTheInput};
 ghost use Rattle.claims.specs.Trees.{TreeIsChecked};
 ghost use Rattle.claims.specs.Ways.{EveryWay};
 ghost use Rattle.claims.specs.Steps.{StepsByTheRules};
@@ -52,6 +53,13 @@ pub fn written_is_read_back(
 )
     ensures { λ _. ⌜ WrittenIsReadBack (headerOf kind flags userid rolemask first second) (now (routes .entry)) (now (topic .entry)) (now (payload .entry)) ⌝ }
 {}
+
+// The frames that a stream lists, one after another, are its input up to the stop.
+pub fn stream_is_the_input(bytes: &[u8])
+    ensures { λ _. ⌜ StreamIsTheInput (now (bytes .entry)) ⌝ }
+{
+    are_bytes(bytes);
+}
 
 // The tree check accepts the trees that the paper's sentence accepts, and writes their depths.
 pub fn tree_is_checked(tree: &[u8])

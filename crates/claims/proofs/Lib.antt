@@ -2,6 +2,7 @@
 pub mod Routes
 pub mod Records
 pub mod Frames
+pub mod Streams
 pub mod Trees
 pub mod Ways
 pub mod Steps

@@ -3,6 +3,7 @@
 -- To be read in this order.
 pub mod Records
 pub mod Frames
+pub mod Streams
 pub mod Trees
 pub mod Ways
 pub mod Steps

@@ -5,7 +5,7 @@ ghost use Rattle.message.specs.Writing.{givenMessage};
 ghost use Rattle.services.specs.Services;
 ghost use Rattle.identities.specs.Identities;
 ghost use Rattle.routing.specs.Routed.{tablesOf};
-ghost use Rattle.calls.specs.Calls.{returned, Reads, headerOf, Writes, ChecksTree, hostBroker, Steps, Plays};
+ghost use Rattle.calls.specs.Calls.{returned, Reads, headerOf, Writes, ReadsStream, ChecksTree, hostBroker, Steps, Plays};
 
 // Reads the frame at the front of bytes, and lists where its parts lie.
 #[no_mangle]
@@ -45,6 +45,14 @@ pub extern "C" fn lampreycoil_write(
         out,
         row,
     )
+}
+
+// Lists start and length of each whole frame in bytes, and in the record how many they are, which refusal stopped it and where.
+#[no_mangle]
+pub extern "C" fn lampreycoil_read_stream(bytes: &[u8], list: &mut [u8], row: &mut [u8]) -> u32
+    ensures { λ r. ⌜ ReadsStream (now (bytes .entry)) (now (list .entry)) (now (row .entry)) r (now (list .exit)) (now (row .exit)) ⌝ }
+{
+    stream_calls::read_stream(bytes, list, row)
 }
 
 // Checks a tree, writes one depth byte a rank to the front of depths, and lists how many they are.

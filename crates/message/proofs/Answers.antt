@@ -1,8 +1,8 @@
--- What an answer tells of the tests in front of it; no refusal has the number 0.
+-- What an answer tells of the tests in front of it; how large the numbers of refusals are.
 -- Assumes nothing.
 use mathlib.Core.Path.{_≡_, refl}
 use mathlib.Core.Bool.{Bool, true, false}
-use Prim.Native.Nat.{ℕ}
+use Prim.Native.Nat.{ℕ, _<_, _≤_}
 use native.Mathlib.Omega.{arith}
 use Rattle.octets.proofs.Truth.{true-false}
 use Rattle.message.specs.declared.Refusal.{Refusal}
@@ -12,31 +12,37 @@ use Rattle.message.specs.Answer.{Answer, refused, answered, refuseIf, an
 
 -- ---- refusals
 
+pub number-range : (r : Refusal) → (1 ≤ numberOf r) × (numberOf r < 256)
+number-range ShortInput = (omega arith, omega arith)
+number-range WrongStart = (omega arith, omega arith)
+number-range LongBody = (omega arith, omega arith)
+number-range WrongSize = (omega arith, omega arith)
+number-range ManyParts = (omega arith, omega arith)
+number-range WrongHeader = (omega arith, omega arith)
+number-range WrongParts = (omega arith, omega arith)
+number-range WrongRoute = (omega arith, omega arith)
+number-range WrongTopic = (omega arith, omega arith)
+number-range WrongField = (omega arith, omega arith)
+number-range ShortOutput = (omega arith, omega arith)
+number-range NoForwarding = (omega arith, omega arith)
+number-range WrongTree = (omega arith, omega arith)
+number-range WrongServices = (omega arith, omega arith)
+number-range WrongIdentities = (omega arith, omega arith)
+number-range WrongRank = (omega arith, omega arith)
+number-range NotRouted = (omega arith, omega arith)
+number-range NoNeighbour = (omega arith, omega arith)
+
 -- 0 is no refusal's number
 pub some-number : (r : Refusal) → numberOf r ≡ 0 → ⊥
-some-number ShortInput e = omega arith
-some-number WrongStart e = omega arith
-some-number LongBody e = omega arith
-some-number WrongSize e = omega arith
-some-number ManyParts e = omega arith
-some-number WrongHeader e = omega arith
-some-number WrongParts e = omega arith
-some-number WrongRoute e = omega arith
-some-number WrongTopic e = omega arith
-some-number WrongField e = omega arith
-some-number ShortOutput e = omega arith
-some-number NoForwarding e = omega arith
-some-number WrongTree e = omega arith
-some-number WrongServices e = omega arith
-some-number WrongIdentities e = omega arith
-some-number WrongRank e = omega arith
-some-number NotRouted e = omega arith
-some-number NoNeighbour e = omega arith
+some-number r e = omega (arith, number-range r .0)
 
 -- ---- answers
 
 pub answered-same : {A : Type 0} {x y : A} → answered x ≡ answered y → x ≡ y
 answered-same e = cc
+
+pub refused-same : {A : Type 0} {r s : Refusal} → _≡_ {A = Answer A} (refused r) (refused s) → r ≡ s
+refused-same e = cc
 
 pub not-answered : {A : Type 0} {r : Refusal} {x : A} → refused r ≡ answered x → ⊥
 not-answered e = let z : true ≡ false = cc in true-false z

@@ -1,7 +1,7 @@
 -- Laws on a row of numbers that is laid two numbers at a time.
 -- Assumes nothing.
-use mathlib.Core.Path.{_≡_, sym, ap, _∙_}
-use Prim.Native.Nat.{ℕ, _+_, _-_, _*_, _/_, _%_, _<_, _≤_}
+use mathlib.Core.Path.{_≡_, ap, _∙_}
+use Prim.Native.Nat.{ℕ, _+_, _-_, _*_, _<_, _≤_}
 use mathlib.Core.List.{List, _++_, append-assoc}
 use native.Mathlib.Omega.{arith}
 use lib.ListN.{length, getD, take, length-append}
@@ -26,31 +26,3 @@ rowed-two {row} {lent} {out} {at} {i} r room h e =
       most = omega arith;
       lays = rw (row-two row i h) (lays-leaf (r .lays) pair fits e);
     }
-
-high : (m n : ℕ) → (m % 4294967296 * 4294967296 + n % 4294967296) / 4294967296 ≡ m % 4294967296
-high m n = omega arith
-
-low : (m n : ℕ) → (m % 4294967296 * 4294967296 + n % 4294967296) % 4294967296 ≡ n % 4294967296
-low m n = omega arith
-
-byte-3 : (k : ℕ) → k % 4294967296 / 16777216 % 256 ≡ k / 16777216 % 256
-byte-3 k = omega arith
-
-byte-2 : (k : ℕ) → k % 4294967296 / 65536 % 256 ≡ k / 65536 % 256
-byte-2 k = omega arith
-
-byte-1 : (k : ℕ) → k % 4294967296 / 256 % 256 ≡ k / 256 % 256
-byte-1 k = omega arith
-
-byte-0 : (k : ℕ) → k % 4294967296 % 256 ≡ k % 256
-byte-0 k = omega arith
-
-four-same : (k : ℕ) → four (k % 4294967296) ≡ four k
-four-same k = rw (byte-3 k, byte-2 k, byte-1 k, byte-0 k)
-
-pub pair-of : (m n : ℕ) → let w = m % 4294967296 * 4294967296 + n % 4294967296 in four (w / 4294967296) ++ four w ≡ four m ++ four n
-pair-of m n =
-    let w = m % 4294967296 * 4294967296 + n % 4294967296 in
-    let one : four (w / 4294967296) ≡ four m = ap four (high m n) ∙ four-same m in
-    let two : four w ≡ four n = sym (four-same w) ∙ ap four (low m n) ∙ four-same n in
-    ap (λ (xs : List ℕ). xs ++ four w) one ∙ ap (λ (xs : List ℕ). four m ++ xs) two

@@ -7,16 +7,17 @@ use Prim.Native.Nat.{ℕ, _<_}
 use mathlib.Core.List.{List}
 use Rattle.octets.specs.Number.{Bytes}
 use Rattle.octets.proofs.Numbers.{bytes-of}
-use Rattle.message.specs.declared.Header.{Header}
+use Rattle.message.specs.Reading.{readingOf}
 use Rattle.body.specs.declared.Frame.{Frame}
 use Rattle.body.specs.Places.{placesOf}
+use Rattle.body.proofs.Readings.{refused-read}
 use Rattle.tree.specs.Tree.{ranksIn}
 use Rattle.routing.specs.declared.Broker.{Broker}
 use Rattle.routing.specs.Routed.{Tables, tablesOf}
 use Rattle.broker.specs.Working.{heldIn, Lies}
 use Rattle.broker.proofs.Lying.{refuses, makes-as}
 use Rattle.routing.proofs.Outcomes.{routed-request, routed-response, routed-neither}
-use Rattle.broker.proofs.Passing.{Read, read-refused, read-accepted, pass-outside, pass-unread, pass-as}
+use Rattle.broker.proofs.Passing.{Read, read-accepted, pass-outside, pass-unread, pass-as}
 use Rattle.broker.proofs.pass.Statement.{statement}
 use Rattle.broker.proofs.pass.Tie as tie
 
@@ -120,7 +121,7 @@ returns-4 : tie.Need-returns-4
 returns-4 c = let d = c .before .before .before in
     let s = start d in
     let r = c .before .r .given in
-    refuses (pass-unread (tables s) (who s) (b s) (inside d) (r .0 .0) (read-refused (b s) (r .0 .0) (sym (r .1) ∙ d .read .ensures)))
+    refuses (pass-unread (tables s) (who s) (b s) (inside d) (r .0 .0) (refused-read (readingOf (b s)) (sym (r .1) ∙ d .read .ensures)))
 
 same-length-4 : tie.Need-same-length-4
 same-length-4 c = search needs

@@ -1,8 +1,8 @@
--- `rows::put_eight` meets its contract.
+-- `pairs::put_eight` meets its contract.
 -- Assumes nothing.
 use borrow.Author.Needs.{needs}
-use Rattle.rows.proofs.put_eight.Statement.{statement}
-use Rattle.rows.proofs.put_eight.Tie as tie
+use Rattle.pairs.proofs.put_eight.Statement.{statement}
+use Rattle.pairs.proofs.put_eight.Tie as tie
 
 cast-t7 : tie.Need-cast-t7
 cast-t7 c = search needs

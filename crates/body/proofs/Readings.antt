@@ -1,0 +1,28 @@
+-- What the reader says of bytes tells what is read from them.
+-- Assumes nothing.
+use mathlib.Core.Path.{_≡_, refl, sym}
+use Prim.Native.Nat.{ℕ}
+use native.Mathlib.Omega.{arith}
+use Rattle.message.specs.declared.Refusal.{Refusal}
+use Rattle.message.specs.Answer.{Answer, refused, answered}
+use Rattle.message.specs.Message.{Message}
+use Rattle.body.specs.declared.Frame.{Frame}
+use Rattle.body.specs.declared.Reading.the-variants.{Refused, Accepted}
+use Rattle.body.specs.Places.{readAs, placesOf}
+
+never : {r : Refusal} {f : Frame} → Refused r ≡ Accepted f → ⊥
+never e = let z : _≡_ {A = ℕ} 0 1 = cc in omega arith
+
+pub refused-read : (a : Answer Message) {r : Refusal} → Refused r ≡ readAs a → a ≡ refused r
+refused-read (refused q) e = cc
+refused-read (answered m) e = absurd (never e)
+
+-- a message was read, and these are its places
+pub record Read (a : Answer Message) (f : Frame) : Type 0 where
+  pub message : Message
+  pub is : a ≡ answered message
+  pub places : f ≡ placesOf message
+
+pub accepted-read : (a : Answer Message) {f : Frame} → Accepted f ≡ readAs a → Read a f
+accepted-read (refused q) e = absurd (never (sym e))
+accepted-read (answered m) e = record { message = m; is = refl; places = cc }

@@ -1,0 +1,127 @@
+-- The claim of specs/Streams.antt: the entries of the list are the run of frames that the stream is.
+-- Assumes nothing.
+use mathlib.Core.Path.{_≡_, refl, sym, ap, _∙_, subst⁻¹}
+use Prim.Native.Nat.{ℕ, zero, suc, _+_, _-_, _*_, _/_, _<_, _≤_}
+use mathlib.Core.List.{List, [], _∷_, _++_}
+use native.Mathlib.Omega.{arith}
+use lib.ListN.{length, getD, take, drop, length-take}
+use lib.Seq.{drop-at, take-add, length-take-le}
+use Rattle.octets.specs.Number.{Bytes, rowBytes}
+use Rattle.octets.specs.Laid.{laid}
+use Rattle.octets.proofs.Numbers.{bytes-take}
+use Rattle.octets.proofs.Rows.{row-number, row-length}
+use Rattle.message.specs.Refusals.{numberOf}
+use Rattle.message.specs.Reading.{readingOf}
+use Rattle.message.proofs.Answers.{number-range}
+use Rattle.message.proofs.Lists.{each-at}
+use Rattle.body.specs.Places.{placesOf, stretch}
+use Rattle.stream.specs.Stream.{Place, Stream, streamOf, listRow}
+use Rattle.stream.proofs.Streaming.{list-length}
+use Rattle.stream.proofs.Runs.{Stops, stream-stops, bound, bound-end, lengthOf, start-listed, length-listed, run-first, run-next, run-bound, run-taken, run-within, run-each}
+use Rattle.calls.specs.Calls.{streamNumbers}
+use Rattle.claims.specs.Records.{numberIn}
+use Rattle.claims.specs.Streams.{seen, entriesIn, refusalIn, stopIn, startAt, lengthAt, framesAt, AcceptedAt, StoppedBy, FramesOf, StreamIsTheInput}
+
+module _ (bytes : List ℕ) (known : Bytes bytes) (list row : List ℕ) where
+  abbrev input : List ℕ
+  input = seen bytes
+
+  abbrev s : Stream
+  s = streamOf (length list) bytes
+
+  abbrev ps : List Place
+  ps = s .frames
+
+  stops : Stops input (length list / 8) 0 s
+  unfolding streamOf
+  stops = stream-stops input (length list / 8) 0
+
+  short : (length input ≤ 1048576) × (length input ≤ length bytes)
+  short = (omega (arith, length-take 1048576 bytes), omega (arith, length-take 1048576 bytes))
+
+  far : (8 * length ps ≤ s .stop) × (s .stop ≤ length input)
+  far = let w = run-within input (bytes-take 1048576 bytes known) 0 ps (s .stop) (omega arith) (stops .run) in
+      (omega (arith, w .0), w .1)
+
+  -- what the call leaves in the list and in the record
+  abbrev filled : List ℕ
+  filled = laid (rowBytes (listRow ps)) list
+
+  abbrev told : List ℕ
+  told = laid (rowBytes (streamNumbers s)) row
+
+  -- ---- the record's numbers
+
+  entries-told : entriesIn told ≡ length ps
+  entries-told = row-number (streamNumbers s) (drop 12 row) 0 (omega arith) (omega (arith, far .0, far .1, short .0))
+
+  refusal-told : refusalIn told ≡ numberOf (s .stopped)
+  refusal-told = row-number (streamNumbers s) (drop 12 row) 1 (omega arith) (omega (arith, number-range (s .stopped) .1))
+
+  stop-told : stopIn told ≡ s .stop
+  stop-told = row-number (streamNumbers s) (drop 12 row) 2 (omega arith) (omega (arith, far .1, short .0))
+
+  -- ---- the list's
+
+  entry-told : (k : ℕ) → k < 2 * length ps → numberIn filled k ≡ getD (listRow ps) k 0
+  entry-told k h =
+      let in-row : k < length (listRow ps) = omega (arith, list-length ps) in
+      let most = each-at (λ (n : ℕ). n ≤ length input) (listRow ps) k 0 (run-each input (bytes-take 1048576 bytes known) 0 ps (s .stop) (omega arith) (stops .run)) in-row in
+      row-number (listRow ps) (drop (length (rowBytes (listRow ps))) list) k in-row (omega (arith, most, short .0))
+
+  start-told : (i : ℕ) → i < length ps → startAt filled i ≡ bound ps (s .stop) i
+  start-told i h = entry-told (2 * i) (omega arith) ∙ start-listed ps (s .stop) i h
+
+  length-told : (i : ℕ) → i < length ps → lengthAt filled i ≡ lengthOf ps i
+  length-told i h = entry-told (2 * i + 1) (omega arith) ∙ length-listed ps i h
+
+  -- ---- the frames
+
+  accepted : (i : ℕ) → i < length ps → AcceptedAt input (startAt filled i) (lengthAt filled i)
+  unfolding placesOf
+  accepted i h =
+      let t = run-taken input 0 ps (s .stop) i (stops .run) h in
+      record {
+        message = t .message;
+        read = ap (λ (k : ℕ). readingOf (drop k input)) (start-told i h) ∙ t .read;
+        long = t .took ∙ sym (length-told i h);
+      }
+
+  joined : (n : ℕ) → n ≤ length ps → framesAt bytes filled n ≡ take (bound ps (s .stop) n) bytes
+  joined zero h = ap (λ (k : ℕ). take k bytes) (sym (run-first input 0 ps (s .stop) (stops .run)))
+  joined (suc n) h =
+      let at = bound ps (s .stop) n in
+      ap (λ (xs : List ℕ). xs ++ stretch bytes (startAt filled n) (lengthAt filled n)) (joined n (omega arith))
+      ∙ ap (λ (k : ℕ). take at bytes ++ stretch bytes k (lengthAt filled n)) (start-told n (omega arith))
+      ∙ ap (λ (k : ℕ). take at bytes ++ stretch bytes at k) (length-told n (omega arith))
+      ∙ sym (take-add at (lengthOf ps n) bytes) ∙ ap (λ (k : ℕ). take k bytes) (sym (run-next input 0 ps (s .stop) n (stops .run) (omega arith)))
+
+  starts : (i : ℕ) → i < length ps → startAt filled i ≡ length (framesAt bytes filled i)
+  starts i h =
+      let within : bound ps (s .stop) i ≤ length bytes = omega (arith, run-bound input (bytes-take 1048576 bytes known) 0 ps (s .stop) i (omega arith) (stops .run), short .1) in
+      start-told i h ∙ sym (ap length (joined i (omega arith)) ∙ length-take-le (bound ps (s .stop) i) bytes within)
+
+  stopped : StoppedBy input (length list - 8 * length ps) (s .stop) (numberOf (s .stopped))
+  stopped =
+      record {
+        unread = λ r e. ap numberOf (stops .unread e);
+        full = λ m e. (ap numberOf (stops .full e .0), omega (arith, stops .full e .1));
+      }
+
+  frames : FramesOf bytes list filled told
+  frames =
+      let size : length (rowBytes (listRow ps)) ≡ 8 * length ps = omega (arith, row-length (listRow ps), list-length ps) in
+      record {
+        fits = rw entries-told (omega (arith, stops .few));
+        accepted = λ i h. accepted i (rw entries-told at h);
+        starts = λ i h. starts i (rw entries-told at h);
+        joined = rw (entries-told, stop-told) (joined (length ps) (omega arith) ∙ ap (λ (k : ℕ). take k bytes) (bound-end ps (s .stop)));
+        within = rw stop-told (far .1);
+        stopped = rw (entries-told, stop-told, refusal-told) stopped;
+        tail = rw entries-told (drop-at (rowBytes (listRow ps)) (drop (length (rowBytes (listRow ps))) list) (8 * length ps) size ∙ ap (λ (k : ℕ). drop k list) size);
+      }
+
+pub stream-is-the-input : (bytes : List ℕ) → Bytes bytes → StreamIsTheInput bytes
+stream-is-the-input bytes known list row r filled listed room reads =
+    let does = reads .streams (omega (arith, room)) in
+    subst⁻¹ (λ (xs : List ℕ). FramesOf bytes list xs listed) (does .fills) (subst⁻¹ (λ (xs : List ℕ). FramesOf bytes list (laid (rowBytes (listRow (streamOf (length list) bytes .frames))) list) xs) (does .lists) (frames bytes known list row))

@@ -1,0 +1,3 @@
+-- Laws on streams of frames.
+pub mod Streaming
+pub mod Runs
