@@ -1,7 +1,7 @@
 /*
  * lampreycoil.h: the C calls of Lampreycoil, which reads and writes framed Flux messages (RFC 3),
- * checks the tables of the brokers that pass them on, makes one broker's step, and plays a whole
- * walk.
+ * lists the frames of a stream, checks the tables of the brokers that pass them on, makes one
+ * broker's step, and plays a whole walk.
  * The functions are in the archive liblampreycoil.a. Usable from C99 and from C++.
  *
  * How every call works
@@ -173,21 +173,26 @@ enum lampreycoil_size {
     LAMPREYCOIL_ROUTES_MAX = 64, /* routes */
     LAMPREYCOIL_TOPIC_MAX = 255, /* without the zero byte */
     LAMPREYCOIL_BODY_MAX = 32768,
-    LAMPREYCOIL_FRAME_MAX = 32776,   /* an output of this size is never too short */
-    LAMPREYCOIL_WALK_ROOM = 32776,   /* the least buffer that a walk takes */
-    LAMPREYCOIL_RANKS_MAX = 1024,    /* ranks of a tree */
-    LAMPREYCOIL_RANK_SIZE = 4,       /* a rank's record in a tree: its parent */
-    LAMPREYCOIL_SERVICES_MAX = 1024, /* records of services */
-    LAMPREYCOIL_SERVICE_SIZE = 32,   /* rank (4), name length (1), name, zero padding */
-    LAMPREYCOIL_NAME_MAX = 27,       /* a service's name */
-    LAMPREYCOIL_DEPTH_MAX = 16,      /* links from a rank to rank 0 */
-    LAMPREYCOIL_STACK_MAX = 16384    /* stack that a call takes */
+    LAMPREYCOIL_FRAME_MIN = 29,       /* a control message's frame: no frame is shorter */
+    LAMPREYCOIL_FRAME_MAX = 32776,    /* an output of this size is never too short */
+    LAMPREYCOIL_WALK_ROOM = 32776,    /* the least buffer that a walk takes */
+    LAMPREYCOIL_RANKS_MAX = 1024,     /* ranks of a tree */
+    LAMPREYCOIL_RANK_SIZE = 4,        /* a rank's record in a tree: its parent */
+    LAMPREYCOIL_SERVICES_MAX = 1024,  /* records of services */
+    LAMPREYCOIL_SERVICE_SIZE = 32,    /* rank (4), name length (1), name, zero padding */
+    LAMPREYCOIL_NAME_MAX = 27,        /* a service's name */
+    LAMPREYCOIL_DEPTH_MAX = 16,       /* links from a rank to rank 0 */
+    LAMPREYCOIL_STREAM_MAX = 1048576, /* bytes of a stream that are looked at */
+    LAMPREYCOIL_ENTRY_SIZE = 8,       /* an entry in a stream's list: start and length */
+    LAMPREYCOIL_LIST_MAX = 289256,    /* a list of this size is never too short */
+    LAMPREYCOIL_STACK_MAX = 16384     /* stack that a call takes */
 };
 
 /* Sizes of the records that the calls fill, in bytes: 4 for each number. None is an index. */
 enum lampreycoil_record_size {
     LAMPREYCOIL_READ_RECORD = 52,
     LAMPREYCOIL_WRITE_RECORD = 4,
+    LAMPREYCOIL_STREAM_RECORD = 12,
     LAMPREYCOIL_CHECK_TREE_RECORD = 4,
     LAMPREYCOIL_STEP_RECORD = 16,
     LAMPREYCOIL_WALK_RECORD = 24
@@ -227,6 +232,13 @@ enum lampreycoil_check_tree_index {
 /* The number of lampreycoil_write's record. */
 enum lampreycoil_write_index {
     LAMPREYCOIL_WRITE_LENGTH = 0 /* bytes of the frame written */
+};
+
+/* The numbers of lampreycoil_read_stream's record, by index. */
+enum lampreycoil_stream_index {
+    LAMPREYCOIL_STREAM_ENTRIES = 0, /* whole frames listed, LAMPREYCOIL_ENTRY_SIZE bytes each */
+    LAMPREYCOIL_STREAM_REFUSAL = 1, /* what stopped it: enum lampreycoil_refusal, never 0 */
+    LAMPREYCOIL_STREAM_STOP = 2     /* where the frame starts at which it stopped */
 };
 
 /* What a broker did with a message, and what its daemon does now. */
@@ -272,6 +284,35 @@ enum lampreycoil_walk_index {
 LAMPREYCOIL_CHECKED
 uint32_t lampreycoil_read(const uint8_t *bytes, size_t bytes_length, uint8_t *record,
                           size_t record_length);
+
+/*
+ * Lists the frames of a stream: bytes that hold one frame behind another and end, as reads from a
+ * socket do, somewhere in a frame. For each whole frame from bytes' front on, an entry of
+ * LAMPREYCOIL_ENTRY_SIZE bytes goes to list: where the frame starts and how long it is (4 bytes
+ * each, big endian; lampreycoil_entry() reads them), so that lampreycoil_read takes it from there.
+ * It goes on until the first refusal, and writes to record, which takes LAMPREYCOIL_STREAM_RECORD
+ * bytes, how many entries there are, which refusal stopped it, and where that frame starts. It is
+ * what lampreycoil_read says when it is called again on what remains. Bytes of list behind the
+ * entries stay as they were.
+ *
+ * A stream always stops with some refusal:
+ * - 1 where nothing remains, or the start of a frame: the rest of it is still to come. Keep the
+ *   bytes from there on, and read more behind them.
+ * - 11 where list has no room for an entry more and the next frame is good: go on from there with
+ *   another call. A frame that is not good is told as what it is, whether there is room or not.
+ * - Any other refusal of lampreycoil_read is that frame's. Where the next one starts is not known.
+ *
+ * Bytes past the first LAMPREYCOIL_STREAM_MAX count as absent: a good frame that crosses that place
+ * is 1, though the rest of it is there, and the next call begins at its start. No frame is shorter
+ * than LAMPREYCOIL_FRAME_MIN bytes, so a list of LAMPREYCOIL_LIST_MAX bytes has room for whatever
+ * bytes hold.
+ *
+ * The refusal that stopped it is its answer: the call itself returns 0, or 11 where record is too
+ * short, and then nothing is written.
+ */
+LAMPREYCOIL_CHECKED
+uint32_t lampreycoil_read_stream(const uint8_t *bytes, size_t bytes_length, uint8_t *list,
+                                 size_t list_length, uint8_t *record, size_t record_length);
 
 /*
  * Writes a message as a frame to the front of out, and the frame's length to record, which takes
@@ -440,6 +481,22 @@ static inline uint32_t lampreycoil_frame_length(const uint8_t *bytes, size_t byt
         return refusal;
     *length = LAMPREYCOIL_FRONT_SIZE + lampreycoil_number(bytes, 1);
     return LAMPREYCOIL_OK;
+}
+
+/* Where a frame of a stream lies. */
+struct lampreycoil_place {
+    size_t start;
+    size_t length;
+};
+
+/* The entry with this number, counted from 0, of the list that lampreycoil_read_stream filled. */
+static inline struct lampreycoil_place lampreycoil_entry(const uint8_t *list, size_t number)
+{
+    struct lampreycoil_place place;
+
+    place.start = lampreycoil_number(list, 2 * number);
+    place.length = lampreycoil_number(list, 2 * number + 1);
+    return place;
 }
 
 /*
