@@ -7,11 +7,13 @@ use crate::floor::{Floor, Tables};
 use crate::frame::{Header, Refusal};
 use crate::read::Reading;
 use crate::step::{step, Answer, Stepped};
+use crate::stream::read_stream;
 use crate::walk::{walk, Stopped, Walked};
 use crate::write::Message;
 use crate::{read, tables, write};
 
 pub const READ_RECORD_LEN: usize = 52;
+pub const STREAM_RECORD_LEN: usize = 12;
 pub const WRITE_RECORD_LEN: usize = 4;
 pub const TREE_RECORD_LEN: usize = 4;
 pub const STEP_RECORD_LEN: usize = 16;
@@ -29,6 +31,17 @@ pub fn read_call(bytes: &[u8], record: &mut [u8]) -> u32 {
         }
         Err(refusal) => refusal as u32,
     }
+}
+
+/// The refusal that stopped the stream is told in the record alone.
+pub fn read_stream_call(bytes: &[u8], list: &mut [u8], record: &mut [u8]) -> u32 {
+    let Some(record) = record.get_mut(..STREAM_RECORD_LEN) else {
+        return Refusal::OutputTooShort as u32;
+    };
+    let stop = read_stream(bytes, list);
+    let numbers = [stop.entries as u32, stop.refusal as u32, stop.start as u32];
+    put_numbers(record, &numbers);
+    0
 }
 
 #[inline]
@@ -174,6 +187,24 @@ pub unsafe extern "C" fn second_read(
 ) -> u32 {
     read_call(
         from_raw_parts(bytes, bytes_len),
+        from_raw_parts_mut(record, record_len),
+    )
+}
+
+/// # Safety
+/// Each pointer with its length is a slice that lives through the call and overlaps no other.
+#[inline(never)]
+pub unsafe extern "C" fn second_read_stream(
+    bytes: *const u8,
+    bytes_len: usize,
+    list: *mut u8,
+    list_len: usize,
+    record: *mut u8,
+    record_len: usize,
+) -> u32 {
+    read_stream_call(
+        from_raw_parts(bytes, bytes_len),
+        from_raw_parts_mut(list, list_len),
         from_raw_parts_mut(record, record_len),
     )
 }

@@ -1,8 +1,8 @@
 //! A second program for framed Flux messages, written from the papers alone, and the means to
 //! call it and the library in the same way.
 //!
-//! `read`, `write`, `tables`, `floor`, `step` and `walk` are the program itself, and `path` tells
-//! apart from the step where a request goes. `calls` gives the program the shape of the C
+//! `read`, `stream`, `write`, `tables`, `floor`, `step` and `walk` are the program itself, and `path`
+//! tells apart from the step where a request goes. `calls` gives the program the shape of the C
 //! interface, `library` declares the library's own calls, and `side` puts both behind one type.
 
 pub mod calls;
@@ -15,6 +15,9 @@ pub mod read;
 pub mod sample;
 pub mod side;
 pub mod step;
+pub mod stream;
+#[cfg(test)]
+mod stream_tests;
 pub mod tables;
 pub mod walk;
 #[cfg(test)]

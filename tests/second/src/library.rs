@@ -8,6 +8,15 @@ extern "C" {
         record_len: usize,
     ) -> u32;
 
+    pub fn lampreycoil_read_stream(
+        bytes: *const u8,
+        bytes_len: usize,
+        list: *mut u8,
+        list_len: usize,
+        record: *mut u8,
+        record_len: usize,
+    ) -> u32;
+
     pub fn lampreycoil_write(
         kind: u8,
         flags: u8,

@@ -5,6 +5,7 @@ use crate::write::Message;
 use crate::{calls, library};
 
 type ReadCall = unsafe extern "C" fn(*const u8, usize, *mut u8, usize) -> u32;
+type StreamCall = unsafe extern "C" fn(*const u8, usize, *mut u8, usize, *mut u8, usize) -> u32;
 #[rustfmt::skip]
 type WriteCall = unsafe extern "C" fn(
     u8, u8, u32, u32, u32, u32,
@@ -31,6 +32,7 @@ type WalkCall = unsafe extern "C" fn(
 pub struct Side {
     pub name: &'static str,
     read: ReadCall,
+    read_stream: StreamCall,
     write: WriteCall,
     check_tree: TreeCall,
     check_services: TableCall,
@@ -42,6 +44,7 @@ pub struct Side {
 pub const LIBRARY: Side = Side {
     name: "library",
     read: library::lampreycoil_read,
+    read_stream: library::lampreycoil_read_stream,
     write: library::lampreycoil_write,
     check_tree: library::lampreycoil_check_tree,
     check_services: library::lampreycoil_check_services,
@@ -53,6 +56,7 @@ pub const LIBRARY: Side = Side {
 pub const SECOND: Side = Side {
     name: "second",
     read: calls::second_read,
+    read_stream: calls::second_read_stream,
     write: calls::second_write,
     check_tree: calls::second_check_tree,
     check_services: calls::second_check_services,
@@ -68,6 +72,20 @@ impl Side {
             (self.read)(
                 bytes.as_ptr(),
                 bytes.len(),
+                record.as_mut_ptr(),
+                record.len(),
+            )
+        }
+    }
+
+    pub fn read_stream(&self, bytes: &[u8], list: &mut [u8], record: &mut [u8]) -> u32 {
+        // Safe: all slices live through the call; list and record are lent to it alone.
+        unsafe {
+            (self.read_stream)(
+                bytes.as_ptr(),
+                bytes.len(),
+                list.as_mut_ptr(),
+                list.len(),
                 record.as_mut_ptr(),
                 record.len(),
             )

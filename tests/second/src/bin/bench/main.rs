@@ -3,13 +3,15 @@
 //!
 //!     bench [--services FILE] [--identities FILE] [PART...]
 //!
-//! The parts are frames, tables, steps and walks; without any, all are measured. The files hold
-//! tables of 1,024 records that were made to be slow, as for instance all in one chain of a hash.
+//! The parts are frames, streams, tables, steps and walks; without any, all are measured. The
+//! files hold tables of 1,024 records that were made to be slow, as for instance all in one chain
+//! of a hash.
 
 mod buffers;
 mod floors;
 mod frames;
 mod steps;
+mod streams;
 mod tables;
 mod turns;
 mod walks;
@@ -32,6 +34,9 @@ fn main() {
     if wanted("frames") {
         frames::measure();
     }
+    if wanted("streams") {
+        streams::measure();
+    }
     if wanted("steps") {
         steps::measure(given.as_ref());
     }
@@ -41,8 +46,11 @@ fn main() {
     if wanted("tables") {
         tables::measure(given.as_ref());
     }
-    if wanted("tables") || wanted("walks") {
+    if ["streams", "tables", "walks"].into_iter().any(wanted) {
         print_own_head();
+    }
+    if wanted("streams") {
+        streams::measure_own();
     }
     if wanted("tables") {
         tables::measure_own(given.as_ref());

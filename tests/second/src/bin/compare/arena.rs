@@ -13,7 +13,7 @@ const GUARD: usize = 24;
 const PATTERN_LEN: usize = 1 << 16;
 /// No call lends more slices than this, and none of them is longer.
 const FENCES: usize = 5;
-const FENCED_LEN: usize = 1 << 17;
+const FENCED_LEN: usize = 1 << 21;
 
 pub struct Arena {
     pattern: Vec<u8>,

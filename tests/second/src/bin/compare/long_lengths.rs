@@ -16,7 +16,7 @@ pub const ABOVE: usize = (1 << 32) + 64;
 /// The pattern behind every input and in every output repeats after so many bytes.
 const PATTERN_LEN: usize = 1 << 24;
 /// The cases put their bytes in front of this.
-const FRONT: usize = 200;
+pub const FRONT: usize = 200;
 
 pub fn run(tester: &mut Tester) {
     tester.begin_group("long-lengths");
@@ -54,6 +54,7 @@ fn run_in(tester: &mut Tester, memory: &mut Repeated) {
     write_above(tester, memory.bytes());
     unchanged(tester, memory, "write");
     long_output(tester, memory);
+    crate::long_streams::run(tester, memory);
     tables_above(tester, memory.bytes());
     unchanged(tester, memory, "all");
 }

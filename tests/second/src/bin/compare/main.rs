@@ -12,6 +12,7 @@ mod draft;
 mod faults;
 mod long_lengths;
 mod long_steps;
+mod long_streams;
 mod messages;
 mod pages;
 mod paper;
@@ -21,12 +22,17 @@ mod reader_order;
 mod seeded;
 mod seeded_steps;
 mod seeded_strays;
+mod seeded_streams;
 mod seeded_tables;
 mod seeded_walks;
 mod step_bounds;
 mod step_calls;
 mod step_order;
 mod step_rules;
+mod stream_bounds;
+mod stream_calls;
+mod stream_limits;
+mod stream_parts;
 mod table_bounds;
 mod table_calls;
 mod tester;
@@ -60,7 +66,13 @@ fn group(name: &'static str, weight: u64, run: fn(&mut Tester, &Run)) -> Group {
 }
 
 fn groups() -> Vec<Group> {
-    let all = [frame_groups(), table_groups(), step_groups(), walk_groups()];
+    let all = [
+        frame_groups(),
+        stream_groups(),
+        table_groups(),
+        step_groups(),
+        walk_groups(),
+    ];
     all.into_iter().flatten().collect()
 }
 
@@ -75,6 +87,14 @@ fn frame_groups() -> Vec<Group> {
         group("structured", 8, seeded::structured),
         group("damaged", 8, seeded::damaged),
         group("random", 8, seeded::random),
+    ]
+}
+
+fn stream_groups() -> Vec<Group> {
+    vec![
+        group("stream-bounds", 0, |tester, _| stream_bounds::run(tester)),
+        group("stream-limits", 0, |tester, _| stream_limits::run(tester)),
+        group("streams", 8, seeded_streams::streams),
     ]
 }
 

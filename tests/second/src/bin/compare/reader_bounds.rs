@@ -24,7 +24,7 @@ pub fn run(tester: &mut Tester) {
 }
 
 /// Frames of each type that are accepted.
-fn samples() -> Vec<Draft> {
+pub fn samples() -> Vec<Draft> {
     vec![
         Draft::control(),
         Draft::request(0, b"log", None),

@@ -194,13 +194,20 @@ fn damaged_case(tester: &mut Tester, rng: &mut Rng, turned: &mut Turned) {
     for _ in 0..rng.between(1, 2) {
         damage(rng, &mut bytes);
     }
-    if repair && bytes.len() >= 8 {
+    if repair {
+        repair_front(&mut bytes);
+    }
+    bytes.extend_from_slice(&rng.bytes(behind));
+    read_and_write_back(tester, rng, &bytes, turned);
+}
+
+/// The front of a frame that has just these bytes, if they have room for one.
+pub fn repair_front(bytes: &mut [u8]) {
+    if bytes.len() >= 8 {
         let body = (bytes.len() - 8) as u32;
         bytes[..4].copy_from_slice(&MAGIC);
         bytes[4..8].copy_from_slice(&body.to_be_bytes());
     }
-    bytes.extend_from_slice(&rng.bytes(behind));
-    read_and_write_back(tester, rng, &bytes, turned);
 }
 
 pub fn damage(rng: &mut Rng, bytes: &mut Vec<u8>) {

@@ -14,6 +14,8 @@ use crate::pages::Edge;
 
 /// So many failures are shown whole; the others are only counted.
 const SHOWN: usize = 10;
+/// Hex digits are cut off behind about so many.
+const SHOWN_DIGITS: usize = 1 << 17;
 const SIDES: [Side; 2] = [LIBRARY, SECOND];
 
 /// What the paper says of a case, apart from the two programs agreeing.
@@ -410,10 +412,17 @@ fn place(call: &Call, at: usize) -> String {
     name
 }
 
-/// Hex digits; a byte that comes 16 times or more is written once with its count.
+/// Hex digits; a byte that comes 16 times or more is written once with its count. Of a long stream
+/// only the front is shown.
 pub fn hex(bytes: &[u8]) -> String {
     let mut text = String::new();
+    let mut left = bytes.len();
     for run in bytes.chunk_by(|a, b| a == b) {
+        if text.len() >= SHOWN_DIGITS {
+            write!(text, " and {left} bytes more").unwrap();
+            break;
+        }
+        left -= run.len();
         if run.len() >= 16 {
             write!(text, "[{:02x}*{}]", run[0], run.len()).unwrap();
         } else {
