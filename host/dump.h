@@ -1,10 +1,11 @@
-/* What `flux_frame dump` shows, and the two ways of showing it. */
+/* What `flux_frame dump` shows, and the ways of showing it. */
 #ifndef HOST_DUMP_H
 #define HOST_DUMP_H
 
 #include <stddef.h>
 #include <stdint.h>
 
+#include "dump_capture.h"
 #include "dump_explain.h"
 #include "lampreycoil.h"
 #include "dump_split.h"
@@ -19,16 +20,29 @@ struct fields {
     uint32_t second;
 };
 
-/* The input, and what the library said of it. */
+/* A frame, and what the library said of it. */
 struct dump {
-    const uint8_t *bytes;
-    size_t length;
+    struct frame frame;
     uint32_t refusal;
     uint8_t record[LAMPREYCOIL_READ_RECORD]; /* where it was accepted */
     struct split split;                      /* here and below: where it was refused */
     char reason[REASON_ROOM];
-    int all; /* show all bytes of the payload */
+    int all;    /* show all bytes of the payload */
+    int placed; /* show which frame it is, and where in the capture: not for a single one */
 };
+
+/* Why no more frames of a capture are shown: what stands behind the last whole one. */
+enum stop {
+    STOP_END,    /* nothing */
+    STOP_TORN,   /* the beginning of a frame */
+    STOP_REFUSED /* a frame that is refused: nobody knows where the next one begins */
+};
+
+/* The stop, where what was looked at is no whole frame. */
+enum stop stop_of(const struct dump *dump);
+
+/* Room for the line that tells it. */
+enum { STOP_ROOM = REASON_ROOM + 200 };
 
 /* The number at an index of the record. */
 uint32_t dumped(const struct dump *dump, size_t index);
@@ -40,7 +54,19 @@ struct fields fields_at(const uint8_t *header);
 size_t delimiter_start(const struct dump *dump);
 size_t header_start(const struct dump *dump);
 
+/* "1 byte", and for any other number "bytes". */
+const char *counted(unsigned long long count);
+
+/* One frame, whole or refused: for a person, and for a machine. */
 void show_text(const struct dump *dump);
 void show_json(const struct dump *dump);
+
+/* A whole frame in one line. */
+void show_summary(const struct dump *dump);
+
+/* How many frames there were, and why no more: in words, as a line of text, and for a machine. */
+void tell_stop(const struct dump *dump, char text[STOP_ROOM]);
+void show_stop(const struct dump *dump);
+void show_json_stop(const struct dump *dump);
 
 #endif

@@ -21,12 +21,19 @@ unsigned long long bytes_needed(size_t length, const struct split *split)
     return length < FRONT ? FRONT : (unsigned long long)split->body + FRONT;
 }
 
-static void explain_short(size_t length, const struct split *split, char *reason)
+/* The library looks at a frame's start only once all of its front is there. */
+static void explain_short(const uint8_t *bytes, size_t length, const struct split *split,
+                          char *reason)
 {
+    static const uint8_t start[] = {0xFF, 0xEE, 0x00, 0x12};
     unsigned long long needed = bytes_needed(length, split);
+    size_t same = 0;
 
-    say(reason, "%zu of %llu bytes are there%s; missing: %llu", length, needed,
-        length < FRONT ? ", which tell the frame's length" : "", needed - length);
+    while (same < sizeof start && same < length && bytes[same] == start[same])
+        same++;
+    say(reason, "%zu of %llu bytes are there%s; missing: %llu%s", length, needed,
+        length < FRONT ? ", which tell the frame's length" : "", needed - length,
+        same < sizeof start && same < length ? "; no frame begins with these" : "");
 }
 
 static void explain_part(const struct split *split, char *reason)
@@ -187,7 +194,7 @@ void explain(uint32_t refusal, const uint8_t *bytes, size_t length, const struct
 {
     reason[0] = '\0';
     if (refusal == LAMPREYCOIL_INPUT_SHORT)
-        explain_short(length, split, reason);
+        explain_short(bytes, length, split, reason);
     else if (refusal == LAMPREYCOIL_START_WRONG)
         say(reason, "%02X %02X %02X %02X in place of FF EE 00 12", bytes[0], bytes[1], bytes[2],
             bytes[3]);

@@ -1,64 +1,9 @@
 #include <stdio.h>
-#include <string.h>
 
 #include "commands.h"
 #include "dump.h"
+#include "dump_options.h"
 #include "files.h"
-#include "program.h"
-
-struct dump_options {
-    const char *file; /* here and below: NULL where not given */
-    const char *payload_out;
-    int all;
-    int json;
-};
-
-static int take_file(struct dump_options *options, const char *word)
-{
-    if (options->file != NULL)
-        return trouble("dump takes one file, not '%s' too", word);
-    options->file = word;
-    return 0;
-}
-
-static int take_words(struct dump_options *options, struct words *words)
-{
-    enum word_kind kind;
-    int status = 0;
-
-    while (status == 0 && (kind = next_word(words)) != WORD_NONE) {
-        if (kind == WORD_PLAIN)
-            status = take_file(options, words->word);
-        else if (word_is(words, "--all"))
-            status = word_flag(words, &options->all);
-        else if (word_is(words, "--json"))
-            status = word_flag(words, &options->json);
-        else if (word_is(words, "--payload-out"))
-            status = word_once(words, &options->payload_out);
-        else
-            status = other_option(words, "dump");
-    }
-    return status;
-}
-
-/* The payload alone on standard output leaves no place for the text. */
-static int payload_only(const struct dump_options *options)
-{
-    return options->payload_out != NULL && strcmp(options->payload_out, "-") == 0;
-}
-
-static int read_options(struct dump_options *options, int count, char **words)
-{
-    struct words reading = {.words = words, .count = count};
-    int status = take_words(options, &reading);
-
-    if (status == 0 && options->json && options->all)
-        return trouble("--json has all bytes of the payload: leave out --all");
-    if (status == 0 && payload_only(options) && (options->json || options->all))
-        return trouble("--payload-out - leaves no place for %s",
-                       options->json ? "--json" : "--all");
-    return status;
-}
 
 uint32_t dumped(const struct dump *dump, size_t index)
 {
@@ -87,52 +32,159 @@ size_t header_start(const struct dump *dump)
     return dumped(dump, LAMPREYCOIL_READ_TOOK) - HEADER;
 }
 
-static void judge(struct dump *dump)
+enum stop stop_of(const struct dump *dump)
 {
-    dump->refusal = lampreycoil_read(dump->bytes, dump->length, dump->record, sizeof dump->record);
+    if (dump->refusal != LAMPREYCOIL_INPUT_SHORT)
+        return STOP_REFUSED;
+    return dump->frame.length == 0 ? STOP_END : STOP_TORN;
+}
+
+/* Goes on to the next frame, or to what stands in its place, and has the library look at it. */
+static int look_at_next(struct capture *capture, struct dump *dump)
+{
+    const struct frame *frame = &dump->frame;
+    int status = next_frame(capture, &dump->frame);
+
+    if (status != 0)
+        return status;
+    dump->refusal =
+        lampreycoil_read(frame->bytes, frame->length, dump->record, sizeof dump->record);
     if (dump->refusal == LAMPREYCOIL_OK)
-        return;
-    if (dump->length >= FRONT)
-        split_frame(dump->bytes, dump->length, &dump->split);
-    explain(dump->refusal, dump->bytes, dump->length, &dump->split, dump->reason);
+        return 0;
+    if (frame->length >= FRONT)
+        split_frame(frame->bytes, frame->length, &dump->split);
+    explain(dump->refusal, frame->bytes, frame->length, &dump->split, dump->reason);
+    return 0;
 }
 
 static int write_payload(const struct dump *dump, const char *name)
 {
     if ((dumped(dump, LAMPREYCOIL_READ_FLAGS) & LAMPREYCOIL_PAYLOAD) == 0)
         return trouble("the frame has no payload to write to %s", name);
-    return write_all(name, dump->bytes + dumped(dump, LAMPREYCOIL_READ_PAYLOAD_START),
+    return write_all(name, dump->frame.bytes + dumped(dump, LAMPREYCOIL_READ_PAYLOAD_START),
                      dumped(dump, LAMPREYCOIL_READ_PAYLOAD_LENGTH));
+}
+
+static void show(const struct dump *dump, const struct dump_options *options)
+{
+    if (options->json)
+        show_json(dump);
+    else if (!options->summary)
+        show_text(dump);
+    else if (dump->frame.whole)
+        show_summary(dump);
+    else
+        show_stop(dump);
+}
+
+/* Shows the one frame that was looked at. */
+static int dump_one(const struct dump *dump, const struct dump_options *options)
+{
+    int status;
+
+    if (dump->refusal == LAMPREYCOIL_OK && options->payload_out != NULL) {
+        status = write_payload(dump, options->payload_out);
+        if (status != 0 || payload_only(options))
+            return status;
+    }
+    /* A refused frame has no payload, so the reason is all that there is for anybody. */
+    if (payload_only(options))
+        trouble("refused, %lu: %s", (unsigned long)dump->refusal, dump->reason);
+    else
+        show(dump, options);
+    if ((status = flush_output()) != 0)
+        return status;
+    return dump->refusal == LAMPREYCOIL_OK ? EXIT_DONE : EXIT_REFUSED;
+}
+
+/* Shows the frame that --frame names, which may be the one that is refused. */
+static int dump_named(struct capture *capture, struct dump *dump,
+                      const struct dump_options *options)
+{
+    char text[STOP_ROOM];
+    int status;
+
+    do
+        status = look_at_next(capture, dump);
+    while (status == 0 && dump->frame.whole && dump->frame.number < options->frame);
+    if (status != 0)
+        return status;
+    if (!dump->frame.whole && (dump->frame.number < options->frame || stop_of(dump) == STOP_END)) {
+        tell_stop(dump, text);
+        return trouble("there is no frame %lu (the first is frame 0): %s",
+                       (unsigned long)options->frame, text);
+    }
+    dump->placed = 1;
+    return dump_one(dump, options);
+}
+
+/* Shows what no whole frame is, if anything, and why no more are shown. */
+static void show_rest(const struct dump *dump, const struct dump_options *options)
+{
+    if (stop_of(dump) != STOP_END && !options->summary) {
+        show(dump, options);
+        if (!options->json)
+            putchar('\n');
+    }
+    if (options->json)
+        show_json_stop(dump);
+    else
+        show_stop(dump);
+}
+
+/* Shows all frames, as text with an empty line behind each, and then the stop. */
+static int dump_all(struct capture *capture, struct dump *dump, const struct dump_options *options)
+{
+    int status;
+
+    dump->placed = 1;
+    /* Where nobody reads on, nothing more is shown. */
+    while ((status = look_at_next(capture, dump)) == 0 && dump->frame.whole && !ferror(stdout)) {
+        show(dump, options);
+        if (!options->json && !options->summary)
+            putchar('\n');
+    }
+    if (status != 0)
+        return status;
+    if (!dump->frame.whole)
+        show_rest(dump, options);
+    if ((status = flush_output()) != 0)
+        return status;
+    /* No frame at all is a refusal too, as it is of lampreycoil_read. */
+    return stop_of(dump) == STOP_END && dump->frame.number > 0 ? EXIT_DONE : EXIT_REFUSED;
+}
+
+/* A single frame is shown as such: it needs neither number nor place. */
+static int dump_asked(struct capture *capture, struct dump *dump,
+                      const struct dump_options *options)
+{
+    int status;
+
+    if (options->frame_text != NULL)
+        return dump_named(capture, dump, options);
+    if (options->summary || !is_single(capture)) {
+        if (options->payload_out != NULL)
+            return trouble("--payload-out is for one frame, and more follows the first: "
+                           "name one by --frame");
+        return dump_all(capture, dump, options);
+    }
+    status = look_at_next(capture, dump);
+    return status == 0 ? dump_one(dump, options) : status;
 }
 
 int command_dump(int count, char **words)
 {
-    static uint8_t bytes[INPUT_MAX + 1];
+    static struct capture capture;
     static struct dump dump;
-    struct dump_options options = {NULL, NULL, 0, 0};
+    struct dump_options options = {0};
 
-    int status = read_options(&options, count, words);
+    int status = read_dump_options(&options, count, words);
     if (status == 0)
-        status = read_all(options.file, bytes, &dump.length);
+        status = open_capture(&capture, options.file);
     if (status != 0)
         return status;
-
-    dump.bytes = bytes;
     dump.all = options.all;
-    judge(&dump);
-    if (dump.refusal == LAMPREYCOIL_OK && options.payload_out != NULL) {
-        status = write_payload(&dump, options.payload_out);
-        if (status != 0 || payload_only(&options))
-            return status;
-    }
-    /* A refused frame has no payload, so the reason is all that there is for anybody. */
-    if (payload_only(&options))
-        trouble("refused, %lu: %s", (unsigned long)dump.refusal, dump.reason);
-    else if (options.json)
-        show_json(&dump);
-    else
-        show_text(&dump);
-    if ((status = flush_output()) != 0)
-        return status;
-    return dump.refusal == LAMPREYCOIL_OK ? EXIT_DONE : EXIT_REFUSED;
+    status = dump_asked(&capture, &dump, &options);
+    close_capture(&capture);
+    return status;
 }

@@ -1,4 +1,4 @@
-/* A frame as one JSON object, for machines. A part that is not there is null. */
+/* A frame as one JSON object on one line, for machines. A part that is not there is null. */
 #include <stdio.h>
 #include <string.h>
 
@@ -33,7 +33,7 @@ static void put_stretch(const struct dump *dump, size_t start, size_t length)
     put_number("start", start);
     put_number("length", length);
     json_name("hex");
-    json_hex(dump->bytes + start, length);
+    json_hex(dump->frame.bytes + start, length);
 }
 
 /* A number and the names of its bits: those that have one. */
@@ -85,7 +85,7 @@ static void put_routes(const struct dump *dump)
         put_number("start", start);
         put_number("length", LAMPREYCOIL_ROUTE_SIZE);
         json_name("text");
-        json_bytes(dump->bytes + start, LAMPREYCOIL_ROUTE_SIZE - 1);
+        json_bytes(dump->frame.bytes + start, LAMPREYCOIL_ROUTE_SIZE - 1);
         json_close('}');
     }
     json_close(']');
@@ -104,18 +104,18 @@ static void put_named(const struct dump *dump, const char *name, uint8_t flag, s
     put_stretch(dump, start, length);
     if (flag == LAMPREYCOIL_TOPIC) {
         json_name("text");
-        json_bytes(dump->bytes + start, length);
+        json_bytes(dump->frame.bytes + start, length);
     }
     json_close('}');
 }
 
 static void put_accepted(const struct dump *dump)
 {
-    size_t took = dumped(dump, LAMPREYCOIL_READ_TOOK);
-
-    put_number("frame", took);
-    put_number("behind", dump->length - took);
-    put_fields(dump->bytes + header_start(dump));
+    put_number("frame", dump->frame.length);
+    /* What is shown without its place is all that there is. */
+    if (!dump->placed)
+        put_number("behind", 0);
+    put_fields(dump->frame.bytes + header_start(dump));
     put_routes(dump);
     put_named(dump, "delimiter", LAMPREYCOIL_ROUTE, delimiter_start(dump), 0);
     put_named(dump, "topic", LAMPREYCOIL_TOPIC, dumped(dump, LAMPREYCOIL_READ_TOPIC_START),
@@ -134,7 +134,7 @@ static void put_split(const struct dump *dump)
         put_number("header_start", split->header);
         json_name("header_is_last_part");
         json_bool(split->header_last);
-        put_fields(dump->bytes + split->header);
+        put_fields(dump->frame.bytes + split->header);
     }
     json_name("whole");
     json_bool(split->end == SPLIT_WHOLE);
@@ -152,17 +152,35 @@ static void put_split(const struct dump *dump)
 
 static void put_refused(const struct dump *dump)
 {
-    size_t front = dump->length < FRONT ? dump->length : FRONT;
+    size_t front = dump->frame.length < FRONT ? dump->frame.length : FRONT;
 
     put_number("refusal", dump->refusal);
     put_text("words", lampreycoil_refusal_words(dump->refusal));
     put_text("because", dump->reason);
     json_name("front");
-    json_hex(dump->bytes, front);
+    json_hex(dump->frame.bytes, front);
     if (dump->refusal == LAMPREYCOIL_INPUT_SHORT)
-        put_number("needed", bytes_needed(dump->length, &dump->split));
-    if (dump->length >= FRONT && dump->refusal != LAMPREYCOIL_START_WRONG)
+        put_number("needed", bytes_needed(dump->frame.length, &dump->split));
+    if (dump->frame.length >= FRONT && dump->refusal != LAMPREYCOIL_START_WRONG)
         put_split(dump);
+}
+
+/*
+ * Which frame it is, or else how long the input; both of a refused frame, as far as that is known:
+ * its input begins with it.
+ */
+static void put_place(const struct dump *dump)
+{
+    if (dump->placed) {
+        put_number("number", dump->frame.number);
+        put_number("start", dump->frame.start);
+    }
+    if (!dump->placed || !dump->frame.whole)
+        put_number("input", dump->frame.length);
+    if (dump->frame.more) {
+        json_name("more");
+        json_bool(1);
+    }
 }
 
 void show_json(const struct dump *dump)
@@ -170,11 +188,29 @@ void show_json(const struct dump *dump)
     json_open('{');
     json_name("accepted");
     json_bool(dump->refusal == LAMPREYCOIL_OK);
-    put_number("input", dump->length);
+    put_place(dump);
     if (dump->refusal == LAMPREYCOIL_OK)
         put_accepted(dump);
     else
         put_refused(dump);
     json_close('}');
-    putchar('\n');
+    json_end();
+}
+
+void show_json_stop(const struct dump *dump)
+{
+    static const char *const names[] = {"end", "torn", "refused"};
+    enum stop stop = stop_of(dump);
+
+    json_open('{');
+    put_text("stop", names[stop]);
+    put_number("frames", dump->frame.number);
+    put_number("bytes", dump->frame.start);
+    json_name("refusal");
+    if (stop == STOP_END)
+        json_null();
+    else
+        json_number(dump->refusal);
+    json_close('}');
+    json_end();
 }

@@ -16,8 +16,7 @@ static void print_number(const char *name, uint32_t number, const char *note)
     printf(NAME "%lu%s%s\n", name, (unsigned long)number, *note == '\0' ? "" : " ", note);
 }
 
-/* "1 byte", and for any other number "bytes". */
-static const char *counted(size_t count)
+const char *counted(unsigned long long count)
 {
     return count == 1 ? "byte" : "bytes";
 }
@@ -88,7 +87,7 @@ static void print_routes(const struct dump *dump)
     print_number("routes", count, count > 1 ? "(top of the stack first)" : "");
     for (uint32_t i = 0; i < count; i++, start += LAMPREYCOIL_ROUTE_STEP)
         printf("  %-12lu%.*s, from byte %zu\n", (unsigned long)i, LAMPREYCOIL_ROUTE_SIZE - 1,
-               (const char *)dump->bytes + start, start);
+               (const char *)dump->frame.bytes + start, start);
 }
 
 static void print_topic(const struct dump *dump)
@@ -101,7 +100,7 @@ static void print_topic(const struct dump *dump)
         puts("none");
         return;
     }
-    print_quoted(stdout, dump->bytes + start, length);
+    print_quoted(stdout, dump->frame.bytes + start, length);
     printf(" (%zu %s), from byte %zu\n", length, counted(length), start);
 }
 
@@ -132,27 +131,33 @@ static void print_payload(const struct dump *dump)
     }
     print_place("payload", length, start);
     for (size_t at = 0; at < shown; at += ROW)
-        print_row(dump->bytes + start, at, shown - at < ROW ? shown - at : ROW);
+        print_row(dump->frame.bytes + start, at, shown - at < ROW ? shown - at : ROW);
     if (shown < length)
         printf("  %-12s%zu %s more (--all shows all)\n", "", length - shown,
                counted(length - shown));
 }
 
+/* Which frame it is. The number is cut nowhere, however long, and a space always follows it. */
+static void print_frame_number(const struct dump *dump)
+{
+    printf("frame %-7llu ", dump->frame.number);
+}
+
 static void print_accepted(const struct dump *dump)
 {
-    size_t took = dumped(dump, LAMPREYCOIL_READ_TOOK);
-
-    printf(NAME "%zu bytes\n", "frame", took);
-    print_fields(dump->bytes + header_start(dump));
+    if (dump->placed) {
+        print_frame_number(dump);
+        printf("%zu bytes, from byte %llu of the capture\n", dump->frame.length, dump->frame.start);
+    } else {
+        printf(NAME "%zu bytes\n", "frame", dump->frame.length);
+    }
+    print_fields(dump->frame.bytes + header_start(dump));
     print_routes(dump);
     if ((dumped(dump, LAMPREYCOIL_READ_FLAGS) & LAMPREYCOIL_ROUTE) != 0)
         print_place("delimiter", 0, delimiter_start(dump));
     print_topic(dump);
     print_payload(dump);
     print_place("header", HEADER, header_start(dump));
-    if (took < dump->length)
-        printf(NAME "%zu %s, not part of the frame\n", "left behind", dump->length - took,
-               counted(dump->length - took));
 }
 
 static void print_part(const struct dump *dump, size_t index)
@@ -164,7 +169,7 @@ static void print_part(const struct dump *dump, size_t index)
            counted(part->length), part->start);
     if (shown > 0 && part->role != ROLE_HEADER) {
         printf(": ");
-        print_quoted(stdout, dump->bytes + part->start, shown);
+        print_quoted(stdout, dump->frame.bytes + part->start, shown);
         printf("%s", shown < part->length ? " .." : "");
     }
     putchar('\n');
@@ -176,7 +181,7 @@ static void print_split(const struct dump *dump)
 
     print_place("body", split->body, FRONT);
     if (split->header != 0)
-        print_fields(dump->bytes + split->header);
+        print_fields(dump->frame.bytes + split->header);
     printf(NAME "%zu%s\n", "parts", split->count, split->end == SPLIT_WHOLE ? "" : " can be split");
     for (size_t i = 0; i < split->count; i++)
         print_part(dump, i);
@@ -187,18 +192,33 @@ static void print_split(const struct dump *dump)
                split->header);
 }
 
+/* Where the refused frame begins, and how much is there. */
+static void print_input(const struct dump *dump)
+{
+    size_t length = dump->frame.length;
+
+    if (dump->placed) {
+        print_frame_number(dump);
+        printf("from byte %llu of the capture\n", dump->frame.start);
+    }
+    printf(NAME "%zu %s%s%s\n", "input", length, counted(length),
+           dump->placed ? " from there on" : "", dump->frame.more ? ", and more behind them" : "");
+}
+
 static void print_refused(const struct dump *dump)
 {
-    printf(NAME "%zu %s\n", "input", dump->length, counted(dump->length));
+    size_t length = dump->frame.length;
+
+    print_input(dump);
     printf(NAME "%lu: %s\n", "refused", (unsigned long)dump->refusal,
            lampreycoil_refusal_words(dump->refusal));
     if (dump->reason[0] != '\0')
         printf(NAME "%s\n", "because", dump->reason);
-    if (dump->length < FRONT) {
+    if (length < FRONT) {
         printf("%-13s", "bytes");
-        for (size_t i = 0; i < dump->length; i++)
-            printf(" %02X", dump->bytes[i]);
-        puts(dump->length == 0 ? " none" : "");
+        for (size_t i = 0; i < length; i++)
+            printf(" %02X", dump->frame.bytes[i]);
+        puts(length == 0 ? " none" : "");
     } else if (dump->refusal != LAMPREYCOIL_START_WRONG) {
         print_split(dump);
     }

@@ -31,27 +31,53 @@ static int is_standard(const char *name)
     return name == NULL || strcmp(name, "-") == 0;
 }
 
-static int read_stream(FILE *stream, const char *name, uint8_t *bytes, size_t *length)
+int open_input(struct input *input, const char *name)
 {
-    *length = fread(bytes, 1, INPUT_MAX + 1, stream);
-    if (ferror(stream))
+    int standard = is_standard(name);
+
+    input->name = standard ? "standard input" : name;
+    input->ended = 0;
+    input->stream = standard ? stdin : fopen(name, "rb");
+    if (input->stream == NULL)
         return trouble("cannot read %s: %s", name, strerror(errno));
-    if (*length > INPUT_MAX)
-        return trouble("%s is longer than %d bytes", name, INPUT_MAX);
     return 0;
+}
+
+/* Whether the input ends is asked by one byte more, which goes back. */
+int read_input(struct input *input, uint8_t *bytes, size_t room, size_t *length)
+{
+    int next;
+
+    *length = 0;
+    if (input->ended)
+        return 0;
+    *length = fread(bytes, 1, room, input->stream);
+    next = *length < room ? EOF : getc(input->stream);
+    if (ferror(input->stream))
+        return trouble("cannot read %s: %s", input->name, strerror(errno));
+    input->ended = next == EOF;
+    if (next != EOF)
+        ungetc(next, input->stream);
+    return 0;
+}
+
+void close_input(struct input *input)
+{
+    if (input->stream != stdin)
+        fclose(input->stream);
 }
 
 int read_all(const char *name, uint8_t *bytes, size_t *length)
 {
-    if (is_standard(name))
-        return read_stream(stdin, "standard input", bytes, length);
+    struct input input;
+    int status = open_input(&input, name);
 
-    FILE *stream = fopen(name, "rb");
-    if (stream == NULL)
-        return trouble("cannot read %s: %s", name, strerror(errno));
-
-    int status = read_stream(stream, name, bytes, length);
-    fclose(stream);
+    if (status != 0)
+        return status;
+    status = read_input(&input, bytes, INPUT_MAX + 1, length);
+    if (status == 0 && *length > INPUT_MAX)
+        status = trouble("%s is longer than %d bytes", input.name, INPUT_MAX);
+    close_input(&input);
     return status;
 }
 

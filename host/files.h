@@ -4,6 +4,7 @@
 
 #include <stddef.h>
 #include <stdint.h>
+#include <stdio.h>
 
 /*
  * What the program exits with. EXIT_SHOWN is for a command that showed help or version in place of
@@ -19,6 +20,23 @@ enum { INPUT_MAX = 1048576 };
  * terminal would obey is printed as \xNN.
  */
 int trouble(const char *format, ...);
+
+/* An input that is read piece by piece. */
+struct input {
+    FILE *stream;
+    const char *name; /* as a person is told it */
+    int ended;        /* nothing follows what was read */
+};
+
+/* Opens the file, or standard input if name is NULL or "-". Returns 0, or has said what is wrong.
+ */
+int open_input(struct input *input, const char *name);
+
+/* Reads until room is full or the input ends; sets *length. Returns 0, or has said what is wrong.
+ */
+int read_input(struct input *input, uint8_t *bytes, size_t room, size_t *length);
+
+void close_input(struct input *input);
 
 /*
  * Reads all of the file, or of standard input if name is NULL or "-", and sets *length. bytes has

@@ -1,5 +1,5 @@
 /*
- * flux_frame: writes a Flux message as a frame, and shows what a captured frame holds. A small
+ * flux_frame: writes a Flux message as a frame, and shows what captured frames hold. A small
  * example of a C program over Lampreycoil.
  */
 #include <stddef.h>
@@ -13,7 +13,7 @@ const char usage[] =
     "flux_frame: writes and reads framed Flux messages (RFC 3)\n"
     "\n"
     "  flux_frame write OPTIONS         write a message as a frame to standard output\n"
-    "  flux_frame dump [OPTIONS] [FILE] show the frame in FILE, or on standard input\n"
+    "  flux_frame dump [OPTIONS] [FILE] show the frames in FILE, or on standard input\n"
     "  flux_frame --help                show this text\n"
     "  flux_frame --version             show the version\n"
     "\n"
@@ -21,12 +21,18 @@ const char usage[] =
     "the options. An option is given once, unless it says something else here.\n"
     "\n"
     "Options of dump:\n"
-    "  --all                show all bytes of the payload, and not 64 of them\n"
+    "  --frame N            show frame N alone; the first one is frame 0\n"
+    "  --summary            one line a frame\n"
+    "  --all                show all bytes of a payload, and not 64 of them\n"
     "  --payload-out FILE   write the payload to FILE; - is standard output, where\n"
-    "                       nothing else is then shown\n"
-    "  --json               one JSON object, of ASCII characters alone, with all bytes\n"
-    "                       of the parts in hexadecimal\n"
-    "Of a frame that is refused, dump shows what can be said of it.\n"
+    "                       nothing else is then shown; of several frames, --frame\n"
+    "                       says which\n"
+    "  --json               a JSON object a frame, each on its line, of ASCII characters\n"
+    "                       alone, with all bytes of the parts in hexadecimal; behind\n"
+    "                       several, one more that tells the stop\n"
+    "Frames one behind another are shown with number and place, up to the first that\n"
+    "is refused or torn, and then why no more. Places within a frame count from its\n"
+    "front. Of a frame that is refused, dump shows what can be said of it.\n"
     "\n"
     "Options of write; a number is decimal, or hexadecimal behind 0x:\n"
     "  --type TYPE          request, response, event or control; always needed\n"
@@ -53,8 +59,8 @@ const char usage[] =
     "  --flags HEX          the whole flags byte, in place of what the options say\n"
     "  --type-number N      the type byte, in place of --type\n"
     "\n"
-    "Exit status: 0 done; 1 the library refused the message or the frame, and its\n"
-    "number and words are printed; 2 wrong usage, or a file that cannot be used\n"
-    "or an output that cannot be written.\n";
+    "Exit status: 0 done; 1 the library refused the message or a frame, also one that\n"
+    "is torn, and its number and words are printed; 2 wrong usage, a frame that is not\n"
+    "there, or a file that cannot be used or an output that cannot be written.\n";
 
 const struct command commands[] = {{"write", command_write}, {"dump", command_dump}, {NULL, NULL}};

@@ -50,6 +50,12 @@ void json_close(char bracket)
     follows = 1;
 }
 
+void json_end(void)
+{
+    putchar('\n');
+    follows = 0;
+}
+
 void json_number(unsigned long long number)
 {
     begin();

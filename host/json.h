@@ -1,4 +1,4 @@
-/* One JSON value on standard output, of ASCII characters alone. Commas come by themselves. */
+/* JSON values on standard output, of ASCII characters alone. Commas come by themselves. */
 #ifndef HOST_JSON_H
 #define HOST_JSON_H
 
@@ -11,6 +11,9 @@ void json_name(const char *name);
 /* '{' or '[', and what belongs to it. */
 void json_open(char bracket);
 void json_close(char bracket);
+
+/* Ends a whole value and its line; another may follow on a line of its own. */
+void json_end(void);
 
 void json_number(unsigned long long number);
 void json_bool(int yes);

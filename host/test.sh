@@ -1,9 +1,10 @@
 #!/usr/bin/env bash
 # Tests the host programs. flux_frame: the bytes of paper 01, each refusal that it can meet, files and
-# wrong usage; host/test/dump.sh has more of dump. flux_floor: host/test/floor.sh. The header:
-# host/test/header.sh. Then the step and the walk through it, the examples of README.md, and the stack
-# that each call takes. The programs are FLUX_FRAME and FLUX_FLOOR, or else what `make host` builds; the
-# archive is ARCHIVE, or else the one of `make archive`. The last line is 'N passed, M failed'.
+# wrong usage; host/test/dump.sh has more of dump, and host/test/capture.sh its captures of several frames.
+# flux_floor: host/test/floor.sh. The header: host/test/header.sh. Then the list of a stream, the step and
+# the walk through it, the examples of README.md, and the stack that each call takes. The programs are
+# FLUX_FRAME and FLUX_FLOOR, or else what `make host` builds; the archive is ARCHIVE, or else the one of
+# `make archive`. The last line is 'N passed, M failed'.
 set -u
 cd "$(dirname "$0")/.." || exit 2
 
@@ -149,7 +150,7 @@ topic         none
 payload       none
 header        20 bytes, from byte 9'
 
-dumps 'dump of log, with bytes behind it' "$log 01 02 03" 'frame         35 bytes
+dumps 'dump of log' "$log" 'frame         35 bytes
 type          1 request
 flags         09 topic route
 userid        4294967295 unknown
@@ -160,8 +161,7 @@ routes        0
 delimiter     0 bytes, from byte 9
 topic         "log" (3 bytes), from byte 10
 payload       none
-header        20 bytes, from byte 15
-left behind   3 bytes, not part of the frame'
+header        20 bytes, from byte 15'
 
 bytes 32736 >"$room/most"
 bytes 32737 >"$room/over"
@@ -274,6 +274,9 @@ dump_refuses "an event's unused field is 10" 10 "$n10" "$start 00 00 00 18 02 41
 # shellcheck source=host/test/dump.sh
 . host/test/dump.sh
 
+# shellcheck source=host/test/capture.sh
+. host/test/capture.sh
+
 # ---- usage
 
 helps run '--payload-text'
@@ -299,7 +302,7 @@ wrong 'a frame that is not there' "cannot read $room/missing" dump "$room/missin
 wrong 'a folder for a frame' "cannot read $room" dump "$room"
 wrong 'an output that cannot be made' "cannot write $room/no/where" write --type event --topic x -o "$room/no/where"
 bytes 1048577 >"$room/huge"
-wrong 'an input that is too long' 'longer than 1048576 bytes' dump "$room/huge"
+wrong 'a payload that is too long' 'longer than 1048576 bytes' write --type event --topic x --payload "$room/huge"
 
 # ---- flux_floor
 
@@ -311,12 +314,13 @@ wrong 'an input that is too long' 'longer than 1048576 bytes' dump "$room/huge"
 # shellcheck source=host/test/header.sh
 . host/test/header.sh
 
-# ---- the step, the examples of README.md, the walk, and the stack
+# ---- the list of a stream, the step, the examples of README.md, the walk, and the stack
 
 awk '/^```c$/ { code = 1; next } /^```$/ { code = 0 } code' README.md >"$room/readme.c"
 "${CC:-gcc}" -std=c99 -Wall -Wextra -Werror -Iinclude -c -o "$room/readme.o" "$room/readme.c" >"$room/out" 2>"$room/err"
 status=$?
 report "$status" 'the examples of README.md compile'
+program read_stream
 program step
 program stream
 program walk

@@ -14,8 +14,8 @@ dump_tells() { # LABEL HEX LINE...
     report "$good" "$label"
 }
 
-# Standard output is this JSON object.
-is_json() { # LABEL STATUS TEXT WORDS...
+# The dump with these words has this status and is exactly this text.
+shows() { # LABEL STATUS TEXT WORDS...
     local label=$1 want=$2 text=$3
     shift 3
     run dump "$@"
@@ -136,12 +136,12 @@ wrong 'two things for standard output' 'leaves no place for --json' dump --paylo
 # ---- JSON
 
 header_hex='8E010109FFFFFFFF00000000FFFFFFFF00000001'
-is_json 'the JSON of log' 0 '{"accepted":true,"input":35,"frame":35,"behind":0,"type":1,"type_name":"request","flags":9,"flag_names":["topic","route"],"userid":4294967295,"rolemask":0,"role_names":[],"first":4294967295,"second":1,"first_name":"nodeid","second_name":"matchtag","routes":[],"delimiter":{"start":9,"length":0,"hex":""},"topic":{"start":10,"length":3,"hex":"6C6F67","text":"log"},"payload":null,"header":{"start":15,"length":20,"hex":"'$header_hex'"}}' --json "$room/log"
-is_json 'the JSON of a response' 0 '{"accepted":true,"input":119,"frame":119,"behind":0,"type":2,"type_name":"response","flags":127,"flag_names":["topic","payload","noresponse","route","upstream","private","streaming"],"userid":1000,"rolemask":17,"role_names":["owner"],"first":38,"second":7,"first_name":"errnum","second_name":"matchtag","error_name":"ENOSYS","routes":[{"start":9,"length":37,"text":"'$two'"},{"start":47,"length":37,"text":"'$one'"}],"delimiter":{"start":85,"length":0,"hex":""},"topic":{"start":86,"length":8,"hex":"6B76732E22676574","text":"kvs.\"get"},"payload":{"start":96,"length":2,"hex":"6869"},"header":{"start":99,"length":20,"hex":"8E01027F000003E8000000110000002600000007"}}' --json "$room/response"
+shows 'the JSON of log' 0 '{"accepted":true,"input":35,"frame":35,"behind":0,"type":1,"type_name":"request","flags":9,"flag_names":["topic","route"],"userid":4294967295,"rolemask":0,"role_names":[],"first":4294967295,"second":1,"first_name":"nodeid","second_name":"matchtag","routes":[],"delimiter":{"start":9,"length":0,"hex":""},"topic":{"start":10,"length":3,"hex":"6C6F67","text":"log"},"payload":null,"header":{"start":15,"length":20,"hex":"'$header_hex'"}}' --json "$room/log"
+shows 'the JSON of a response' 0 '{"accepted":true,"input":119,"frame":119,"behind":0,"type":2,"type_name":"response","flags":127,"flag_names":["topic","payload","noresponse","route","upstream","private","streaming"],"userid":1000,"rolemask":17,"role_names":["owner"],"first":38,"second":7,"first_name":"errnum","second_name":"matchtag","error_name":"ENOSYS","routes":[{"start":9,"length":37,"text":"'$two'"},{"start":47,"length":37,"text":"'$one'"}],"delimiter":{"start":85,"length":0,"hex":""},"topic":{"start":86,"length":8,"hex":"6B76732E22676574","text":"kvs.\"get"},"payload":{"start":96,"length":2,"hex":"6869"},"header":{"start":99,"length":20,"hex":"8E01027F000003E8000000110000002600000007"}}' --json "$room/response"
 printf '\xFF\xEE\0' >"$room/short"
-is_json 'the JSON of 3 bytes' 1 '{"accepted":false,"input":3,"refusal":1,"words":"'"$n1"'","because":"3 of 8 bytes are there, which tell the frame'"'"'s length; missing: 5","front":"FFEE00","needed":8}' --json "$room/short"
+shows 'the JSON of 3 bytes' 1 '{"accepted":false,"input":3,"refusal":1,"words":"'"$n1"'","because":"3 of 8 bytes are there, which tell the frame'"'"'s length; missing: 5","front":"FFEE00","needed":8}' --json "$room/short"
 unhex "$start 00 00 00 17 01 1B 14 8E 01 04 01 $fields" >"$room/nine"
-is_json 'the JSON of a refused frame' 1 '{"accepted":false,"input":31,"refusal":9,"words":"'"$n9"'","because":"the topic, from byte 9, does not end with a zero byte","front":"FFEE001200000017","body":23,"header_start":11,"header_is_last_part":true,"type":4,"type_name":"event","flags":1,"flag_names":["topic"],"userid":0,"rolemask":0,"role_names":[],"first":2,"second":3,"first_name":"sequence","second_name":"unused","whole":true,"parts":[{"role":"topic","start":9,"length":1,"hex":"1B"},{"role":"header","start":11,"length":20,"hex":"8E01040100000000000000000000000200000003"}]}' --json "$room/nine"
+shows 'the JSON of a refused frame' 1 '{"accepted":false,"input":31,"refusal":9,"words":"'"$n9"'","because":"the topic, from byte 9, does not end with a zero byte","front":"FFEE001200000017","body":23,"header_start":11,"header_is_last_part":true,"type":4,"type_name":"event","flags":1,"flag_names":["topic"],"userid":0,"rolemask":0,"role_names":[],"first":2,"second":3,"first_name":"sequence","second_name":"unused","whole":true,"parts":[{"role":"topic","start":9,"length":1,"hex":"1B"},{"role":"header","start":11,"length":20,"hex":"8E01040100000000000000000000000200000003"}]}' --json "$room/nine"
 
 # ---- options, and outputs that cannot be written
 

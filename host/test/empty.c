@@ -61,6 +61,37 @@ static void take_reads(uint8_t *other)
             LAMPREYCOIL_OUTPUT_SHORT);
 }
 
+/* What stopped the list, and 100 for each of its frames; 1000 and the refusal of the call itself.
+ */
+static uint32_t list_frames(const uint8_t *bytes, size_t length, uint8_t *list, size_t room)
+{
+    uint32_t refusal = lampreycoil_read_stream(bytes, length, list, room, record, sizeof record);
+
+    if (refusal != LAMPREYCOIL_OK)
+        return 1000 + refusal;
+    return 100 * lampreycoil_number(record, LAMPREYCOIL_STREAM_ENTRIES) +
+           lampreycoil_number(record, LAMPREYCOIL_STREAM_REFUSAL);
+}
+
+static void take_streams(uint8_t *other)
+{
+    uint8_t list[LAMPREYCOIL_ENTRY_SIZE];
+    int good = write_control(other, buffer, SHORT_FRAME) == LAMPREYCOIL_OK;
+
+    report(good && list_frames(buffer, SHORT_FRAME, list, sizeof list) == 101,
+           "a stream of one frame");
+    answers("a stream of nothing", list_frames(NULL, 0, list, sizeof list),
+            list_frames(other, 0, list, sizeof list), LAMPREYCOIL_INPUT_SHORT);
+    answers("no list of a stream", list_frames(buffer, SHORT_FRAME, NULL, 0),
+            list_frames(buffer, SHORT_FRAME, other, 0), LAMPREYCOIL_OUTPUT_SHORT);
+    answers("a stream of nothing, and no list", list_frames(NULL, 0, NULL, 0),
+            list_frames(other, 0, other, 0), LAMPREYCOIL_INPUT_SHORT);
+    answers("no record of a stream",
+            lampreycoil_read_stream(buffer, SHORT_FRAME, list, sizeof list, NULL, 0),
+            lampreycoil_read_stream(buffer, SHORT_FRAME, list, sizeof list, other, 0),
+            LAMPREYCOIL_OUTPUT_SHORT);
+}
+
 static uint32_t check_tree(const uint8_t *t, size_t length, uint8_t *d, size_t d_length,
                            uint8_t *row, size_t row_length)
 {
@@ -145,6 +176,7 @@ int main(void)
     make_floor();
     take_reads(&one);
     take_writes(&one);
+    take_streams(&one);
     take_checks(&one);
     take_plays(&one);
     report(one == FILL, "nothing is written to an empty slice");

@@ -58,6 +58,7 @@ ignored() { # CALL ARGUMENTS
     report $? "an answer of $1 that is not looked at"
 }
 ignored lampreycoil_read 'b, 0, b, 0'
+ignored lampreycoil_read_stream 'b, 0, b, 0, b, 0'
 ignored lampreycoil_write '1, 0, 0, 0, 0, 0, b, 0, b, 0, b, 0, b, 0, b, 0'
 ignored lampreycoil_check_tree 'b, 0, b, 0, b, 0'
 ignored lampreycoil_check_services 'b, 0, b, 0'

@@ -67,6 +67,46 @@ static void take_numbers(void)
     report(lampreycoil_number(row, 0) == 4294967295u, "the largest number");
 }
 
+static void take_entries(void)
+{
+    uint8_t list[1 + 3 * LAMPREYCOIL_ENTRY_SIZE];
+    struct lampreycoil_place place;
+
+    memset(list, FILL, sizeof list);
+    lampreycoil_put_number(list + 1, 0, 0);
+    lampreycoil_put_number(list + 1, 1, 29);
+    lampreycoil_put_number(list + 1, 4, 0x000FFEDC);
+    lampreycoil_put_number(list + 1, 5, LAMPREYCOIL_FRAME_MAX);
+    place = lampreycoil_entry(list + 1, 0);
+    report(place.start == 0 && place.length == 29, "the first entry of a list");
+    place = lampreycoil_entry(list + 1, 2);
+    report(place.start == 0x000FFEDC && place.length == LAMPREYCOIL_FRAME_MAX, "the third one");
+}
+
+/* The frames that are listed lie where the entries say, and can be read from there. */
+static void take_listed(void)
+{
+    struct lampreycoil_message m = response(1), seen;
+    uint8_t list[2 * LAMPREYCOIL_ENTRY_SIZE], record[LAMPREYCOIL_STREAM_RECORD];
+    size_t first = 0, second = 0, took = 0;
+    struct lampreycoil_place place;
+    int good = lampreycoil_write_message(&m, out, sizeof out, &first) == LAMPREYCOIL_OK;
+
+    m.second = 77;
+    m.routes_count = 2;
+    good = good && lampreycoil_write_message(&m, out + first, sizeof out - first, &second) ==
+                       LAMPREYCOIL_OK;
+    good = good && lampreycoil_read_stream(out, first + second, list, sizeof list, record,
+                                           sizeof record) == LAMPREYCOIL_OK;
+    good = good && lampreycoil_number(record, LAMPREYCOIL_STREAM_ENTRIES) == 2;
+    place = lampreycoil_entry(list, 1);
+    report(good && place.start == first && place.length == second &&
+               lampreycoil_read_message(out + place.start, place.length, &seen, &took) ==
+                   LAMPREYCOIL_OK &&
+               took == second && seen.second == 77,
+           "a frame that was listed is read from its entry");
+}
+
 /* ---- messages written and read */
 
 static int same_part(const uint8_t *one, size_t length, const uint8_t *two, size_t other)
@@ -256,6 +296,8 @@ int main(void)
 {
     make_routes();
     take_numbers();
+    take_entries();
+    take_listed();
     take_round_trips();
     take_refusals();
     take_lengths();

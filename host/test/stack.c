@@ -21,6 +21,8 @@ enum {
     LONG_BODY = 32730, /* the longest that still grows by a route */
     LINKS = 32,        /* the most between two ranks */
     WALK_BODY = 31552, /* the longest that grows by a route at each of them */
+    SHORTEST = LAMPREYCOIL_FRAME_MIN,
+    MOST = LAMPREYCOIL_LIST_MAX / LAMPREYCOIL_ENTRY_SIZE, /* frames in a list */
     CHAINS = 4096,
     CHAIN = 9, /* records in a chain of the library's hash, before it puts all in order */
     USED_CHAINS = RECORDS / CHAIN + 1
@@ -153,6 +155,26 @@ static uint32_t write_frame(void)
                              LAMPREYCOIL_TOPIC | LAMPREYCOIL_ROUTE | LAMPREYCOIL_PAYLOAD, 0, 0, 0,
                              0, identities, 64 * LAMPREYCOIL_ROUTE_SIZE, payload, 255, payload,
                              30000, buffer, sizeof buffer, record, sizeof record);
+}
+
+/* A stream of one frame again and again; what it stopped with, and 100 for each that is listed. */
+static uint8_t stream[LAMPREYCOIL_STREAM_MAX], list[LAMPREYCOIL_LIST_MAX];
+static size_t list_room;
+
+static uint32_t read_stream(void)
+{
+    uint32_t refusal =
+        lampreycoil_read_stream(stream, sizeof stream, list, list_room, record, sizeof record);
+
+    return refusal ? refusal
+                   : 100 * lampreycoil_number(record, LAMPREYCOIL_STREAM_ENTRIES) +
+                         lampreycoil_number(record, LAMPREYCOIL_STREAM_REFUSAL);
+}
+
+static void make_stream(const uint8_t *one, size_t length)
+{
+    for (size_t at = 0; at < sizeof stream; at += length)
+        memcpy(stream + at, one, length < sizeof stream - at ? length : sizeof stream - at);
 }
 
 static uint32_t check_tree(void)
@@ -300,6 +322,25 @@ static void take_tables(const uint8_t *s, const uint8_t *i, const char *kind)
         take_call(&calls[n], s, kind);
 }
 
+static void take_streams(void)
+{
+    uint32_t longs = (uint32_t)(sizeof stream / frame_length);
+    uint8_t control[SHORTEST], row[LAMPREYCOIL_WRITE_RECORD];
+
+    list_room = sizeof list;
+    make_stream(frame, frame_length);
+    takes("read_stream, long frames", read_stream, 100 * longs + 1);
+    if (lampreycoil_write(LAMPREYCOIL_CONTROL, 0, 0, 0, 0, 0, NULL, 0, NULL, 0, NULL, 0, control,
+                          sizeof control, row, sizeof row))
+        abort();
+    make_stream(control, sizeof control);
+    takes("read_stream, as many frames as can be listed", read_stream, 100 * MOST + 1);
+    list_room = sizeof list / 2;
+    takes("read_stream, a full list", read_stream, 100 * (MOST / 2) + 11);
+    stream[SHORTEST] = 0;
+    takes("read_stream, a wrong start", read_stream, 100 + 2);
+}
+
 int main(void)
 {
     stack_t own;
@@ -329,6 +370,7 @@ int main(void)
     make_frame(LAMPREYCOIL_REQUEST, 0, LAMPREYCOIL_NODEID_ANY, services, identities, 1, LONG_BODY);
     takes("read", read_frame, 0);
     takes("write", write_frame, 0);
+    take_streams();
     takes("check_tree", check_tree, 0);
     take_tables(services, identities, "full tables");
     take_tables(hostile_services, hostile_identities, "hostile tables");

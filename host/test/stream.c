@@ -6,7 +6,7 @@
 #include "floor.h"
 #include "readme.c"
 
-enum { PIECE_MAX = 400, STREAM_MAX = 100000 };
+enum { PIECE_MAX = 400, STREAM_MAX = 100000, MANY = 300 };
 
 /* What the other examples ask for, and nothing here calls. */
 void give_to_service(uint32_t number, const uint8_t *frame, size_t length)
@@ -94,6 +94,21 @@ static void in_pieces(const char *label, size_t whole, size_t frames, uint32_t t
     report(good, label);
 }
 
+/* More frames at once than take_frames has room for in its list. */
+static void take_many(void)
+{
+    size_t one;
+
+    sent_length = 0;
+    send_request(0);
+    one = sent_length;
+    while (sent_length < MANY * one)
+        send_request(0);
+    in_pieces("300 frames", sent_length, MANY, LAMPREYCOIL_OK);
+    sent_length--;
+    in_pieces("300 frames, the last one torn", (MANY - 1) * one, MANY - 1, LAMPREYCOIL_OK);
+}
+
 static void take_streams(void)
 {
     size_t whole;
@@ -114,7 +129,7 @@ static void take_streams(void)
     sent[whole + 8] = 1;
     sent_length += 9;
     send_request(2);
-    in_pieces("a frame that nobody can read ends nothing", sent_length, 5, LAMPREYCOIL_OK);
+    in_pieces("a frame that is refused ends the stream", whole, 3, LAMPREYCOIL_PART_WRONG);
     sent[whole] = 0xFE;
     in_pieces("a wrong start ends the stream", whole, 3, LAMPREYCOIL_START_WRONG);
     lampreycoil_put_number(sent + whole, 0, 0xFFEE0012);
@@ -136,5 +151,6 @@ int main(void)
                length == sizeof log_request && memcmp(out, log_request, length) == 0,
            "write_log_request");
     take_streams();
+    take_many();
     return 0;
 }

@@ -1,0 +1,57 @@
+/*
+ * A capture: frames one behind another, as a socket gave them. It may be longer than what the
+ * library looks at in one call and hold more frames than one list, so it is gone through by a
+ * window that moves on.
+ */
+#ifndef HOST_DUMP_CAPTURE_H
+#define HOST_DUMP_CAPTURE_H
+
+#include <stddef.h>
+#include <stdint.h>
+
+#include "files.h"
+#include "lampreycoil.h"
+
+/* The frames of one list. There may be more in a window: the list then ends before it. */
+enum { LISTED_MAX = 1024 };
+
+struct capture {
+    struct input input;
+    uint8_t window[LAMPREYCOIL_STREAM_MAX];
+    size_t length;                                     /* bytes in the window */
+    unsigned long long start;                          /* where it begins in the capture */
+    uint8_t list[LISTED_MAX * LAMPREYCOIL_ENTRY_SIZE]; /* frames, from the window's front on */
+    size_t listed;                                     /* how many */
+    size_t next;                                       /* the one that is given next */
+    size_t stop;                                       /* where in the window the list stopped */
+    unsigned long long given;                          /* frames given so far */
+};
+
+/* A frame of a capture, or what stands where the next one should. */
+struct frame {
+    const uint8_t *bytes;      /* good until the next one is asked for */
+    size_t length;             /* its own where it is whole; if not, of all that the window has */
+    int whole;                 /* the library lists it */
+    int more;                  /* not whole, and the capture goes on behind the window */
+    unsigned long long number; /* counted from 0 */
+    unsigned long long start;  /* where it begins in the capture */
+};
+
+/* Opens the capture of this name, as open_input does. Returns 0, or has said what is wrong. */
+int open_capture(struct capture *capture, const char *name);
+
+/*
+ * Of a capture that was just opened: whether it is one frame with nothing behind, or no whole frame
+ * at its front. So a file that holds a single frame is told from several.
+ */
+int is_single(const struct capture *capture);
+
+/*
+ * Gives the next frame. Behind the last whole one comes what is left, which is not whole; nothing
+ * comes behind that. Returns 0, or has said what is wrong.
+ */
+int next_frame(struct capture *capture, struct frame *frame);
+
+void close_capture(struct capture *capture);
+
+#endif

@@ -1,0 +1,77 @@
+#include "dump_options.h"
+
+#include <string.h>
+
+#include "files.h"
+#include "program.h"
+
+static int take_file(struct dump_options *options, const char *word)
+{
+    if (options->file != NULL)
+        return trouble("dump takes one file, not '%s' too", word);
+    options->file = word;
+    return 0;
+}
+
+static int take_words(struct dump_options *options, struct words *words)
+{
+    enum word_kind kind;
+    int status = 0;
+
+    while (status == 0 && (kind = next_word(words)) != WORD_NONE) {
+        if (kind == WORD_PLAIN)
+            status = take_file(options, words->word);
+        else if (word_is(words, "--all"))
+            status = word_flag(words, &options->all);
+        else if (word_is(words, "--json"))
+            status = word_flag(words, &options->json);
+        else if (word_is(words, "--summary"))
+            status = word_flag(words, &options->summary);
+        else if (word_is(words, "--frame"))
+            status = word_once(words, &options->frame_text);
+        else if (word_is(words, "--payload-out"))
+            status = word_once(words, &options->payload_out);
+        else
+            status = other_option(words, "dump");
+    }
+    return status;
+}
+
+int payload_only(const struct dump_options *options)
+{
+    return options->payload_out != NULL && strcmp(options->payload_out, "-") == 0;
+}
+
+/* The first option given that has no place in a summary; NULL where there is none. */
+static const char *beside_summary(const struct dump_options *options)
+{
+    if (options->json)
+        return "--json";
+    if (options->all)
+        return "--all";
+    return options->payload_out != NULL ? "--payload-out" : NULL;
+}
+
+static int check_options(struct dump_options *options)
+{
+    if (options->summary && beside_summary(options) != NULL)
+        return trouble("--summary leaves no place for %s", beside_summary(options));
+    if (options->json && options->all)
+        return trouble("--json has all bytes of the payload: leave out --all");
+    if (payload_only(options) && (options->json || options->all))
+        return trouble("--payload-out - leaves no place for %s",
+                       options->json ? "--json" : "--all");
+    if (options->frame_text != NULL &&
+        parse_number(options->frame_text, 10, UINT32_MAX, &options->frame) != 0)
+        return trouble("--frame takes a frame's number, counted from 0, not '%s'",
+                       options->frame_text);
+    return 0;
+}
+
+int read_dump_options(struct dump_options *options, int count, char **words)
+{
+    struct words reading = {.words = words, .count = count};
+    int status = take_words(options, &reading);
+
+    return status == 0 ? check_options(options) : status;
+}

@@ -1,0 +1,299 @@
+# Tests of `flux_frame dump` on captures, which hold several frames one behind another. host/test.sh reads
+# this file: its functions and words and those of host/test/dump.sh are used here.
+
+unhex "$control" >"$room/control"
+unhex "$event" >"$room/event"
+
+# The last line of a dump with these words is the stop with this text.
+stops() { # LABEL STATUS TEXT WORDS...
+    local label=$1 want=$2 text=$3
+    shift 3
+    run dump "$@"
+    [ "$status" -eq "$want" ] && [ "$(tail -n 1 "$room/out")" = "stop          $text" ] && [ ! -s "$room/err" ]
+    report $? "$label"
+}
+
+# Its output has each of these lines.
+has_lines() { # LABEL STATUS WORDS -- LINE...
+    local label=$1 want=$2 words=() good=0 line
+    shift 2
+    while [ "$1" != -- ]; do
+        words+=("$1")
+        shift
+    done
+    shift
+    run dump "${words[@]}"
+    [ "$status" -eq "$want" ] && [ ! -s "$room/err" ] || good=1
+    for line in "$@"; do
+        grep -qxF -- "$line" "$room/out" || good=1
+    done
+    report "$good" "$label"
+}
+
+# What is told of a tail of so many bytes of the request for "log".
+torn() { # BYTES
+    if [ "$1" -lt 8 ]; then
+        echo "is torn: $1 of 8 bytes are there, which tell the frame's length; missing: $((8 - $1))"
+    else
+        echo "is torn: $1 of 35 bytes are there; missing: $((35 - $1))"
+    fi
+}
+
+# ---- several frames
+
+cat "$room/control" "$room/log" "$room/response" "$room/event" >"$room/four"
+control_line='frame 0          29 bytes, from byte 0         control   control type 2, status 3'
+log_line='frame 1          35 bytes, from byte 29        request   "log", nodeid any, matchtag 1, no payload'
+response_line='frame 2         119 bytes, from byte 64        response  "kvs.\"get", errnum 38 ENOSYS, matchtag 7, payload 2 bytes, 2 routes, noresponse, upstream, private, streaming'
+event_line='frame 3          35 bytes, from byte 183       event     "up\xFF", sequence 5, payload 0 bytes'
+two_frames='frame 0       29 bytes, from byte 0 of the capture
+type          8 control
+flags         00
+userid        4294967295 unknown
+rolemask      00000000
+control type  2
+status        3
+routes        0
+topic         none
+payload       none
+header        20 bytes, from byte 9
+
+frame 1       35 bytes, from byte 29 of the capture
+type          1 request
+flags         09 topic route
+userid        4294967295 unknown
+rolemask      00000000
+nodeid        4294967295 any
+matchtag      1
+routes        0
+delimiter     0 bytes, from byte 9
+topic         "log" (3 bytes), from byte 10
+payload       none
+header        20 bytes, from byte 15
+'
+head -c 64 "$room/four" >"$room/two"
+shows 'two frames, and nothing behind them' 0 "$two_frames
+stop          2 frames, 64 bytes, and nothing behind them" "$room/two"
+shows 'a summary of four frames' 0 "$control_line
+$log_line
+$response_line
+$event_line
+stop          4 frames, 218 bytes, and nothing behind them" --summary "$room/four"
+run dump --summary "$room/four"
+cp "$room/out" "$room/from-file"
+for words in '' -; do
+    # shellcheck disable=SC2086 # the words are words
+    run dump --summary $words < <(cat "$room/four")
+    [ "$status" -eq 0 ] && cmp -s "$room/out" "$room/from-file"
+    report $? "the same from standard input, given as '$words'"
+done
+unhex "${log/FF FF FF FF 00 00 00 01/00 00 00 04 00 00 00 01}" >"$room/rank4"
+has_lines 'a request to a rank, and an error without a name' 0 --summary <(cat "$room/rank4" "$room/nameless") -- \
+    'frame 0          35 bytes, from byte 0         request   "log", nodeid 4, matchtag 1, no payload' \
+    'frame 1          33 bytes, from byte 35        response  "x", errnum 4000, matchtag 0, no payload'
+cat "$room/thirty" "$room/thirty" >"$room/sixty"
+run dump --all "$room/sixty"
+[ "$status" -eq 0 ] && [ "$(grep -c '^  0040  ' "$room/out")" -eq 2 ] && ! grep -q 'more' "$room/out"
+report $? '--all of several frames'
+
+# ---- a single frame, and none
+
+stops 'a summary of one frame' 0 '1 frame, 35 bytes, and nothing behind it' --summary "$room/log"
+shows 'a single frame is shown without its place' 0 "$(printf '%s\n' "$two_frames" | sed -n '/^frame 1/,$p' |
+    sed 's/^frame 1 .*/frame         35 bytes/')" "$room/log"
+: >"$room/nothing"
+shows 'an empty file' 1 "input         0 bytes
+refused       1: $n1
+because       0 of 8 bytes are there, which tell the frame's length; missing: 8
+bytes         none" "$room/nothing"
+shows 'a summary of an empty file' 1 'stop          no frame: the capture is empty' --summary "$room/nothing"
+shows 'the JSON of an empty file' 1 '{"accepted":false,"input":0,"refusal":1,"words":"'"$n1"'","because":"0 of 8 bytes are there, which tell the frame'"'"'s length; missing: 8","front":"","needed":8}' --json "$room/nothing"
+stops 'a summary of a refused frame' 1 "0 frames, 0 bytes; frame 0, from byte 0, is refused, 9: $n9" --summary "$room/nine"
+
+# ---- a torn tail
+
+good=0
+for ((cut = 1; cut < 35; cut++)); do
+    { cat "$room/control" && head -c "$cut" "$room/log"; } >"$room/in"
+    for words in '' --summary; do
+        # shellcheck disable=SC2086 # the words are words
+        run dump $words "$room/in"
+        [ "$status" -eq 1 ] && [ ! -s "$room/err" ] &&
+            [ "$(tail -n 1 "$room/out")" = "stop          1 frame, 29 bytes; frame 1, from byte 29, $(torn "$cut")" ] || good=1
+    done
+done
+report "$good" 'a tail torn at each of its bytes'
+head -c 46 "$room/two" >"$room/torn"
+shows 'a torn tail is told and shown' 1 "$(printf '%s\n' "$two_frames" | sed '/^frame 1/,$d')
+
+frame 1       from byte 29 of the capture
+input         17 bytes from there on
+refused       1: $n1
+because       17 of 35 bytes are there; missing: 18
+body          27 bytes, from byte 8
+parts         2 can be split
+  0           0 bytes, from byte 9
+  1           4 bytes, from byte 10: \"log\\x00\"
+              no more from byte 14 on
+
+stop          1 frame, 29 bytes; frame 1, from byte 29, $(torn 17)" "$room/torn"
+head -c 32 "$room/two" >"$room/front"
+has_lines 'a torn front' 1 "$room/front" -- 'input         3 bytes from there on' 'bytes         FF EE 00'
+{ cat "$room/log" && echo; } >"$room/newline"
+stops 'a newline behind a frame' 1 "1 frame, 35 bytes; frame 1, from byte 35, is torn: 1 of 8 bytes are there, which tell the frame's length; missing: 7; no frame begins with these" "$room/newline"
+
+{ cat "$room/log" "$room/control" && head -c 12 "$room/log"; } >"$room/capture"
+shows 'the summary in README.md' 1 "$(sed -n '/^\$ .* dump --summary capture$/,/^\$ .*flux_floor/p' README.md | grep -v '^\$')" --summary "$room/capture"
+
+# ---- a frame that is refused
+
+{ cat "$room/two" && printf 'what is no frame'; } >"$room/junk"
+stops 'junk behind frames' 1 "2 frames, 64 bytes; frame 2, from byte 64, is refused, 2: $n2" "$room/junk"
+has_lines 'and which' 1 "$room/junk" -- 'frame 2       from byte 64 of the capture' 'input         16 bytes from there on' \
+    'because       77 68 61 74 in place of FF EE 00 12'
+cat "$room/control" "$room/nine" "$room/log" >"$room/middle"
+stops 'a refused frame among others' 1 "1 frame, 29 bytes; frame 1, from byte 29, is refused, 9: $n9" --summary "$room/middle"
+has_lines 'its own places count from its front' 1 "$room/middle" -- 'frame 1       from byte 29 of the capture' \
+    'input         66 bytes from there on' 'because       the topic, from byte 9, does not end with a zero byte' '  1 header    20 bytes, from byte 11'
+! grep -q '^matchtag' "$room/out"
+report $? 'nothing behind it is shown'
+
+# ---- one of several
+
+shows '--frame 0' 0 "$(printf '%s\n' "$two_frames" | sed '/^$/,$d')" --frame 0 "$room/two"
+shows '--frame 1' 0 "$(printf '%s\n' "$two_frames" | sed -n '/^frame 1/,$p')" --frame=1 "$room/two"
+shows '--frame and --summary' 0 "$response_line" --summary --frame 2 "$room/four"
+has_lines '--frame 0 of a single frame' 0 --frame 0 "$room/log" -- 'frame 0       35 bytes, from byte 0 of the capture'
+has_lines '--frame in front of a torn tail' 0 --frame 0 "$room/torn" -- 'status        3'
+has_lines '--frame of the torn tail' 1 --frame 1 "$room/torn" -- 'frame 1       from byte 29 of the capture' 'because       17 of 35 bytes are there; missing: 18'
+stops '--frame of the torn tail, as a summary' 1 "1 frame, 29 bytes; frame 1, from byte 29, $(torn 17)" --frame 1 --summary "$room/torn"
+has_lines '--frame of a refused frame' 1 --frame 1 "$room/middle" -- "refused       9: $n9"
+wrong 'a frame behind the last' 'no frame 4 (the first is frame 0): 4 frames, 218 bytes, and nothing behind them' dump --frame 4 "$room/four"
+wrong 'a frame behind a refused one' "no frame 2 (the first is frame 0): 1 frame, 29 bytes; frame 1, from byte 29, is refused, 9: $n9" dump --frame 2 "$room/middle"
+wrong 'a frame behind a torn one' "$(torn 17)" dump --frame 4294967295 "$room/torn"
+wrong 'a frame of an empty file' 'no frame 0 (the first is frame 0): no frame: the capture is empty' dump --frame 0 "$room/nothing"
+wrong 'a frame that is no number' "not 'last'" dump --frame last "$room/four"
+wrong 'a frame below the first' "not '-1'" dump --frame -1 "$room/four"
+wrong '--frame twice' '--frame is given twice' dump --frame 1 --frame 1 "$room/four"
+for words in --json --all "--payload-out=$room/none"; do
+    wrong "--summary and ${words%%=*}" "--summary leaves no place for ${words%%=*}" dump --summary "$words" "$room/four"
+done
+
+# ---- a payload
+
+wrong 'a payload of several frames' 'name one by --frame' dump --payload-out "$room/none" "$room/four"
+wrong 'a payload of a frame with a torn one behind it' 'name one by --frame' dump --payload-out "$room/none" "$room/newline"
+[ ! -e "$room/none" ]
+report $? 'and no file for them'
+run dump --payload-out "$room/payload" --frame 2 "$room/four"
+[ "$status" -eq 0 ] && [ "$(cat "$room/payload")" = hi ] && grep -qx 'frame 2       119 bytes, from byte 64 of the capture' "$room/out"
+report $? 'the payload of the frame that is named'
+shows 'the same on standard output' 0 hi --payload-out - --frame 2 "$room/four"
+wrong 'a named frame without a payload' 'no payload' dump --payload-out "$room/none" --frame 1 "$room/four"
+run dump --payload-out - --frame 1 "$room/middle"
+[ "$status" -eq 1 ] && [ ! -s "$room/out" ] && grep -q 'refused, 9: ' "$room/err"
+report $? 'no payload of a named frame that is refused'
+
+# ---- JSON
+
+# The object of a single frame, as the frame with this number has it.
+placed_json() { # NUMBER START FILE
+    "$FLUX_FRAME" dump --json "$3" | sed "s/\"input\":\([0-9]*\),\"frame\":[0-9]*,\"behind\":0/\"number\":$1,\"start\":$2,\"frame\":\1/"
+}
+
+four_json="$(placed_json 0 0 "$room/control")
+$(placed_json 1 29 "$room/log")
+$(placed_json 2 64 "$room/response")
+$(placed_json 3 183 "$room/event")"
+shows 'the JSON of four frames, each with its place' 0 "$four_json
+"'{"stop":"end","frames":4,"bytes":218,"refusal":null}' --json "$room/four"
+case $four_json in
+'{"accepted":true,"number":0,"start":0,"frame":29,"type":8,'*) report 0 'and how the first begins' ;;
+*) report 1 'and how the first begins' ;;
+esac
+shows 'the JSON of a frame that is named' 0 "$(placed_json 2 64 "$room/response")" --json --frame 2 "$room/four"
+shows 'the JSON of a torn tail' 1 "$(placed_json 0 0 "$room/control")
+"'{"accepted":false,"number":1,"start":29,"input":3,"refusal":1,"words":"'"$n1"'","because":"3 of 8 bytes are there, which tell the frame'"'"'s length; missing: 5","front":"FFEE00","needed":8}
+{"stop":"torn","frames":1,"bytes":29,"refusal":1}' --json "$room/front"
+shows 'the JSON of a named frame that is torn' 1 '{"accepted":false,"number":1,"start":29,"input":3,"refusal":1,"words":"'"$n1"'","because":"3 of 8 bytes are there, which tell the frame'"'"'s length; missing: 5","front":"FFEE00","needed":8}' --json --frame 1 "$room/front"
+shows 'the JSON of junk behind frames' 1 "$(printf '%s\n' "$four_json" | head -n 2)
+"'{"accepted":false,"number":2,"start":64,"input":16,"refusal":2,"words":"'"$n2"'","because":"77 68 61 74 in place of FF EE 00 12","front":"7768617420697320"}
+{"stop":"refused","frames":2,"bytes":64,"refusal":2}' --json "$room/junk"
+
+# ---- more frames than one list has room for: 1,024
+
+for _ in $(seq 32); do cat "$room/control"; done >"$room/32"
+for _ in $(seq 32); do cat "$room/32"; done >"$room/1024"
+stops '1,024 frames' 0 '1024 frames, 29696 bytes, and nothing behind them' --summary "$room/1024"
+cat "$room/1024" "$room/log" >"$room/1025"
+stops '1,025 frames' 0 '1025 frames, 29731 bytes, and nothing behind them' --summary "$room/1025"
+has_lines 'the one behind a full list' 0 --frame 1024 "$room/1025" -- 'frame 1024    35 bytes, from byte 29696 of the capture' 'matchtag      1'
+cat "$room/1024" "$room/1024" "$room/1025" >"$room/3073"
+run dump --summary "$room/3073"
+[ "$status" -eq 0 ] && sed -n 's/^frame \([0-9]*\) .*/\1/p' "$room/out" | cmp -s - <(seq 0 3072) &&
+    sed -n 's/.*from byte \([0-9]*\) .*control  .*/\1/p' "$room/out" | cmp -s - <(seq 0 29 89087)
+report $? 'each of 3,073 frames has its number and place'
+{ cat "$room/1024" && head -c 34 "$room/log"; } >"$room/in"
+stops 'a torn frame behind a full list' 1 "1024 frames, 29696 bytes; frame 1024, from byte 29696, $(torn 34)" --summary "$room/in"
+cat "$room/1024" "$room/nine" >"$room/in"
+stops 'a refused frame behind a full list' 1 "1024 frames, 29696 bytes; frame 1024, from byte 29696, is refused, 9: $n9" "$room/in"
+
+# ---- captures above 1,048,576 bytes, which one call looks at: 31 of the longest frames, then others
+
+for _ in $(seq 31); do cat "$room/most.frame"; done >"$room/31"
+sixteen=$(seq -f %015.0f 2046) # 32,736 bytes with the last newline
+run write --type request --topic log --payload <(printf '%s\n' "$sixteen") -o "$room/sixteen"
+cat "$room/31" "$room/sixteen" "$room/log" >"$room/over"
+stops 'a frame across the 1,048,576th byte' 0 '33 frames, 1048867 bytes, and nothing behind them' "$room/over"
+run dump --frame 31 --payload-out "$room/payload" "$room/over"
+[ "$status" -eq 0 ] && cmp -s "$room/payload" <(printf '%s\n' "$sixteen") && grep -qx 'frame 31      32776 bytes, from byte 1016056 of the capture' "$room/out"
+report $? 'it is there, byte for byte'
+shows 'the frame behind it' 0 'frame 32         35 bytes, from byte 1048832   request   "log", nodeid any, matchtag 1, no payload' --frame 32 --summary "$room/over"
+run dump --summary < <(cat "$room/over")
+[ "$status" -eq 0 ] && [ "$(wc -l <"$room/out")" -eq 34 ]
+report $? 'the same from a pipe'
+for _ in 1 2 3; do cat "$room/over"; done >"$room/thrice"
+stops 'three times as long' 0 '99 frames, 3146601 bytes, and nothing behind them' --summary "$room/thrice"
+{ cat "$room/over" && head -c 34 "$room/log"; } >"$room/in"
+stops 'a torn tail behind them' 1 "33 frames, 1048867 bytes; frame 33, from byte 1048867, $(torn 34)" --summary "$room/in"
+good=0
+for ((before = 0; before <= 36; before++)); do
+    run write --type request --topic log --payload <(bytes $((32480 - before))) -o "$room/last"
+    cat "$room/31" "$room/last" "$room/log" >"$room/in"
+    run dump --summary "$room/in"
+    [ "$status" -eq 0 ] && [ "$(tail -n 1 "$room/out")" = "stop          33 frames, $((1048576 - before + 35)) bytes, and nothing behind them" ] || good=1
+done
+report "$good" 'a frame that begins at each place in front of that byte'
+run write --type request --topic log --payload <(bytes 32480) -o "$room/last"
+cat "$room/31" "$room/last" >"$room/exact"
+stops 'frames that end at that byte' 0 '32 frames, 1048576 bytes, and nothing behind them' --summary "$room/exact"
+{ cat "$room/exact" && printf 'what is no frame'; } >"$room/in"
+stops 'junk behind that byte' 1 "32 frames, 1048576 bytes; frame 32, from byte 1048576, is refused, 2: $n2" --summary "$room/in"
+bytes 1048576 >"$room/in"
+has_lines 'no frame, of 1,048,576 bytes' 1 "$room/in" -- 'input         1048576 bytes' "refused       2: $n2"
+bytes 1048577 >"$room/in"
+has_lines 'no frame, of a byte more' 1 "$room/in" -- 'input         1048576 bytes, and more behind them' "refused       2: $n2"
+cat "$room/log" "$room/in" >"$room/long-junk"
+has_lines 'a frame, and as much behind it' 1 "$room/long-junk" -- 'input         1048576 bytes from there on, and more behind them'
+run dump --json "$room/long-junk"
+[ "$status" -eq 1 ] && sed -n 2p "$room/out" | grep -q '^{"accepted":false,"number":1,"start":35,"input":1048576,"more":true,"refusal":2,'
+report $? 'and as JSON'
+
+# ---- bytes that a terminal would obey, and outputs that cannot be written
+
+run write --type event --topic "$obeyed" -o "$room/obeyed-topic"
+cat "$room/obeyed-topic" "$room/obeyed" >"$room/in"
+for words in '' --summary --json; do
+    # shellcheck disable=SC2086 # the words are words
+    run dump $words "$room/in"
+    [ "$status" -eq 1 ] && ! LC_ALL=C grep -q '[^ -~]' "$room/out"
+    report $? "dump $words of several frames with bytes that a terminal would obey"
+done
+for words in '' --summary --json '--frame 1'; do
+    # shellcheck disable=SC2086 # the words are words
+    unwritten "dump $words of several frames that cannot be written" 'cannot write standard output' dump $words "$room/four"
+done
+"$FLUX_FRAME" dump "$room/thrice" 2>"$room/err" | head -n 1 >"$room/out"
+status=${PIPESTATUS[0]}
+[ "$status" -eq 2 ] && grep -q 'cannot write standard output' "$room/err"
+report $? 'a reader that goes away'
