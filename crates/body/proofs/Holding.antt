@@ -13,7 +13,7 @@ use Rattle.message.specs.Header.{hasTopic, hasPayload, hasRoute, headerBytes}
 use Rattle.message.specs.Message.{Message}
 use Rattle.message.specs.Frame.{sizeBytes, partBytes, joined, routing, topicPart, payloadPart, partsOf, bodyOf, frameOf}
 use Rattle.message.specs.Writing.{isEmpty}
-use Rattle.message.proofs.Lists.{Each, each-at, each-take}
+use Rattle.message.proofs.Lists.{each-at, each-take}
 use Rattle.message.proofs.Forms.{routes-each}
 use Rattle.message.proofs.Messages.{Written, written, Given, given-fit}
 use Rattle.octets.proofs.Truth.{true-false, outcome}

@@ -1,15 +1,13 @@
 -- The bodies of the messages that a step makes, by the body of the message that it got.
 -- Assumes nothing.
-use mathlib.Core.Path.{_≡_, refl, sym, ap, _∙_}
-use Prim.Native.Nat.{ℕ, _+_, _≤_}
+use mathlib.Core.Path.{_≡_, sym, ap, _∙_}
+use Prim.Native.Nat.{ℕ, _+_}
 use mathlib.Core.Bool.{Bool, true, false, cond}
 use mathlib.Core.List.{List, [], _∷_, _++_, append-assoc, append-nil}
-use native.Mathlib.Omega.{arith}
 use lib.ListN.{drop}
-use Rattle.message.specs.declared.Header.{Header}
 use Rattle.message.specs.Header.{hasTopic, hasPayload, hasRoute, isStreaming, headerBytes}
 use Rattle.message.specs.Message.{Message}
-use Rattle.message.specs.Frame.{partBytes, joined, groupIf, partIf, routing, topicPart, payloadPart, partsOf, bodyOf, frameOf}
+use Rattle.message.specs.Frame.{partBytes, joined, groupIf, partIf, routing, topicPart, payloadPart, partsOf, bodyOf}
 use Rattle.message.proofs.Parts.{joined-append}
 use Rattle.routing.proofs.Bodies.{body-on-top}
 use Rattle.routing.specs.Messages.{pushed, popped, replyHeader, errorReply}

@@ -1,6 +1,6 @@
 -- What a buffer from which a message is read holds, and what is left in it: a frame changed in place is the frame of the new message.
 -- Assumes nothing.
-use mathlib.Core.Path.{_≡_, refl, sym, ap, ap₂, _∙_}
+use mathlib.Core.Path.{_≡_, refl, sym, ap, _∙_}
 use mathlib.Core.Bool.{Bool, true, cond}
 use Prim.Native.Nat.{ℕ, _+_, _-_, _<_, _≤_}
 use mathlib.Core.List.{List, [], _∷_, _++_, append-assoc}
@@ -9,14 +9,12 @@ use borrow.Author.Tests.{le-leb, lt-ltb}
 use lib.ListN.{length, take, drop, length-append, take-append-drop}
 use lib.Seq.{drop-at, take-append-seam}
 use Rattle.octets.proofs.Truth.{and-both}
-use Rattle.message.specs.Answer.{answered}
 use Rattle.message.specs.Header.{hasTopic, hasRoute, headerBytes}
 use Rattle.message.specs.Message.{Message}
 use Rattle.message.specs.Frame.{partBytes, joined, payloadPart, framed, bodyOf, frameOf}
-use Rattle.message.specs.Reading.{readingOf}
 use Rattle.message.proofs.Frames.{frame-long}
 use Rattle.message.proofs.Messages.{written}
-use Rattle.message.proofs.RoundTrip.{WrittenBack, write-back}
+use Rattle.message.proofs.RoundTrip.{WrittenBack}
 use Rattle.message.proofs.Parts.{part-short, joined-append}
 use Rattle.rewrite.specs.Renewed.{cleared, bodyIn, renewed, withPart, withoutFront, withHeader}
 use Rattle.routing.specs.Messages.{pushed, popped, replyHeader, errorReply}

@@ -1,9 +1,9 @@
 -- What is known of a message that a step forwards.
 -- Assumes nothing.
-use mathlib.Core.Path.{_≡_, refl, sym, ap, _∙_}
-use mathlib.Core.Bool.{Bool, true, false}
+use mathlib.Core.Path.{_≡_, refl, sym, _∙_}
+use mathlib.Core.Bool.{true, false}
 use mathlib.Core.Logic.{_⊎_, inl, inr, ⊎-elim}
-use Prim.Native.Nat.{ℕ, _<_, _≤_}
+use Prim.Native.Nat.{ℕ, _<_}
 use mathlib.Core.List.{List, [], _∷_}
 use native.Mathlib.Omega.{arith}
 use borrow.Author.Tests.{eqb-true, eqb-false}
@@ -25,7 +25,7 @@ use Rattle.routing.specs.declared.Back.the-variants.{Home, To, Stray}
 use Rattle.routing.specs.Requests.{requestWay}
 use Rattle.routing.specs.Responses.{responseWay}
 use Rattle.routing.specs.Messages.{pushed, popped, tooLarge}
-use Rattle.routing.specs.Routed.{Tables, Outcome, delivered, forwarded, replied, silenced, home, failed, requested, responded, routed}
+use Rattle.routing.specs.Routed.{Tables, Outcome, delivered, forwarded, replied, silenced, home, requested, responded, routed}
 use Rattle.routing.proofs.Outcomes.{routed-request, routed-response, routed-neither}
 use Rattle.broker.proofs.Lying.{fails-silent, fails-reply}
 use Rattle.broker.proofs.Keeping.{Sound, pushed-sound, popped-sound}

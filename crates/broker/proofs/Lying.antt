@@ -1,7 +1,7 @@
 -- What is known where a frame lies in the buffer, and what each way through a step comes to.
 -- Assumes nothing.
 use mathlib.Core.Path.{_≡_, refl, sym, ap, ap₂, _∙_}
-use mathlib.Core.Bool.{Bool, true, false, cond, _&&_, _||_}
+use mathlib.Core.Bool.{Bool, true, false, cond, _||_}
 use mathlib.Core.Logic.{_⊎_, inl, inr, ⊎-elim}
 use Prim.Native.Nat.{ℕ, _+_, _-_, _*_, _<_, _≤_}
 use mathlib.Core.List.{List, [], _∷_, _++_, append-nil}
@@ -9,17 +9,16 @@ use native.Mathlib.Omega.{arith}
 use borrow.Author.Tests.{lt-ltb, le-ltb}
 use lib.Dec.{ltb}
 use lib.ListN.{length, getD, drop, length-append}
-use Rattle.octets.proofs.Truth.{outcome, and-left, and-right, or-neither}
+use Rattle.octets.proofs.Truth.{outcome, or-neither}
 use Rattle.message.specs.declared.Header.{Header}
 use Rattle.message.specs.declared.Refusal.{Refusal}
 use Rattle.message.specs.declared.Refusal.the-variants.{ShortOutput, NoForwarding}
-use Rattle.message.specs.Answer.{Answer, refused, answered, refuseIf, andThen}
+use Rattle.message.specs.Answer.{Answer, refused, answered, andThen}
 use Rattle.message.specs.Header.{hasTopic, noResponse, hasRoute}
 use Rattle.message.specs.Message.{Message}
 use Rattle.message.specs.Frame.{sizeBytes, partBytes, joined, partIf, routing, topicPart, bodyOf, frameOf}
 use Rattle.message.proofs.Lists.{each-at}
 use Rattle.message.proofs.Forms.{routes-each}
-use Rattle.message.proofs.Messages.{written}
 use Rattle.message.proofs.Frames.{frame-long}
 use Rattle.message.proofs.Parts.{part-short, joined-append}
 use Rattle.message.proofs.RoundTrip.{WrittenBack, write-back}

@@ -1,15 +1,14 @@
 -- The step: one law for each way through its order.
 -- Assumes nothing.
-use mathlib.Core.Path.{_≡_, refl, sym, ap, _∙_}
+use mathlib.Core.Path.{_≡_, sym, ap, _∙_}
 use mathlib.Core.Bool.{true, false, not}
 use Prim.Native.Nat.{ℕ, _<_, _≤_}
 use mathlib.Core.List.{List}
-use native.Mathlib.Omega.{arith}
-use borrow.Author.Tests.{lt-ltb, le-ltb, ltb-true, eq-eqb, ne-eqb, not-false}
+use borrow.Author.Tests.{lt-ltb, le-ltb, ltb-true, not-false}
 use lib.Dec.{ltb}
 use lib.ListN.{length}
 use Rattle.message.specs.declared.Refusal.{Refusal}
-use Rattle.message.specs.declared.Refusal.the-variants.{ShortOutput, WrongTree, WrongServices, WrongIdentities, WrongRank, NotRouted}
+use Rattle.message.specs.declared.Refusal.the-variants.{ShortOutput, WrongTree, WrongServices, WrongIdentities, WrongRank}
 use Rattle.message.specs.Answer.{Answer, refused, answered, refuseIf, andThen}
 use Rattle.message.specs.Message.{Message}
 use Rattle.message.specs.Frame.{frameOf}
@@ -24,9 +23,7 @@ use Rattle.tree.specs.Depths.{treeGood}
 use Rattle.services.specs.Services.{servicesGood}
 use Rattle.identities.specs.Identities.{identitiesGood}
 use Rattle.routing.specs.declared.Broker.{Broker}
-use Rattle.routing.specs.Requests.{requestWay}
-use Rattle.routing.specs.Responses.{responseWay}
-use Rattle.routing.specs.Routed.{Tables, Outcome, delivered, forwarded, replied, silenced, home, requested, responded, routed}
+use Rattle.routing.specs.Routed.{Tables, Outcome, delivered, forwarded, replied, silenced, home, routed}
 use Rattle.broker.specs.Step.{roomFor, passOf, stepOf}
 use Rattle.broker.specs.Working.{heldIn}
 

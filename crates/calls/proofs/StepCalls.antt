@@ -2,7 +2,7 @@
 -- Assumes nothing.
 use mathlib.Core.Path.{_≡_, refl, sym, ap, _∙_, subst⁻¹}
 use Prim.Native.Nat.{ℕ, _-_, _<_, _≤_}
-use mathlib.Core.List.{List, [], _∷_}
+use mathlib.Core.List.{List}
 use native.Mathlib.Omega.{arith}
 use borrow.Author.Tests.{lt-ltb, le-ltb}
 use lib.ListN.{length, replicate, length-append, length-replicate}
@@ -13,7 +13,7 @@ use Rattle.octets.proofs.Buffers.{laid-room}
 use Rattle.message.specs.declared.Refusal.{Refusal}
 use Rattle.message.specs.declared.Refusal.the-variants.{ShortOutput}
 use Rattle.message.specs.Refusals.{numberOf}
-use Rattle.message.specs.Answer.{Answer, refused, answered, andThen}
+use Rattle.message.specs.Answer.{Answer, refused, answered}
 use Rattle.message.specs.Frame.{frameOf}
 use Rattle.rewrite.specs.Renewed.{cleared}
 use Rattle.message.proofs.Answers.{some-number}

@@ -11,7 +11,7 @@ use Rattle.octets.proofs.Buffers.{laid-room}
 use Rattle.message.specs.declared.Refusal.the-variants.{ShortOutput}
 use Rattle.message.specs.Refusals.{numberOf}
 use Rattle.stream.specs.declared.Stopped.{Stopped}
-use Rattle.stream.specs.Stream.{Stream, streamOf, Streams}
+use Rattle.stream.specs.Stream.{streamOf, Streams}
 use Rattle.calls.specs.Calls.{streamNumbers, ReadsStream}
 
 -- a short record

@@ -3,7 +3,6 @@
 // all, and nothing is left for a caller to check.
 use routing::Broker;
 ghost use Rattle.octets.specs.Number.{Bytes};
-ghost use Rattle.message.specs.Writing.{givenMessage};
 ghost use Rattle.calls.specs.Calls.{headerOf};
 ghost use Rattle.claims.specs.Frames.{RecordHoldsMessage, AcceptedIsWrittenBack, WrittenIsReadBack};
 ghost use Rattle.claims.specs.Streams.{StreamIsTheInput};

@@ -1,19 +1,19 @@
 -- Demand 3. The path is followed (the crate path's `followed`), so the request's steps are a run along it (There), and the response's a run back
 -- (Homeward); a run is what the C calls make (Stepping).
 -- Assumes nothing.
-use mathlib.Core.Path.{_≡_, refl, sym, ap, ap₂, _∙_, subst, subst⁻¹}
+use mathlib.Core.Path.{_≡_, refl, sym, ap, _∙_, subst, subst⁻¹}
 use mathlib.Core.Bool.{Bool, true, false, not, cond, _&&_}
-use mathlib.Core.Logic.{_⊎_, inl, inr, ⊎-elim}
-use Prim.Native.Nat.{ℕ, suc, _+_, _-_, _*_, _<_, _≤_}
+use mathlib.Core.Logic.{_⊎_, inl, ⊎-elim}
+use Prim.Native.Nat.{ℕ, suc, _+_, _-_, _*_, _≤_}
 use mathlib.Core.List.{List, [], _∷_, _++_, map, reverse, reverseAux, reverse-append}
 use native.Mathlib.Omega.{arith}
-use borrow.Author.Tests.{eq-eqb, ne-eqb}
+use borrow.Author.Tests.{ne-eqb}
 use lib.Dec.{eqb}
-use lib.ListN.{length, take}
+use lib.ListN.{length}
 use lib.Seq.{length-take-le}
 use Rattle.octets.specs.Number.{Bytes}
 use Rattle.octets.proofs.Truth.{outcome}
-use Rattle.message.specs.Answer.{Answer, answered}
+use Rattle.message.specs.Answer.{answered}
 use Rattle.message.specs.Header.{noResponse, hasRoute}
 use Rattle.message.specs.Message.{Message}
 use Rattle.message.specs.Frame.{bodyOf, frameOf}
@@ -25,7 +25,7 @@ use Rattle.lookup.specs.Lookup.{serviceOf, registeredAs}
 use Rattle.lookup.proofs.Lookup.{found-holds}
 use Rattle.identities.specs.Identities.{identityAt}
 use Rattle.path.specs.Path.{End, delivers, fails, Path, pathOf, linksOf, treeDepth}
-use Rattle.path.specs.Leading.{Leads, Linked, Follows}
+use Rattle.path.specs.Leading.{Leads, Linked}
 use Rattle.path.proofs.Chains.{tree-depth-most}
 use Rattle.path.proofs.Leading.{followed}
 use Rattle.rewrite.specs.Renewed.{cleared}
@@ -39,7 +39,6 @@ use Rattle.broker.specs.Step.{ValidTables, leftAfter, toldAs}
 use Rattle.message.proofs.Frames.{frame-long}
 use Rattle.broker.proofs.Keeping.{Sound, sound-read, sound-route, sound-short}
 use Rattle.walk.specs.Runs.{Run}
-use Rattle.calls.specs.Calls.{hostBroker}
 use Rattle.claims.specs.Demand3.{Enters, Responds, Goes, routesAtRest, answerAt, messageAt, asOnEntry, leftOf, ThereAndHome, DemandThree}
 use Rattle.claims.proofs.Stepping.{run-goes}
 use Rattle.claims.proofs.There.{endOutcome, atEnd, bufferAt, request-run, end-sound, at-end, buffer-behind, cleared-again}

@@ -1,9 +1,9 @@
 -- Demand 2 of the calls: the claims of specs/Frames.antt, from the two laws of the round trip.
 -- Assumes nothing.
 use mathlib.Core.Path.{_≡_, refl, sym, ap, _∙_, subst}
-use Prim.Native.Nat.{ℕ, _+_, _*_, _<_, _≤_}
+use Prim.Native.Nat.{ℕ, _+_, _<_, _≤_}
 use native.Mathlib.Omega.{arith}
-use mathlib.Core.List.{List, [], _∷_, _++_}
+use mathlib.Core.List.{List, _++_}
 use lib.ListN.{length, getD, take, drop}
 use lib.Seq.{drop-at}
 use Rattle.octets.specs.Number.{Bytes, four, rowBytes}
@@ -24,9 +24,9 @@ use Rattle.body.proofs.Holding.{Begins, begins-read, begins-written, topic-told
 use Rattle.rows.specs.Rows.{readRow}
 use Rattle.calls.specs.Calls.{returned, recorded, wrote, Reads, Writes}
 use Rattle.calls.proofs.ReadCalls.{ReadDone, read-done, read-on}
-use Rattle.calls.proofs.WriteCalls.{WriteDone, write-whole, write-done}
-use Rattle.claims.specs.Records.{numberIn, taken, fieldsIn, routesFrom, routesAt, topicAt, payloadAt, handedOn}
-use Rattle.claims.specs.Frames.{Holds, HeldMessage, RecordHoldsMessage, WrittenBack, AcceptedIsWrittenBack, ReadBack, WrittenIsReadBack}
+use Rattle.calls.proofs.WriteCalls.{write-whole, write-done}
+use Rattle.claims.specs.Records.{numberIn, taken, routesFrom, routesAt, handedOn}
+use Rattle.claims.specs.Frames.{Holds, HeldMessage, RecordHoldsMessage, WrittenBack, AcceptedIsWrittenBack, WrittenIsReadBack}
 use Rattle.claims.proofs.Routes.{flat, flat-cut, cut-flat, routes-from}
 use Rattle.claims.proofs.Records.{number-told}
 

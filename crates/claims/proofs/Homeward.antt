@@ -3,14 +3,14 @@
 use mathlib.Core.Path.{_≡_, refl, sym, ap, _∙_, subst}
 use mathlib.Core.Bool.{Bool, true, false}
 use mathlib.Core.Logic.{inr}
-use Prim.Native.Nat.{ℕ, suc, _+_, _-_, _<_, _≤_}
+use Prim.Native.Nat.{ℕ, _+_, _-_, _<_, _≤_}
 use mathlib.Core.List.{List, [], _∷_, _++_, map, reverse, reverseAux}
 use native.Mathlib.Omega.{arith}
 use borrow.Author.Tests.{le-ltb, ne-eqb}
 use lib.Dec.{eqb}
 use lib.ListN.{length, drop, length-append}
 use Rattle.octets.proofs.Truth.{true-false}
-use Rattle.message.specs.Answer.{Answer, answered, andThen}
+use Rattle.message.specs.Answer.{answered, andThen}
 use Rattle.message.specs.Message.{Message}
 use Rattle.message.specs.Frame.{partBytes, bodyOf, frameOf}
 use Rattle.message.specs.Reading.{readingOf}
@@ -30,7 +30,7 @@ use Rattle.routing.specs.declared.Back.{Back}
 use Rattle.routing.specs.declared.Back.the-variants.{Home, To}
 use Rattle.routing.specs.Responses.{towardsBroker, responseWay}
 use Rattle.routing.specs.Messages.{withRoutes, popped}
-use Rattle.routing.specs.Routed.{Tables, Outcome, forwarded, home, responded}
+use Rattle.routing.specs.Routed.{Tables, forwarded, home, responded}
 use Rattle.routing.proofs.Ways.{broker-near}
 use Rattle.broker.specs.Step.{ValidTables, roomFor, stepOf}
 use Rattle.broker.proofs.Bodies.{popped-body}

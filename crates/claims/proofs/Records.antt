@@ -1,16 +1,16 @@
 -- A read's record: its numbers fit four bytes each, and so they are read back from it.
 -- Assumes nothing.
-use mathlib.Core.Path.{_≡_, refl, sym, ap, _∙_}
-use mathlib.Core.Bool.{Bool, true, false, _&&_, _||_}
-use Prim.Native.Nat.{ℕ, _+_, _*_, _<_, _≤_}
+use mathlib.Core.Path.{_≡_, refl, sym}
+use mathlib.Core.Bool.{Bool, true, false, _||_}
+use Prim.Native.Nat.{ℕ, _<_, _≤_}
 use native.Mathlib.Omega.{arith}
-use mathlib.Core.List.{List, [], _∷_, _++_}
+use mathlib.Core.List.{List}
 use lib.Dec.{eqb, ltb}
 use lib.ListN.{length, getD, drop}
 use borrow.Author.Tests.{eqb-true, ltb-true}
 use Rattle.octets.specs.Number.{rowBytes}
 use Rattle.octets.specs.Laid.{laid}
-use Rattle.octets.proofs.Rows.{row-number, row-length}
+use Rattle.octets.proofs.Rows.{row-number}
 use Rattle.message.specs.declared.Header.{Header}
 use Rattle.message.specs.Header.{isType, isKnown}
 use Rattle.message.specs.Message.{Message, FieldsFit}

@@ -9,7 +9,6 @@ use Rattle.octets.specs.Number.{rowBytes}
 use Rattle.octets.specs.Laid.{laid}
 use Rattle.octets.proofs.Rows.{row-length}
 use Rattle.message.specs.Answer.{Answer, answered}
-use Rattle.message.specs.Message.{Message}
 use Rattle.message.specs.Reading.{final}
 use Rattle.routing.specs.declared.Broker.{Broker}
 use Rattle.routing.specs.Routed.{Tables, Outcome, forwarded}

@@ -1,6 +1,6 @@
 -- The step call keeps the rules: on a buffer that holds a message it is the step on the message, and that keeps them.
 -- Assumes nothing.
-use mathlib.Core.Path.{_≡_, _∙_, subst}
+use mathlib.Core.Path.{_∙_, subst}
 use Prim.Native.Nat.{ℕ}
 use mathlib.Core.List.{List}
 use native.Mathlib.Omega.{arith}

@@ -29,15 +29,14 @@ use Rattle.routing.specs.declared.Way.{Way}
 use Rattle.routing.specs.declared.Way.the-variants.{Forward}
 use Rattle.routing.specs.Requests.{requestWay}
 use Rattle.routing.specs.Messages.{withRoutes, pushed, errorReply, tooLarge}
-use Rattle.routing.specs.Routed.{Tables, Outcome, delivered, forwarded, replied, silenced, failed, requested}
+use Rattle.routing.specs.Routed.{Tables, Outcome, delivered, forwarded, replied, silenced, requested}
 use Rattle.routing.proofs.Bodies.{body-grows}
 use Rattle.broker.specs.Step.{ValidTables, roomFor, stepOf, leftAfter}
 use Rattle.message.proofs.Frames.{frame-long}
 use Rattle.broker.proofs.Lying.{fails-silent, fails-reply, fails-anyhow}
 use Rattle.routing.proofs.Outcomes.{routed-request}
 use Rattle.broker.proofs.Passing.{pass-as, step-pass}
-use Rattle.broker.proofs.Keeping.{Sound, sound-route, sound-short, pushed-sound, read-cleared}
-use Rattle.walk.specs.Walk.{onward}
+use Rattle.broker.proofs.Keeping.{Sound, sound-route, pushed-sound, read-cleared}
 use Rattle.walk.specs.Runs.{isForward, Run, rests, goes}
 use Rattle.claims.specs.Demand3.{routesAtRest}
 

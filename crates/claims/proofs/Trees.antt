@@ -1,22 +1,21 @@
 -- The claim on the tree check, from the law that the computed test is the paper's sentence.
 -- Assumes nothing.
-use mathlib.Core.Path.{_≡_, refl, sym, ap, _∙_}
-use mathlib.Core.Bool.{Bool, true, false}
+use mathlib.Core.Path.{_≡_, ap, _∙_}
+use mathlib.Core.Bool.{false}
 use mathlib.Core.Logic.{⊎-elim}
 use Prim.Native.Nat.{ℕ, _<_, _≤_}
 use native.Mathlib.Omega.{arith}
-use mathlib.Core.List.{List, [], _∷_, _++_}
+use mathlib.Core.List.{List, _++_}
 use lib.ListN.{length, getD, drop, List·getD-append}
 use lib.Seq.{drop-at}
 use Rattle.octets.specs.Number.{four}
-use Rattle.message.specs.declared.Refusal.the-variants.{WrongTree}
-use Rattle.message.specs.Answer.{Answer, refused, answered, writtenOver}
+use Rattle.message.specs.Answer.{Answer, writtenOver}
 use Rattle.octets.proofs.Truth.{outcome}
 use Rattle.tree.specs.Tree.{ranksIn}
 use Rattle.tree.specs.Depths.{Depths, Accepted, treeGood, depthsOf}
 use Rattle.tree_check.proofs.Checking.{CheckIsRight, check-is-right, into-wrong, into-right}
-use Rattle.calls.specs.Calls.{returned, recorded, wrote, treeCall, ChecksTree}
-use Rattle.calls.proofs.TreeCalls.{TreeDone, tree-on, tree-done}
+use Rattle.calls.specs.Calls.{returned, recorded, wrote, ChecksTree}
+use Rattle.calls.proofs.TreeCalls.{tree-on, tree-done}
 use Rattle.claims.specs.Trees.{DepthsWritten, TreeIsChecked}
 
 module _ (tree : List ℕ) where

@@ -1,15 +1,15 @@
 -- The claim on the way to a rank, from the laws on hops.
 -- Assumes nothing.
-use mathlib.Core.Path.{_≡_, refl, sym, ap, _∙_}
+use mathlib.Core.Path.{_≡_, ap, _∙_}
 use mathlib.Core.Bool.{true}
-use Prim.Native.Nat.{ℕ, _+_, _-_, _<_, _≤_}
+use Prim.Native.Nat.{ℕ, _-_, _<_}
 use native.Mathlib.Omega.{arith}
 use mathlib.Core.List.{List}
 use Rattle.tree.specs.Tree.{ranksIn}
-use Rattle.tree.specs.Depths.{depthOf, treeGood}
-use Rattle.hops.specs.Towards.{towards, above, afterHops}
-use Rattle.hops.proofs.Paths.{Meeting, meet, above-none, hops-add, hops-up, hops-down, hops-reach, hops-not-before, next-neighbour}
-use Rattle.claims.specs.Ways.{Meet, WayToRank, EveryWay}
+use Rattle.tree.specs.Depths.{treeGood}
+use Rattle.hops.specs.Towards.{afterHops}
+use Rattle.hops.proofs.Paths.{Meeting, meet, hops-add, hops-up, hops-down, hops-reach, hops-not-before, next-neighbour}
+use Rattle.claims.specs.Ways.{WayToRank, EveryWay}
 
 module _ (tree : List ℕ) (good : treeGood tree ≡ true) (from target : ℕ) (hf : from < ranksIn tree) (ht : target < ranksIn tree) where
   abbrev m : Meeting tree from target

@@ -1,9 +1,8 @@
 -- Laws on a buffer that is cleared byte by byte, and on bytes that are moved within it.
 -- Assumes nothing.
 use mathlib.Core.Path.{_≡_, refl, sym, ap, _∙_}
-use mathlib.Core.Bool.{_&&_}
 use Prim.Native.Nat.{ℕ, zero, suc, _+_, _<_, _≤_}
-use native.Mathlib.Nat.{add-zero, suc-add}
+use native.Mathlib.Nat.{suc-add}
 use native.Mathlib.Numerals.{add-one}
 use native.Mathlib.Omega.{arith}
 use mathlib.Core.List.{List, [], _∷_, _++_, append-assoc}
@@ -12,8 +11,8 @@ use lib.Dec.{leb}
 use lib.ListN.{length, getD, take, drop, set, replicate, length-drop}
 use lib.Seq.{drop-cons, drop-length, drop-drop, set-at, length-take-le}
 use Rattle.copying.proofs.Held.{copy-more}
-use Rattle.octets.proofs.Truth.{and-left-fails, and-right-fails}
-use Rattle.moving.specs.Moved.{mostMoved, moved, movedIfRoom, zeros}
+use Rattle.octets.proofs.Truth.{and-right-fails}
+use Rattle.moving.specs.Moved.{moved, movedIfRoom, zeros}
 
 -- ---- clearing
 

@@ -1,8 +1,6 @@
 // Bytes: numbers of four bytes, read and written. Every public function is total.
 ghost use mathlib.Core.Path.{_≡_};
 ghost use mathlib.Core.List.{_∷_, []};
-ghost use Prim.Native.Nat.{_≤_};
-ghost use lib.ListN.{length};
 ghost use Rattle.octets.specs.Number.{number, four, rowBytes};
 ghost use Rattle.octets.specs.Laid.{laidIfRoom};
 

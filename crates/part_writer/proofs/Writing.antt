@@ -4,7 +4,7 @@ use mathlib.Core.Path.{_≡_, sym, ap, subst}
 use Prim.Native.Nat.{ℕ, _+_, _-_, _<_, _≤_}
 use mathlib.Core.List.{List, [], _∷_, _++_}
 use native.Mathlib.Omega.{arith}
-use lib.ListN.{length, set, length-append}
+use lib.ListN.{length, set}
 use borrow.Author.Tests.{lt-ltb, le-ltb}
 use borrow.Rule.Slice.PartMut.{midOf, putMid}
 use Rattle.octets.specs.Number.{four}
@@ -12,7 +12,7 @@ use Rattle.octets.specs.Laid.{laidIfRoom, laidCount}
 use Rattle.octets.specs.Lays.{Lays}
 use Rattle.octets.proofs.Buffers.{laid-none, count-none}
 use Rattle.octets.proofs.Laying.{lays-none, lays-byte, lays-leaf, lays-counted, counted-lays}
-use Rattle.message.specs.Frame.{sizeBytes, partBytes}
+use Rattle.message.specs.Frame.{partBytes}
 
 -- what is told and what is left
 abbrev pub Written : List ℕ → List ℕ → List ℕ → ℕ → Type 0

@@ -12,7 +12,7 @@ use lib.Seq.{length-take-le, take-append-add, take-at, drop-at, drop-drop, take-
 use borrow.Rule.Slice.PartAt.{part-to-end}
 use borrow.Rule.Slice.PartMut.{midOf, putMid}
 use Rattle.octets.specs.Number.{four, rowBytes}
-use Rattle.octets.specs.Laid.{laid, laidIfRoom}
+use Rattle.octets.specs.Laid.{laidIfRoom}
 use Rattle.octets.proofs.Buffers.{laid-room, length-laid}
 use Rattle.octets.specs.Lays.{Lays}
 use Rattle.octets.proofs.Laying.{lays-leaf, lays-length}

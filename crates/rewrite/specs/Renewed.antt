@@ -1,7 +1,7 @@
 -- What a frame's buffer holds after its body has changed: "every byte behind the new frame is zero". Each is the buffer as it was where the change
 -- has no room. Assumes nothing.
 use Prim.Native.Nat.{ℕ, _+_, _-_}
-use mathlib.Core.Bool.{Bool, cond, _&&_}
+use mathlib.Core.Bool.{cond, _&&_}
 use mathlib.Core.List.{List, _++_}
 use lib.Dec.{leb, ltb}
 use lib.ListN.{length, take, drop, replicate}

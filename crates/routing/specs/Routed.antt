@@ -1,7 +1,7 @@
 -- One broker's step on a message. "Answers: 1 delivered, with the record's number, counted from 0; 2 forward, with the rank; 3 error reply made, with
 -- the error number; 4 silenced (an error was due, noresponse set), with that number; 5 home." Assumes nothing.
 use Prim.Native.Nat.{ℕ}
-use mathlib.Core.Bool.{Bool, cond}
+use mathlib.Core.Bool.{cond}
 use mathlib.Core.List.{List}
 use lib.Dec.{eqb}
 use Rattle.message.specs.declared.Refusal.the-variants.{NoForwarding, NotRouted, NoNeighbour}

@@ -13,7 +13,7 @@ use Rattle.octets.specs.Number.{four, Bytes}
 use Rattle.octets.proofs.Numbers.{four-number}
 use Rattle.records.specs.Below.{allBelow, noneTwice}
 use Rattle.records.specs.Bytes.{sameBytes}
-use Rattle.octets.proofs.Truth.{outcome, and-left as left, and-right as right, and-both as both, and-left-fails as left-fails, and-right-fails as right-fails, clash}
+use Rattle.octets.proofs.Truth.{outcome, and-left as left, and-right as right, and-both as both, and-right-fails as right-fails, clash}
 use Rattle.records.proofs.Below.{all-at}
 use Rattle.records.proofs.Bytes.{same-refl, same-equal}
 use Rattle.tree.specs.Tree.{ranksIn}

@@ -17,7 +17,7 @@ use Rattle.octets.proofs.Rows.{row-length, row-append}
 use Rattle.octets.proofs.Laying.{lays-none, lays-leaf, lays-length}
 use Rattle.message.specs.declared.Refusal.{Refusal}
 use Rattle.message.specs.declared.Refusal.the-variants.{ShortOutput}
-use Rattle.message.specs.Answer.{Answer, refused, answered}
+use Rattle.message.specs.Answer.{refused, answered}
 use Rattle.message.specs.Message.{Message}
 use Rattle.message.specs.Reading.{readingOf}
 use Rattle.message.proofs.RoundTrip.{write-back}

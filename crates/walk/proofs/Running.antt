@@ -1,8 +1,8 @@
 -- A run of steps is a walk, and a walk is a run: 65 steps are enough for whatever the buffer holds.
 -- Assumes nothing.
 use mathlib.Core.Path.{_≡_, refl, sym, ap, _∙_, subst, subst⁻¹}
-use mathlib.Core.Bool.{true, false}
-use mathlib.Core.Logic.{_⊎_, inl, inr, ⊎-elim}
+use mathlib.Core.Bool.{false}
+use mathlib.Core.Logic.{_⊎_, ⊎-elim}
 use Prim.Native.Nat.{ℕ, zero, suc, _+_, _-_, _<_, _≤_}
 use mathlib.Core.List.{List, [], _∷_}
 use native.Mathlib.Omega.{arith}
@@ -19,7 +19,7 @@ use Rattle.identities.specs.Identities.{identityAt}
 use Rattle.rewrite.specs.Renewed.{cleared}
 use Rattle.routing.specs.declared.Broker.{Broker}
 use Rattle.routing.specs.Routed.{Tables, Outcome, delivered, forwarded, replied, silenced, home}
-use Rattle.broker.specs.Step.{stepOf, leftAfter, leftBy}
+use Rattle.broker.specs.Step.{stepOf, leftBy}
 use Rattle.broker.proofs.Passing.{step-took}
 use Rattle.broker.proofs.Keeping.{Sound, sound-read, read-cleared, passes, pushed-few}
 use Rattle.broker.proofs.Forwarding.{PushedOn, PoppedOn, goes-on, on-sound}

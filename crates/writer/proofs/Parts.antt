@@ -5,13 +5,9 @@ use mathlib.Core.Bool.{Bool, true}
 use Prim.Native.Nat.{ℕ, _+_, _-_, _<_}
 use mathlib.Core.List.{List, [], _∷_, _++_, append-nil}
 use native.Mathlib.Omega.{arith}
-use lib.ListN.{length, take, drop, replicate, length-drop}
+use lib.ListN.{length, take, drop, length-drop}
 use lib.Seq.{drop-drop, take-at}
-use Rattle.octets.specs.Number.{rowBytes}
-use Rattle.octets.specs.Laid.{laidIfRoom}
 use Rattle.octets.specs.Lays.{Lays}
-use Rattle.message.specs.declared.Header.{Header}
-use Rattle.message.specs.Header.{headerBytes}
 use Rattle.message.specs.Frame.{partBytes, joined, partIf, groupIf}
 use Rattle.message.specs.Writing.{cut}
 use Rattle.fitting.proofs.Cuts.{cut-more}

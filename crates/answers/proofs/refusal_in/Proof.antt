@@ -2,7 +2,7 @@
 -- Assumes nothing.
 use borrow.Author.Needs.{needs}
 use native.Mathlib.Omega.{arith}
-use mathlib.Core.Path.{_≡_, sym, ap}
+use mathlib.Core.Path.{sym, ap}
 use Rattle.answers.specs.Steps.{refusalIn}
 use Rattle.answers.proofs.refusal_in.Statement.{statement}
 use Rattle.answers.proofs.refusal_in.Tie as tie

@@ -1,7 +1,7 @@
 -- `answers::step_row` meets its contract.
 -- Assumes nothing.
 use borrow.Author.Needs.{needs}
-use mathlib.Core.Path.{_≡_, sym, ap, _∙_}
+use mathlib.Core.Path.{sym, ap}
 use Rattle.broker.specs.declared.Stepped.{Stepped}
 use Rattle.answers.specs.Steps.{stepRow}
 use Rattle.answers.proofs.step_row.Statement.{statement}

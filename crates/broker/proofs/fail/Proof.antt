@@ -10,7 +10,6 @@ use lib.ListN.{length}
 use Rattle.message.specs.declared.Header.{Header}
 use Rattle.message.specs.Header.{noResponse}
 use Rattle.body.specs.declared.Frame.{Frame}
-use Rattle.routing.specs.declared.Broker.{Broker}
 use Rattle.routing.specs.Messages.{replyHeader}
 use Rattle.rewrite.specs.Renewed.{withHeader}
 use Rattle.broker.specs.Working.{heldIn, Lies}

@@ -1,6 +1,6 @@
 -- `hops::is_neighbour` meets its contract.
 -- Assumes nothing.
-use mathlib.Core.Path.{sym, _∙_}
+use mathlib.Core.Path.{sym}
 use native.Mathlib.Omega.{arith}
 use Rattle.hops.proofs.Towards.{outside-neighbour, neighbour-outside, parent-neighbour, other-neighbour}
 use borrow.Author.Needs.{needs}

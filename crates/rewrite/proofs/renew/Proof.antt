@@ -1,7 +1,6 @@
 -- `rewrite::renew` meets its contract.
 -- Assumes nothing.
 use borrow.Author.Needs.{needs}
-use native.Mathlib.Omega.{arith}
 use Rattle.rewrite.proofs.Renewing.{renewed-is}
 use Rattle.rewrite.proofs.renew.Statement.{statement}
 use Rattle.rewrite.proofs.renew.Tie as tie

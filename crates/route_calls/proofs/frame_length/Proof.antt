@@ -1,7 +1,7 @@
 -- `route_calls::frame_length` meets its contract.
 -- Assumes nothing.
 use borrow.Author.Needs.{needs}
-use mathlib.Core.Path.{_≡_, ap, _∙_}
+use mathlib.Core.Path.{ap, _∙_}
 use Prim.Native.Nat.{ℕ, _+_}
 use Rattle.octets.proofs.Numbers.{number-at}
 use Rattle.route_calls.proofs.frame_length.Statement.{statement}

@@ -7,7 +7,7 @@ use Prim.Native.Nat.{ℕ}
 use Rattle.records.specs.declared.Found.the-variants.{At}
 use Rattle.identities.specs.Identities.{brokerOf}
 use Rattle.routing.specs.declared.Back.{Back}
-use Rattle.routing.specs.declared.Back.the-variants.{Home, To, Stray}
+use Rattle.routing.specs.declared.Back.the-variants.{To, Stray}
 use Rattle.routing.specs.Responses.{towardsBroker}
 use Rattle.routing.proofs.Ways.{broker-no-rank, broker-near, broker-far}
 use Rattle.routing.proofs.response_way.Statement.{statement}

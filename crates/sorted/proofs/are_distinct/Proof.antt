@@ -12,7 +12,6 @@ use lib.ListN.{length, getD, length-replicate}
 use Rattle.records.specs.Below.{noneTwice}
 use Rattle.records.specs.Bytes.{sameBytes}
 use Rattle.records.specs.Records.{recordAt}
-use Rattle.records.specs.Working.{fresh}
 use Rattle.records.proofs.Below.{none-none, none-more, all-fails}
 use Rattle.records.proofs.Records.{record-fits, distinct-many, distinct-short, distinct-twice, distinct-all}
 use Rattle.sorted.specs.Order.{Ordered}
