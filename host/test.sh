@@ -138,8 +138,8 @@ writes 'log, as in paper 01' "$log" --type request --topic log --matchtag 1
 writes 'log, every option written out' "$log" --type request --topic log --matchtag 1 --nodeid any --userid unknown --rolemask 0
 writes 'log, by raw type and flags' "$log" --type-number 1 --flags 09 --first 0xFFFFFFFF --second 1 --topic log
 
-dumps 'dump of control' "$control" 'frame         29 bytes
-type          8 control
+# What is shown of each behind the line with its length.
+control_shown='type          8 control
 flags         00
 userid        4294967295 unknown
 rolemask      00000000
@@ -149,9 +149,7 @@ routes        0
 topic         none
 payload       none
 header        20 bytes, from byte 9'
-
-dumps 'dump of log' "$log" 'frame         35 bytes
-type          1 request
+log_shown='type          1 request
 flags         09 topic route
 userid        4294967295 unknown
 rolemask      00000000
@@ -162,6 +160,11 @@ delimiter     0 bytes, from byte 9
 topic         "log" (3 bytes), from byte 10
 payload       none
 header        20 bytes, from byte 15'
+
+dumps 'dump of control' "$control" "frame         29 bytes
+$control_shown"
+dumps 'dump of log' "$log" "frame         35 bytes
+$log_shown"
 
 bytes 32736 >"$room/most"
 bytes 32737 >"$room/over"

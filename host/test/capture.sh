@@ -6,28 +6,7 @@ unhex "$event" >"$room/event"
 
 # The last line of a dump with these words is the stop with this text.
 stops() { # LABEL STATUS TEXT WORDS...
-    local label=$1 want=$2 text=$3
-    shift 3
-    run dump "$@"
-    [ "$status" -eq "$want" ] && [ "$(tail -n 1 "$room/out")" = "stop          $text" ] && [ ! -s "$room/err" ]
-    report $? "$label"
-}
-
-# Its output has each of these lines.
-has_lines() { # LABEL STATUS WORDS -- LINE...
-    local label=$1 want=$2 words=() good=0 line
-    shift 2
-    while [ "$1" != -- ]; do
-        words+=("$1")
-        shift
-    done
-    shift
-    run dump "${words[@]}"
-    [ "$status" -eq "$want" ] && [ ! -s "$room/err" ] || good=1
-    for line in "$@"; do
-        grep -qxF -- "$line" "$room/out" || good=1
-    done
-    report "$good" "$label"
+    part='tail -n 1' shows "$1" "$2" "stop          $3" "${@:4}"
 }
 
 # What is told of a tail of so many bytes of the request for "log".
@@ -46,31 +25,12 @@ control_line='frame 0          29 bytes, from byte 0         control   control t
 log_line='frame 1          35 bytes, from byte 29        request   "log", nodeid any, matchtag 1, no payload'
 response_line='frame 2         119 bytes, from byte 64        response  "kvs.\"get", errnum 38 ENOSYS, matchtag 7, payload 2 bytes, 2 routes, noresponse, upstream, private, streaming'
 event_line='frame 3          35 bytes, from byte 183       event     "up\xFF", sequence 5, payload 0 bytes'
-two_frames='frame 0       29 bytes, from byte 0 of the capture
-type          8 control
-flags         00
-userid        4294967295 unknown
-rolemask      00000000
-control type  2
-status        3
-routes        0
-topic         none
-payload       none
-header        20 bytes, from byte 9
+two_frames="frame 0       29 bytes, from byte 0 of the capture
+$control_shown
 
 frame 1       35 bytes, from byte 29 of the capture
-type          1 request
-flags         09 topic route
-userid        4294967295 unknown
-rolemask      00000000
-nodeid        4294967295 any
-matchtag      1
-routes        0
-delimiter     0 bytes, from byte 9
-topic         "log" (3 bytes), from byte 10
-payload       none
-header        20 bytes, from byte 15
-'
+$log_shown
+"
 head -c 64 "$room/four" >"$room/two"
 shows 'two frames, and nothing behind them' 0 "$two_frames
 stop          2 frames, 64 bytes, and nothing behind them" "$room/two"

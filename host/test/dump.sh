@@ -1,25 +1,35 @@
 # Tests of `flux_frame dump`, and of what its options and outputs have in common with write. host/test.sh
 # reads this file: its functions and its words are used here.
 
-# The dump of these bytes is refused, and has each of the lines, as a part of the output, in it.
-dump_tells() { # LABEL HEX LINE...
-    local label=$1 line good=0
-    unhex "$2" >"$room/in"
+# The dump with these words has this status, and each of the lines in its output.
+has_lines() { # LABEL STATUS WORDS -- LINE...
+    local label=$1 want=$2 words=() good=0 line
     shift 2
-    run dump "$room/in"
-    [ "$status" -eq 1 ] && [ ! -s "$room/err" ] || good=1
+    while [ "$1" != -- ]; do
+        words+=("$1")
+        shift
+    done
+    shift
+    run dump "${words[@]}"
+    [ "$status" -eq "$want" ] && [ ! -s "$room/err" ] || good=1
     for line in "$@"; do
         grep -qxF -- "$line" "$room/out" || good=1
     done
     report "$good" "$label"
 }
 
-# The dump with these words has this status and is exactly this text.
+# The dump of these bytes is refused, and has each of the lines.
+dump_tells() { # LABEL HEX LINE...
+    unhex "$2" >"$room/in"
+    has_lines "$1" 1 "$room/in" -- "${@:3}"
+}
+
+# The dump with these words has this status and is exactly this text; or that part of it is, which the command in part prints.
 shows() { # LABEL STATUS TEXT WORDS...
     local label=$1 want=$2 text=$3
     shift 3
     run dump "$@"
-    [ "$status" -eq "$want" ] && [ "$(cat "$room/out")" = "$text" ] && [ ! -s "$room/err" ]
+    [ "$status" -eq "$want" ] && [ "$(${part:-cat} "$room/out")" = "$text" ] && [ ! -s "$room/err" ]
     report $? "$label"
 }
 
