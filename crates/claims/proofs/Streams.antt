@@ -1,6 +1,6 @@
 -- The claim of specs/Streams.antt: the entries of the list are the run of frames that the stream is.
 -- Assumes nothing.
-use mathlib.Core.Path.{_≡_, sym, ap, _∙_, subst⁻¹}
+use mathlib.Core.Path.{_≡_, refl, sym, ap, _∙_, subst⁻¹}
 use Prim.Native.Nat.{ℕ, zero, suc, _+_, _-_, _*_, _/_, _<_, _≤_}
 use mathlib.Core.List.{List, _++_}
 use native.Mathlib.Omega.{arith}
@@ -11,13 +11,15 @@ use Rattle.octets.specs.Laid.{laid}
 use Rattle.octets.proofs.Numbers.{bytes-take}
 use Rattle.octets.proofs.Rows.{row-number, row-length}
 use Rattle.message.specs.Refusals.{numberOf}
+use Rattle.message.specs.Answer.{answered}
+use Rattle.message.specs.Message.{Message}
 use Rattle.message.specs.Reading.{readingOf}
 use Rattle.message.proofs.Answers.{number-range}
 use Rattle.message.proofs.Lists.{each-at}
 use Rattle.body.specs.Places.{placesOf, stretch}
 use Rattle.stream.specs.Stream.{Place, Stream, streamOf, listRow}
 use Rattle.stream.proofs.Streaming.{list-length}
-use Rattle.stream.proofs.Runs.{Stops, stream-stops, bound, bound-end, lengthOf, start-listed, length-listed, run-first, run-next, run-bound, run-taken, run-within, run-each}
+use Rattle.stream.proofs.Runs.{Stops, stream-stops, bound, bound-end, lengthOf, start-listed, length-listed, run-first, run-next, run-bound, run-taken, taken-whole, run-within, run-each}
 use Rattle.calls.specs.Calls.{streamNumbers}
 use Rattle.claims.specs.Records.{numberIn}
 use Rattle.claims.specs.Streams.{seen, entriesIn, refusalIn, stopIn, startAt, lengthAt, framesAt, AcceptedAt, StoppedBy, FramesOf, StreamIsTheInput}
@@ -39,7 +41,7 @@ module _ (bytes : List ℕ) (known : Bytes bytes) (list row : List ℕ) where
   short : (length input ≤ 1048576) × (length input ≤ length bytes)
   short = (omega (arith, length-take 1048576 bytes), omega (arith, length-take 1048576 bytes))
 
-  far : (8 * length ps ≤ s .stop) × (s .stop ≤ length input)
+  far : (29 * length ps ≤ s .stop) × (s .stop ≤ length input)
   far = let w = run-within input (bytes-take 1048576 bytes known) 0 ps (s .stop) (omega arith) (stops .run) in
       (omega (arith, w .0), w .1)
 
@@ -108,6 +110,12 @@ module _ (bytes : List ℕ) (known : Bytes bytes) (list row : List ℕ) where
         full = λ m e. (ap numberOf (stops .full e .0), omega (arith, stops .full e .1));
       }
 
+  -- with room for 36,157 entries a stream cannot stop at a good frame: there would be 36,158 of 29 bytes each
+  enough : 289256 ≤ length list → (m : Message) → readingOf (drop (s .stop) input) ≡ answered m → ⊥
+  enough h m e =
+      let w = taken-whole input (bytes-take 1048576 bytes known) (s .stop) (placesOf m .taken) (far .1) (record { message = m; read = e; took = refl }) in
+      omega (arith, w .0, w .1, far .0, short .0, stops .full e .1)
+
   frames : FramesOf bytes list filled told
   frames =
       let size : length (rowBytes (listRow ps)) ≡ 8 * length ps = omega (arith, row-length (listRow ps), list-length ps) in
@@ -118,6 +126,7 @@ module _ (bytes : List ℕ) (known : Bytes bytes) (list row : List ℕ) where
         joined = rw (entries-told, stop-told) (joined (length ps) (omega arith) ∙ ap (λ (k : ℕ). take k bytes) (bound-end ps (s .stop)));
         within = rw stop-told (far .1);
         stopped = rw (entries-told, stop-told, refusal-told) stopped;
+        enough = λ h m e. enough h m (rw stop-told at e);
         tail = rw entries-told (drop-at (rowBytes (listRow ps)) (drop (length (rowBytes (listRow ps))) list) (8 * length ps) size ∙ ap (λ (k : ℕ). drop k list) size);
       }
 

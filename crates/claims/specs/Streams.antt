@@ -54,6 +54,10 @@ pub record StoppedBy (bytes : List ℕ) (room stop number : ℕ) : Type 0 where
   pub unread : (r : Refusal) → readingOf (drop stop bytes) ≡ refused r → number ≡ numberOf r
   pub full : (m : Message) → readingOf (drop stop bytes) ≡ answered m → (number ≡ numberOf ShortOutput) × (room < entrySize)
 
+-- the header's LAMPREYCOIL_LIST_MAX: as many entries as frames of 29 bytes find place in 1,048,576, and no frame is shorter
+abbrev pub enoughList : ℕ
+enoughList = 289256
+
 -- what lampreycoil_read_stream left in its list and its record
 pub record FramesOf (bytes list filled row : List ℕ) : Type 0 where
   -- the entries lie in the list
@@ -65,6 +69,8 @@ pub record FramesOf (bytes list filled row : List ℕ) : Type 0 where
   pub joined : framesAt bytes filled (entriesIn row) ≡ take (stopIn row) bytes
   pub within : stopIn row ≤ length (seen bytes)
   pub stopped : StoppedBy (seen bytes) (length list - entrySize * entriesIn row) (stopIn row) (refusalIn row)
+  -- a list of so many bytes is never too short: no good frame is left at the stop
+  pub enough : enoughList ≤ length list → (m : Message) → readingOf (drop (stopIn row) (seen bytes)) ≡ answered m → ⊥
   -- the list's bytes behind the entries stay
   pub tail : drop (entrySize * entriesIn row) filled ≡ drop (entrySize * entriesIn row) list
 

@@ -12,10 +12,12 @@ use lib.Seq.{length-take-le, take-add, take-append-seam}
 use Rattle.octets.specs.Number.{four, Bytes}
 use Rattle.octets.proofs.Numbers.{number-four, four-number, bytes-drop}
 use Rattle.message.specs.Answer.{answered, andThen}
+use Rattle.message.specs.Header.{headerBytes}
 use Rattle.message.specs.Message.{Message}
-use Rattle.message.specs.Frame.{frameStart, framed, bodyOf, frameOf}
+use Rattle.message.specs.Frame.{joined, routing, topicPart, payloadPart, partsOf, frameStart, framed, bodyOf, frameOf}
 use Rattle.message.specs.Reading.{partsIn, judged, startsRight, bodyLength, readingOf}
 use Rattle.message.proofs.Headers.{four-places}
+use Rattle.message.proofs.Parts.{joined-append}
 use Rattle.octets.proofs.Truth.{and-left, and-right}
 use Rattle.message.proofs.Answers.{passed, pass}
 
@@ -23,6 +25,17 @@ use Rattle.message.proofs.Answers.{passed, pass}
 pub frame-long : (m : Message) → length (frameOf m) ≡ 8 + length (bodyOf m)
 unfolding frameOf
 frame-long m = omega arith
+
+-- and none is shorter than that of a control message, whose body is a header and its size
+pub frame-least : (m : Message) → 29 ≤ length (frameOf m)
+unfolding bodyOf partsOf headerBytes
+frame-least m =
+    let header = headerBytes (m .header) in
+    let before = routing m ++ (topicPart m ++ payloadPart m) in
+    let parts : partsOf m ≡ before ++ (header ∷ []) = simp append-assoc in
+    let body : length (bodyOf m) ≡ length (joined before) + 21 =
+    ap (λ (ps : List (List ℕ)). length (joined ps)) parts ∙ ap length (joined-append before (header ∷ [])) ∙ length-append (joined before) (joined (header ∷ [])) in
+    omega (arith, frame-long m, body)
 
 -- ---- a frame read
 

@@ -121,12 +121,12 @@ run-taken b at (p ∷ ps) stop (suc i) r h = run-taken b (at + p .len) ps stop i
 -- ---- how far a run goes
 
 module _ (b : List ℕ) (known : Bytes b) where
-  -- a frame takes eight bytes or more of what remains
-  taken-whole : (at len : ℕ) → at ≤ length b → Taken b at len → (8 ≤ len) × (at + len ≤ length b)
+  -- a frame takes 29 bytes or more of what remains
+  pub taken-whole : (at len : ℕ) → at ≤ length b → Taken b at len → (29 ≤ len) × (at + len ≤ length b)
   taken-whole at len h t = let w = whole-frame (drop at b) (t .message) (bytes-drop at b known) (t .read) in
-      (omega (arith, w .some, t .took), omega (arith, w .within, t .took, length-drop at b))
+      (omega (arith, w .least, t .took), omega (arith, w .within, t .took, length-drop at b))
 
-  pub run-within : (at : ℕ) (ps : List Place) (stop : ℕ) → at ≤ length b → Run b at ps stop → (at + 8 * length ps ≤ stop) × (stop ≤ length b)
+  pub run-within : (at : ℕ) (ps : List Place) (stop : ℕ) → at ≤ length b → Run b at ps stop → (at + 29 * length ps ≤ stop) × (stop ≤ length b)
   run-within at [] stop h r = (omega (arith, r), omega (arith, r))
   run-within at (p ∷ ps) stop h r =
       let w = taken-whole at (p .len) h (r .1) in

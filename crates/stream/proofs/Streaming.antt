@@ -20,6 +20,7 @@ use Rattle.message.specs.declared.Refusal.the-variants.{ShortOutput}
 use Rattle.message.specs.Answer.{refused, answered}
 use Rattle.message.specs.Message.{Message}
 use Rattle.message.specs.Reading.{readingOf}
+use Rattle.message.proofs.Frames.{frame-least}
 use Rattle.message.proofs.RoundTrip.{write-back}
 use Rattle.body.specs.declared.Frame.{Frame}
 use Rattle.body.specs.Places.{placesOf}
@@ -42,15 +43,15 @@ pub stream-more : (room at : ℕ) (rest : List ℕ) {m : Message} → readingOf 
 unfolding streamFrom
 stream-more room at rest e = ap (afterReading at (λ (taken : ℕ). frameThen at taken (streamFrom room (at + taken) (drop taken rest)))) e
 
--- a frame that is read has at least its eight bytes in front, and lies within what it is read from
+-- a frame that is read is no shorter than a control message's, and lies within what it is read from
 pub record Whole (b : List ℕ) (taken : ℕ) : Type 0 where
-  pub some : 8 ≤ taken
+  pub least : 29 ≤ taken
   pub within : taken ≤ length b
 
 pub whole-frame : (b : List ℕ) (m : Message) → Bytes b → readingOf b ≡ answered m → Whole b (placesOf m .taken)
 unfolding placesOf
 whole-frame b m bytes e = let w = write-back b m bytes e in
-    record { some = omega (arith, w .taken); within = w .within }
+    record { least = frame-least m; within = w .within }
 
 -- ---- the numbers of the list
 

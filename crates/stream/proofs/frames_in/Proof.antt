@@ -126,7 +126,7 @@ add-start c = let s = c .before .before .before in
 
 loop-less : tie.Need-loop-less Inv-loop μ-loop
 loop-less c = let s = c .before .before .before in
-    omega (arith, frame s .some, frame s .within, length-drop (v s .loop .start) (bytes (v s)))
+    omega (arith, frame s .least, frame s .within, length-drop (v s .loop .start) (bytes (v s)))
 
 loop-again : tie.Need-loop-again Inv-loop μ-loop
 loop-again c = let s = c .before .before .before in
