@@ -1,4 +1,4 @@
-# Lampreycoil: framed Flux messages, the tables of their brokers, a broker's step and the walk, proved. `make` lists what can be made.
+# Lampreycoil: framed Flux messages and streams of them, the tables of their brokers, a broker's step and the walk, proved. `make` lists what can be made.
 
 CC       = gcc
 ARCHIVE  = target/staticlib/liblampreycoil.a

@@ -8,7 +8,7 @@
 #include <string.h>
 
 #include "files.h"
-#include "version.h"
+#include "lampreycoil.h"
 
 /* Ends the text that is shown in place of a command. */
 static int shown(void)
@@ -24,7 +24,7 @@ static int show_if_asked(const char *word)
         return shown();
     }
     if (strcmp(word, "--version") == 0) {
-        printf("%s %s\n", program, HOST_VERSION);
+        printf("%s %s\n", program, LAMPREYCOIL_VERSION);
         return shown();
     }
     return 0;

@@ -128,6 +128,9 @@ n8='a route not of the form, or above 64'
 n9='topic not of the form'
 n10="request nodeid 4294967294; event's unused field not zero"
 
+# What the programs tell is the header's version.
+version=$(sed -n 's/^.define LAMPREYCOIL_VERSION "\(.*\)"$/\1/p' include/lampreycoil.h)
+
 # ---- the bytes of paper 01
 
 control='FF EE 00 12 00 00 00 15 14 8E 01 08 00 FF FF FF FF 00 00 00 00 00 00 00 02 00 00 00 03'

@@ -2,7 +2,8 @@
  * lampreycoil.h: the C calls of Lampreycoil, which reads and writes framed Flux messages (RFC 3),
  * lists the frames of a stream, checks the tables of the brokers that pass them on, makes one
  * broker's step, and plays a whole walk.
- * The functions are in the archive liblampreycoil.a. Usable from C99 and from C++.
+ * The functions are in the archive liblampreycoil.a. Usable from C99 and from C++. Files that are
+ * named below are in the sources; an install has FORMAT.md in share/doc/lampreycoil.
  *
  * How every call works
  *
@@ -76,7 +77,9 @@
 #include <stdint.h>
 
 /* The version of this header, and of the archive that comes with it. */
-#define LAMPREYCOIL_VERSION "0.1.0"
+#define LAMPREYCOIL_VERSION "0.2.0-dev"
+/* The same for the preprocessor, without what follows a hyphen: 10000 * 0 + 100 * 2 + 0. */
+#define LAMPREYCOIL_VERSION_NUMBER 200
 
 /* Marks a function whose answer has to be looked at. */
 #if defined(__GNUC__)
@@ -291,24 +294,28 @@ uint32_t lampreycoil_read(const uint8_t *bytes, size_t bytes_length, uint8_t *re
  * LAMPREYCOIL_ENTRY_SIZE bytes goes to list: where the frame starts and how long it is (4 bytes
  * each, big endian; lampreycoil_entry() reads them), so that lampreycoil_read takes it from there.
  * It goes on until the first refusal, and writes to record, which takes LAMPREYCOIL_STREAM_RECORD
- * bytes, how many entries there are, which refusal stopped it, and where that frame starts. It is
- * what lampreycoil_read says when it is called again on what remains. Bytes of list behind the
- * entries stay as they were.
+ * bytes, how many entries there are, which refusal stopped it, and where that frame starts. List
+ * and stop are what lampreycoil_read says when it is called again and again on what remains. Bytes
+ * of list behind the entries stay as they were.
  *
  * A stream always stops with some refusal:
- * - 1 where nothing remains, or the start of a frame: the rest of it is still to come. Keep the
- *   bytes from there on, and read more behind them.
+ * - 1 where nothing remains, or too little: fewer than 8 bytes, whatever they are, or fewer than
+ *   the frame's front asks for; its parts are looked at only when all of it is there. Keep the
+ *   bytes from there on, and read more behind them. (Of more than LAMPREYCOIL_STREAM_MAX bytes: see
+ *   below.)
  * - 11 where list has no room for an entry more and the next frame is good: go on from there with
  *   another call. A frame that is not good is told as what it is, whether there is room or not.
- * - Any other refusal of lampreycoil_read is that frame's. Where the next one starts is not known.
+ * - Any other refusal of lampreycoil_read is that frame's. After 2 and 3 nothing tells where the
+ *   next one starts; after 4 to 10 only this frame's own front does (lampreycoil_frame_length).
  *
- * Bytes past the first LAMPREYCOIL_STREAM_MAX count as absent: a good frame that crosses that place
- * is 1, though the rest of it is there, and the next call begins at its start. No frame is shorter
- * than LAMPREYCOIL_FRAME_MIN bytes, so a list of LAMPREYCOIL_LIST_MAX bytes has room for whatever
- * bytes hold.
+ * Bytes past the first LAMPREYCOIL_STREAM_MAX count as absent: a frame that crosses that place is 1
+ * at its start, though the rest of it is there. So where bytes_length is above
+ * LAMPREYCOIL_STREAM_MAX, do not wait for more after 1: call again from the stop, which is then
+ * never 0. No frame is shorter than LAMPREYCOIL_FRAME_MIN bytes, so a list of LAMPREYCOIL_LIST_MAX
+ * bytes has room for whatever bytes hold.
  *
- * The refusal that stopped it is its answer: the call itself returns 0, or 11 where record is too
- * short, and then nothing is written.
+ * What stopped it stands in record alone, and is no refusal of the call: the call returns 0, or 11
+ * where record is too short, and then nothing is written.
  */
 LAMPREYCOIL_CHECKED
 uint32_t lampreycoil_read_stream(const uint8_t *bytes, size_t bytes_length, uint8_t *list,

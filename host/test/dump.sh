@@ -156,10 +156,10 @@ shows 'the JSON of a refused frame' 1 '{"accepted":false,"input":31,"refusal":9,
 # ---- options, and outputs that cannot be written
 
 run --version
-[ "$status" -eq 0 ] && grep -qx 'flux_frame [0-9]*\.[0-9]*\.[0-9]*' "$room/out"
+[ "$status" -eq 0 ] && [ -n "$version" ] && grep -qxF "flux_frame $version" "$room/out"
 report $? '--version'
 run dump --json --version
-[ "$status" -eq 0 ] && grep -qx 'flux_frame [0-9.]*' "$room/out"
+[ "$status" -eq 0 ] && grep -qxF "flux_frame $version" "$room/out"
 report $? 'dump --version'
 writes 'log, each value in its option' "$log" --type=request --topic=log --matchtag=1 --nodeid=any --
 cp "$room/log" "$room/--all"

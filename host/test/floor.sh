@@ -254,7 +254,7 @@ floor show "$example" --help
 [ "$status" -eq 0 ] && grep -q -- '--enter RANK' "$room/out" && ! grep -q '^rank ' "$room/out"
 report $? 'flux_floor show --help, behind a word'
 floor --version
-[ "$status" -eq 0 ] && grep -qx 'flux_floor [0-9.]*' "$room/out"
+[ "$status" -eq 0 ] && grep -qxF "flux_floor $version" "$room/out"
 report $? 'flux_floor --version'
 floor </dev/null
 [ "$status" -eq 2 ] && [ ! -s "$room/out" ] && grep -q 'flux_floor check FLOOR' "$room/err"

@@ -289,7 +289,17 @@ static void take_words(void)
            "each error has words");
     report(strcmp(lampreycoil_error_words(38), lampreycoil_error_words(113)) != 0,
            "and words of its own");
+}
+
+/* The version is said as text and as a number, which must not drift apart. */
+static void take_version(void)
+{
+    unsigned major = 0, minor = 0, patch = 0;
+
     report(strcmp(lampreycoil_version(), LAMPREYCOIL_VERSION) == 0, "the version");
+    report(sscanf(LAMPREYCOIL_VERSION, "%u.%u.%u", &major, &minor, &patch) == 3 &&
+               10000 * major + 100 * minor + patch == LAMPREYCOIL_VERSION_NUMBER,
+           "the version as a number");
 }
 
 int main(void)
@@ -302,5 +312,6 @@ int main(void)
     take_refusals();
     take_lengths();
     take_words();
+    take_version();
     return 0;
 }

@@ -126,7 +126,7 @@ module _ (bytes : List ℕ) (known : Bytes bytes) (list row : List ℕ) where
         joined = rw (entries-told, stop-told) (joined (length ps) (omega arith) ∙ ap (λ (k : ℕ). take k bytes) (bound-end ps (s .stop)));
         within = rw stop-told (far .1);
         stopped = rw (entries-told, stop-told, refusal-told) stopped;
-        enough = λ h m e. enough h m (rw stop-told at e);
+        enough = λ h m e. enough (omega (arith, h)) m (rw stop-told at e);
         tail = rw entries-told (drop-at (rowBytes (listRow ps)) (drop (length (rowBytes (listRow ps))) list) (8 * length ps) size ∙ ap (λ (k : ℕ). drop k list) size);
       }
 
