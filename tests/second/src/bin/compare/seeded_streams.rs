@@ -9,7 +9,7 @@ use crate::draft::frame_of;
 use crate::messages::{right, spoil};
 use crate::seeded::{damage, repair_front, Run};
 use crate::stream_calls::{StreamAnswer, StreamCase};
-use crate::stream_parts::{Stream, LIMIT};
+use crate::stream_parts::{Stream, LIMIT, RECORD};
 use crate::tester::{Expect, Tester};
 
 /// What the streams came to.
@@ -62,8 +62,8 @@ fn seeded_stream(tester: &mut Tester, rng: &mut Rng, count: &mut Count) {
         behind: if rng.once_in(2) { rest } else { &[] },
         list_len: list_len(rng, frames.len()),
         record_len: match rng.once_in(64) {
-            true => rng.below(12),
-            false => rng.between(12, 20),
+            true => rng.below(RECORD),
+            false => rng.between(RECORD, 20),
         },
     };
     // What the frames put there come to; of a spoiled one nobody knows.
@@ -72,7 +72,7 @@ fn seeded_stream(tester: &mut Tester, rng: &mut Rng, count: &mut Count) {
 }
 
 fn check(tester: &mut Tester, case: &StreamCase, right: Option<StreamAnswer>, count: &mut Count) {
-    let short = case.record_len < 12;
+    let short = case.record_len < RECORD;
     let answer = tester.stream(case, Expect::Number(if short { 11 } else { 0 }));
     if short {
         return;

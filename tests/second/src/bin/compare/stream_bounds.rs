@@ -4,10 +4,8 @@
 use crate::draft::Draft;
 use crate::reader_bounds::samples;
 use crate::stream_calls::{StreamCase, StreamTold};
-use crate::stream_parts::{bad_frames, Stream};
+use crate::stream_parts::{bad_frames, Stream, RECORD};
 use crate::tester::Tester;
-
-const RECORD: usize = 12;
 
 pub fn run(tester: &mut Tester) {
     tester.begin_group("stream-bounds");

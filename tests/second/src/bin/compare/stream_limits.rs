@@ -5,7 +5,7 @@ use second::side::LIBRARY;
 
 use crate::draft::Draft;
 use crate::stream_calls::StreamCase;
-use crate::stream_parts::{bad_frames, Stream, LIMIT};
+use crate::stream_parts::{bad_frames, Stream, LIMIT, RECORD};
 use crate::tester::Tester;
 
 const LARGEST: usize = 32_776;
@@ -34,7 +34,7 @@ fn check(
         bytes: &stream.bytes[..len],
         behind: &[],
         list_len,
-        record_len: 12,
+        record_len: RECORD,
     };
     tester.stream_case(label, &case, &stream.told(len));
 }
@@ -191,7 +191,7 @@ fn several_calls(tester: &mut Tester) {
     for list_len in [8, 9, 1000, MOST_LIST] {
         let mut list = vec![0; list_len];
         tester.case("several calls", list_len as u64, 0, |tester| {
-            let (mut start, mut record) = (0, [0; 12]);
+            let (mut start, mut record) = (0, [0; RECORD]);
             let mut lens = Vec::new();
             while start < bytes.len() {
                 let answer = LIBRARY.read_stream(&bytes[start..], &mut list, &mut record);

@@ -5,6 +5,8 @@ use crate::stream_calls::StreamTold;
 
 /// Bytes of a stream past so many count as absent.
 pub const LIMIT: usize = 1_048_576;
+/// Bytes of a stream's record.
+pub const RECORD: usize = 12;
 
 /// A frame that the reader refuses.
 pub struct BadFrame {
