@@ -139,10 +139,11 @@ pub record Plays (t : Tables) (b : Broker) (buffer row : List ℕ) (r : ℕ) (le
 
 -- ---- the stream
 
+-- three numbers
 abbrev pub streamRecord : ℕ
 streamRecord = 12
 
--- how many frames were listed, "which refusal stopped it and where that frame starts"
+-- "how many entries it wrote" (paper 01), "which refusal stopped it and where that frame starts"
 abbrev pub streamNumbers : Stream → List ℕ
 streamNumbers s = length (s .frames) ∷ numberOf (s .stopped) ∷ s .stop ∷ []
 

@@ -17,12 +17,12 @@ use Rattle.message.specs.Reading.{readingOf}
 use Rattle.message.proofs.Answers.{number-range}
 use Rattle.message.proofs.Lists.{each-at}
 use Rattle.body.specs.Places.{placesOf, stretch}
-use Rattle.stream.specs.Stream.{Place, Stream, streamOf, listRow}
+use Rattle.stream.specs.Stream.{Place, Stream, seen, streamOf, listRow}
 use Rattle.stream.proofs.Streaming.{list-length}
-use Rattle.stream.proofs.Runs.{Stops, stream-stops, bound, bound-end, lengthOf, start-listed, length-listed, run-first, run-next, run-bound, run-taken, taken-whole, run-within, run-each}
+use Rattle.stream.proofs.Runs.{Stops, stream-stops, bound, bound-end, lengthOf, start-listed, length-listed, run-first, run-next, run-taken, taken-whole, run-within, run-each}
 use Rattle.calls.specs.Calls.{streamNumbers}
 use Rattle.claims.specs.Records.{numberIn}
-use Rattle.claims.specs.Streams.{seen, entriesIn, refusalIn, stopIn, startAt, lengthAt, framesAt, AcceptedAt, StoppedBy, FramesOf, StreamIsTheInput}
+use Rattle.claims.specs.Streams.{entriesIn, refusalIn, stopIn, startAt, lengthAt, framesAt, AcceptedAt, StoppedBy, FramesOf, StreamIsTheInput}
 
 module _ (bytes : List ℕ) (known : Bytes bytes) (list row : List ℕ) where
   abbrev input : List ℕ
@@ -46,8 +46,8 @@ module _ (bytes : List ℕ) (known : Bytes bytes) (list row : List ℕ) where
       (omega (arith, w .0), w .1)
 
   -- what the call leaves in the list and in the record
-  abbrev filled : List ℕ
-  filled = laid (rowBytes (listRow ps)) list
+  abbrev laidList : List ℕ
+  laidList = laid (rowBytes (listRow ps)) list
 
   abbrev told : List ℕ
   told = laid (rowBytes (streamNumbers s)) row
@@ -65,21 +65,23 @@ module _ (bytes : List ℕ) (known : Bytes bytes) (list row : List ℕ) where
 
   -- ---- the list's
 
-  entry-told : (k : ℕ) → k < 2 * length ps → numberIn filled k ≡ getD (listRow ps) k 0
-  entry-told k h =
-      let in-row : k < length (listRow ps) = omega (arith, list-length ps) in
-      let most = each-at (λ (n : ℕ). n ≤ length input) (listRow ps) k 0 (run-each input (bytes-take 1048576 bytes known) 0 ps (s .stop) (omega arith) (stops .run)) in-row in
-      row-number (listRow ps) (drop (length (rowBytes (listRow ps))) list) k in-row (omega (arith, most, short .0))
+  entry-most : (k : ℕ) → k < 2 * length ps → getD (listRow ps) k 0 ≤ length input
+  entry-most k h =
+      each-at (λ (n : ℕ). n ≤ length input) (listRow ps) k 0 (run-each input (bytes-take 1048576 bytes known) 0 ps (s .stop) (omega arith) (stops .run)) (omega (arith, list-length ps))
 
-  start-told : (i : ℕ) → i < length ps → startAt filled i ≡ bound ps (s .stop) i
+  entry-told : (k : ℕ) → k < 2 * length ps → numberIn laidList k ≡ getD (listRow ps) k 0
+  entry-told k h =
+      row-number (listRow ps) (drop (length (rowBytes (listRow ps))) list) k (omega (arith, list-length ps)) (omega (arith, entry-most k h, short .0))
+
+  start-told : (i : ℕ) → i < length ps → startAt laidList i ≡ bound ps (s .stop) i
   start-told i h = entry-told (2 * i) (omega arith) ∙ start-listed ps (s .stop) i h
 
-  length-told : (i : ℕ) → i < length ps → lengthAt filled i ≡ lengthOf ps i
+  length-told : (i : ℕ) → i < length ps → lengthAt laidList i ≡ lengthOf ps i
   length-told i h = entry-told (2 * i + 1) (omega arith) ∙ length-listed ps i h
 
   -- ---- the frames
 
-  accepted : (i : ℕ) → i < length ps → AcceptedAt input (startAt filled i) (lengthAt filled i)
+  accepted : (i : ℕ) → i < length ps → AcceptedAt input (startAt laidList i) (lengthAt laidList i)
   unfolding placesOf
   accepted i h =
       let t = run-taken input 0 ps (s .stop) i (stops .run) h in
@@ -89,18 +91,18 @@ module _ (bytes : List ℕ) (known : Bytes bytes) (list row : List ℕ) where
         long = t .took ∙ sym (length-told i h);
       }
 
-  joined : (n : ℕ) → n ≤ length ps → framesAt bytes filled n ≡ take (bound ps (s .stop) n) bytes
+  joined : (n : ℕ) → n ≤ length ps → framesAt bytes laidList n ≡ take (bound ps (s .stop) n) bytes
   joined zero h = ap (λ (k : ℕ). take k bytes) (sym (run-first input 0 ps (s .stop) (stops .run)))
   joined (suc n) h =
       let at = bound ps (s .stop) n in
-      ap (λ (xs : List ℕ). xs ++ stretch bytes (startAt filled n) (lengthAt filled n)) (joined n (omega arith))
-      ∙ ap (λ (k : ℕ). take at bytes ++ stretch bytes k (lengthAt filled n)) (start-told n (omega arith))
+      ap (λ (xs : List ℕ). xs ++ stretch bytes (startAt laidList n) (lengthAt laidList n)) (joined n (omega arith))
+      ∙ ap (λ (k : ℕ). take at bytes ++ stretch bytes k (lengthAt laidList n)) (start-told n (omega arith))
       ∙ ap (λ (k : ℕ). take at bytes ++ stretch bytes at k) (length-told n (omega arith))
       ∙ sym (take-add at (lengthOf ps n) bytes) ∙ ap (λ (k : ℕ). take k bytes) (sym (run-next input 0 ps (s .stop) n (stops .run) (omega arith)))
 
-  starts : (i : ℕ) → i < length ps → startAt filled i ≡ length (framesAt bytes filled i)
+  starts : (i : ℕ) → i < length ps → startAt laidList i ≡ length (framesAt bytes laidList i)
   starts i h =
-      let within : bound ps (s .stop) i ≤ length bytes = omega (arith, run-bound input (bytes-take 1048576 bytes known) 0 ps (s .stop) i (omega arith) (stops .run), short .1) in
+      let within : bound ps (s .stop) i ≤ length bytes = omega (arith, entry-most (2 * i) (omega arith), start-listed ps (s .stop) i h, short .1) in
       start-told i h ∙ sym (ap length (joined i (omega arith)) ∙ length-take-le (bound ps (s .stop) i) bytes within)
 
   stopped : StoppedBy input (length list - 8 * length ps) (s .stop) (numberOf (s .stopped))
@@ -116,10 +118,12 @@ module _ (bytes : List ℕ) (known : Bytes bytes) (list row : List ℕ) where
       let w = taken-whole input (bytes-take 1048576 bytes known) (s .stop) (placesOf m .taken) (far .1) (record { message = m; read = e; took = refl }) in
       omega (arith, w .0, w .1, far .0, short .0, stops .full e .1)
 
-  frames : FramesOf bytes list filled told
+  frames : FramesOf bytes list row 0 laidList told
   frames =
       let size : length (rowBytes (listRow ps)) ≡ 8 * length ps = omega (arith, row-length (listRow ps), list-length ps) in
       record {
+        returns = refl;
+        record-tail = drop-at (rowBytes (streamNumbers s)) (drop 12 row) 12 refl;
         fits = rw entries-told (omega (arith, stops .few));
         accepted = λ i h. accepted i (rw entries-told at h);
         starts = λ i h. starts i (rw entries-told at h);
@@ -133,4 +137,6 @@ module _ (bytes : List ℕ) (known : Bytes bytes) (list row : List ℕ) where
 pub stream-is-the-input : (bytes : List ℕ) → Bytes bytes → StreamIsTheInput bytes
 stream-is-the-input bytes known list row r filled listed room reads =
     let does = reads .streams (omega (arith, room)) in
-    subst⁻¹ (λ (xs : List ℕ). FramesOf bytes list xs listed) (does .fills) (subst⁻¹ (λ (xs : List ℕ). FramesOf bytes list (laid (rowBytes (listRow (streamOf (length list) bytes .frames))) list) xs) (does .lists) (frames bytes known list row))
+    let by-return = subst⁻¹ (λ (k : ℕ). FramesOf bytes list row k (laidList bytes known list row) (told bytes known list row)) (does .returns) (frames bytes known list row) in
+    let by-list = subst⁻¹ (λ (xs : List ℕ). FramesOf bytes list row r xs (told bytes known list row)) (does .fills) by-return in
+    subst⁻¹ (λ (xs : List ℕ). FramesOf bytes list row r filled xs) (does .lists) by-list

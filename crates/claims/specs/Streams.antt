@@ -12,13 +12,9 @@ use Rattle.message.specs.Message.{Message}
 use Rattle.message.specs.Frame.{frameOf}
 use Rattle.message.specs.Reading.{readingOf}
 use Rattle.body.specs.Places.{stretch}
-use Rattle.stream.specs.Stream.{mostInput, entrySize}
+use Rattle.stream.specs.Stream.{seen, entrySize}
 use Rattle.calls.specs.Calls.{streamRecord, ReadsStream}
 use Rattle.claims.specs.Records.{numberIn}
-
--- "Bytes past the first 1,048,576 count as absent."
-abbrev pub seen : List ℕ → List ℕ
-seen bytes = take mostInput bytes
 
 -- the call's record: how many frames it listed, the refusal that stopped it, and where that frame starts
 abbrev pub entriesIn : List ℕ → ℕ
@@ -58,8 +54,9 @@ pub record StoppedBy (bytes : List ℕ) (room stop number : ℕ) : Type 0 where
 abbrev pub enoughList : ℕ
 enoughList = 289256
 
--- what lampreycoil_read_stream left in its list and its record
-pub record FramesOf (bytes list filled row : List ℕ) : Type 0 where
+-- what lampreycoil_read_stream returned, and what it left in its list, lent as `list`, and in its record, lent as `lent`
+pub record FramesOf (bytes list lent : List ℕ) (r : ℕ) (filled row : List ℕ) : Type 0 where
+  pub returns : r ≡ 0
   -- the entries lie in the list
   pub fits : entrySize * entriesIn row ≤ length list
   pub accepted : (i : ℕ) → i < entriesIn row → AcceptedAt (seen bytes) (startAt filled i) (lengthAt filled i)
@@ -71,11 +68,12 @@ pub record FramesOf (bytes list filled row : List ℕ) : Type 0 where
   pub stopped : StoppedBy (seen bytes) (length list - entrySize * entriesIn row) (stopIn row) (refusalIn row)
   -- a list of so many bytes is never too short: no good frame is left at the stop
   pub enough : enoughList ≤ length list → (m : Message) → readingOf (drop (stopIn row) (seen bytes)) ≡ answered m → ⊥
-  -- the list's bytes behind the entries stay
+  -- "and bytes behind them stay"
   pub tail : drop (entrySize * entriesIn row) filled ≡ drop (entrySize * entriesIn row) list
+  pub record-tail : drop streamRecord row ≡ drop streamRecord lent
 
 -- of all bytes, every list, and every record with room
 abbrev pub StreamIsTheInput : List ℕ → Type 0
 StreamIsTheInput bytes =
     (list row : List ℕ) (r : ℕ) (filled listed : List ℕ) → streamRecord ≤ length row → ReadsStream bytes list row r filled listed →
-    FramesOf bytes list filled listed
+    FramesOf bytes list row r filled listed

@@ -138,9 +138,3 @@ module _ (b : List ℕ) (known : Bytes b) where
   run-each at (p ∷ ps) stop h r =
       let w = taken-whole at (p .len) h (r .1) in
       (omega (arith, r .0), (omega (arith, w .1), run-each (at + p .len) ps stop (w .1) (r .2)))
-
-  -- no frame starts behind the input's end
-  pub run-bound : (at : ℕ) (ps : List Place) (stop i : ℕ) → at ≤ length b → Run b at ps stop → bound ps stop i ≤ length b
-  run-bound at [] stop i h r = omega (arith, r)
-  run-bound at (p ∷ ps) stop zero h r = omega (arith, r .0)
-  run-bound at (p ∷ ps) stop (suc i) h r = run-bound (at + p .len) ps stop i (taken-whole at (p .len) h (r .1) .1) (r .2)

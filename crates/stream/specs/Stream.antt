@@ -48,20 +48,23 @@ streamFrom (suc room) at rest = afterReading at (λ taken. frameThen at taken (s
 abbrev pub mostInput : ℕ
 mostInput = 1048576
 
+abbrev pub seen : List ℕ → List ℕ
+seen bytes = take mostInput bytes
+
 -- bytes of an entry: "start and length, 4 bytes each"
 abbrev pub entrySize : ℕ
 entrySize = 8
 
 -- the whole stream; room is the list's length
 unfoldable pub streamOf : ℕ → List ℕ → Stream
-streamOf room bytes = streamFrom (room / entrySize) 0 (take mostInput bytes)
+streamOf room bytes = streamFrom (room / entrySize) 0 (seen bytes)
 
 -- the numbers of the list: each frame's start, then its length
 abbrev pub listRow : List Place → List ℕ
 listRow [] = []
 listRow (p ∷ ps) = p .start ∷ p .len ∷ listRow ps
 
--- a stream that comes to s: it says r, and leaves the list so; the bytes behind the entries stay
+-- a stream that comes to s says r, and leaves the list so: "it tells how many entries it wrote, and bytes behind them stay" (paper 01)
 pub record Streams (s : Stream) (list : List ℕ) (r : Stopped) (filled : List ℕ) : Type 0 where
   pub told : r ≡ record { entries = length (s .frames); refusal = s .stopped; start = s .stop }
   pub fills : filled ≡ laid (rowBytes (listRow (s .frames))) list

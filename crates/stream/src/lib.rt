@@ -4,7 +4,7 @@ use message::Refusal;
 ghost use mathlib.Core.Path.{_≡_};
 ghost use Prim.Native.Nat.{min, _/_};
 ghost use lib.ListN.{length};
-ghost use Rattle.stream.specs.Stream.{streamFrom, streamOf, Streams};
+ghost use Rattle.stream.specs.Stream.{mostInput, entrySize, streamFrom, streamOf, Streams};
 
 // Bytes past these count as absent.
 const MOST_INPUT: usize = 1048576;
@@ -21,7 +21,7 @@ pub struct Stopped {
 
 // Lists the frames of an input of any length. Where the list is full, 11 comes only at a frame that is good.
 fn frames_in(bytes: &[u8], list: &mut [u8]) -> Stopped
-    ensures { λ r. ⌜ Streams (streamFrom (length (now (list .entry)) / 8) 0 (now (bytes .entry))) (now (list .entry)) r (now (list .exit)) ⌝ }
+    ensures { λ r. ⌜ Streams (streamFrom (length (now (list .entry)) / entrySize) 0 (now (bytes .entry))) (now (list .entry)) r (now (list .exit)) ⌝ }
 {
     let mut start = 0;
     let mut entries = 0;
@@ -52,9 +52,9 @@ fn frames_in(bytes: &[u8], list: &mut [u8]) -> Stopped
     }
 }
 
-// How many bytes of an input count.
-fn seen(size: usize) -> usize
-    ensures { λ r. ⌜ r ≡ min 1048576 size ⌝ }
+// Where an input of so many bytes ends: what lies behind counts as absent.
+fn end_of_input(size: usize) -> usize
+    ensures { λ r. ⌜ r ≡ min mostInput size ⌝ }
 {
     if MOST_INPUT < size { MOST_INPUT } else { size }
 }
@@ -63,6 +63,6 @@ fn seen(size: usize) -> usize
 pub fn list_frames(bytes: &[u8], list: &mut [u8]) -> Stopped
     ensures { λ r. ⌜ Streams (streamOf (length (now (list .entry))) (now (bytes .entry))) (now (list .entry)) r (now (list .exit)) ⌝ }
 {
-    let end = seen(bytes.len());
+    let end = end_of_input(bytes.len());
     frames_in(&bytes[..end], list)
 }

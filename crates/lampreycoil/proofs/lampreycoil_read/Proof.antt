@@ -11,7 +11,8 @@ same-length : tie.Need-same-length
 same-length c = search needs
 
 returns : tie.Need-returns
-returns c = c .before .before .read .ensures
+returns c = let does = c .before .before .read .ensures in
+    record { returns = does .returns; lists = does .lists }
 
 pub lampreycoil-read-spec : {M : Type 1} → statement M
 lampreycoil-read-spec = tie.close (tie.spec read-requires same-length returns)

@@ -14,7 +14,8 @@ same-length-2 : tie.Need-same-length-2
 same-length-2 c = search needs
 
 returns : tie.Need-returns
-returns c = c .before .before .before .before .step .ensures
+returns c = let does = c .before .before .before .before .step .ensures in
+    record { returns = does .returns; leaves = does .leaves; lists = does .lists }
 
 pub lampreycoil-step-spec : {M : Type 1} → statement M
 lampreycoil-step-spec = tie.close (tie.spec step-requires same-length same-length-2 returns)
