@@ -29,7 +29,7 @@ use Rattle.broker.specs.Working.{heldIn}
 
 -- ---- a reading, by what the reader says of it
 
-pub record Read (b : List ℕ) (f : Frame) : Type 0 where
+pub record Held (b : List ℕ) (f : Frame) : Type 0 where
   pub read : readingOf b ≡ answered (heldIn b)
   pub places : f ≡ placesOf (heldIn b)
 
@@ -37,7 +37,7 @@ held-read : (b : List ℕ) (m : Message) → readingOf b ≡ answered m → held
 unfolding heldIn
 held-read b m e = rw e
 
-pub read-accepted : (b : List ℕ) (f : Frame) → Accepted f ≡ readAs (readingOf b) → Read b f
+pub read-accepted : (b : List ℕ) (f : Frame) → Accepted f ≡ readAs (readingOf b) → Held b f
 read-accepted b f e =
     let r = accepted-read (readingOf b) e in
     let held = held-read b (r .message) (r .is) in

@@ -107,4 +107,4 @@ at-most-32-links t entry buffer m enters =
 -- ---- a walk is a run
 
 pub every-walk-is-run : (t : Tables) (b : Broker) (buffer : List ℕ) → Bytes buffer → EveryWalkIsRun t b buffer
-every-walk-is-run t b buffer bytes long = subst⁻¹ (λ (w : Walk). IsRun t b buffer w) (walk-whole t b buffer long) (walk-is-run t b buffer bytes 0)
+every-walk-is-run t b buffer bytes long = subst⁻¹ (λ (w : Walk). IsRun t b buffer w) (walk-whole t b buffer (omega (arith, long))) (walk-is-run t b buffer bytes 0)

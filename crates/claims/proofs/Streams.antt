@@ -20,7 +20,7 @@ use Rattle.body.specs.Places.{placesOf, stretch}
 use Rattle.stream.specs.Stream.{Place, Stream, seen, streamOf, listRow}
 use Rattle.stream.proofs.Streaming.{list-length}
 use Rattle.stream.proofs.Runs.{Stops, stream-stops, bound, bound-end, lengthOf, start-listed, length-listed, run-first, run-next, run-taken, taken-whole, run-within, run-each}
-use Rattle.calls.specs.Calls.{streamNumbers}
+use Rattle.calls.specs.Calls.{streamRecord, streamNumbers}
 use Rattle.claims.specs.Records.{numberIn}
 use Rattle.claims.specs.Streams.{entriesIn, refusalIn, stopIn, startAt, lengthAt, framesAt, AcceptedAt, StoppedBy, FramesOf, StreamIsTheInput}
 
@@ -123,7 +123,7 @@ module _ (bytes : List ℕ) (known : Bytes bytes) (list row : List ℕ) where
       let size : length (rowBytes (listRow ps)) ≡ 8 * length ps = omega (arith, row-length (listRow ps), list-length ps) in
       record {
         returns = refl;
-        record-tail = drop-at (rowBytes (streamNumbers s)) (drop 12 row) 12 refl;
+        record-tail = drop-at (rowBytes (streamNumbers s)) (drop streamRecord row) streamRecord refl;
         fits = rw entries-told (omega (arith, stops .few));
         accepted = λ i h. accepted i (rw entries-told at h);
         starts = λ i h. starts i (rw entries-told at h);

@@ -13,11 +13,7 @@ use lib.Seq.{drop-cons}
 use borrow.Author.Tests.{ne-eqb}
 use Rattle.form.specs.Count.{one}
 use Rattle.form.specs.Working.{count}
-use Rattle.form.specs.Forms.{Place, hex, hyphen, nul, isHex, stands, matches, routePlaces, routeLength, isRoute}
-
--- a route has as many bytes as places
-pub places-are : length routePlaces ≡ routeLength
-places-are = refl
+use Rattle.form.specs.Forms.{Place, hex, hyphen, nul, isHex, stands, matches, routePlaces, isRoute}
 
 -- a byte that its place refuses
 pub missed : (ps : List Place) (xs : List ℕ) (i : ℕ) → i < length ps → stands (getD ps i hex) (getD xs i 0) ≡ false → matches ps xs ≡ false

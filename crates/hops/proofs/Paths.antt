@@ -21,10 +21,6 @@ module _ (tree : List ℕ) where
   unfolding above
   above-none r = refl
 
-  pub above-more : (k r : ℕ) → above tree (suc k) r ≡ above tree k (parentOf tree r)
-  unfolding above
-  above-more k r = refl
-
   -- the chain from its other end
   pub above-last : (k r : ℕ) → above tree (suc k) r ≡ parentOf tree (above tree k r)
   unfolding above

@@ -2,13 +2,13 @@
 -- Assumes nothing.
 use mathlib.Core.Path.{_≡_, refl, sym, ap}
 use Prim.Native.Nat.{ℕ, suc, _<_, _≤_}
-use mathlib.Core.Bool.{true, _&&_}
+use mathlib.Core.Bool.{true}
 use mathlib.Core.List.{List, [], _∷_, _++_}
 use native.Mathlib.Omega.{arith}
 use borrow.Author.Tests.{eqb-true, leb-true}
 use lib.Dec.{eqb, leb}
 use lib.ListN.{length}
-use Rattle.form.specs.Forms.{Place, routePlaces, stands, matches, isRoute, isTopic, noZero}
+use Rattle.form.specs.Forms.{Place, routePlaces, stands, matches, isRoute, isTopic}
 use Rattle.message.specs.Writing.{allRoutes, routesGood}
 use Rattle.message.specs.Reading.{front, final, isTopicPart}
 use Rattle.octets.proofs.Truth.{true-false, and-left, and-right}
@@ -41,11 +41,6 @@ routes-each rs e = routes-lengths rs (and-right (leb (length rs) 64) (allRoutes 
 pub routes-filled : (rs : List (List ℕ)) → Each (λ r. length r ≡ 37) rs → Each (λ r. 0 < length r) rs
 routes-filled [] h = tt
 routes-filled (r ∷ rs) h = (omega (arith, h .0), routes-filled rs (h .1))
-
--- "1 to 255 non-zero bytes"
-pub topic-length : (t : List ℕ) → isTopic t ≡ true → length t ≤ 255
-unfolding isTopic
-topic-length t e = leb-true (length t) 255 (and-right (leb 1 (length t)) _ (and-left (leb 1 (length t) && leb (length t) 255) (noZero t) e))
 
 -- a topic and its zero byte, as a part
 pub topic-part : (t : List ℕ) → isTopic t ≡ true → isTopicPart (t ++ (0 ∷ [])) ≡ true

@@ -7,17 +7,14 @@ use Prim.Native.Nat.{ℕ, _+_, _≤_}
 use mathlib.Core.List.{List, _++_}
 use native.Mathlib.Omega.{arith}
 use lib.ListN.{length, take, drop}
-use lib.Dec.{ltb}
 use Rattle.octets.specs.Number.{Bytes}
-use Rattle.octets.specs.Laid.{laid}
 use Rattle.octets.proofs.Numbers.{bytes-take, bytes-drop}
-use Rattle.message.specs.declared.Refusal.the-variants.{ShortOutput}
 use Rattle.message.specs.Answer.{Answer, answered, andThen}
 use Rattle.message.specs.Message.{Message, FieldsFit}
 use Rattle.message.specs.Frame.{joined, partsOf, bodyOf, frameOf}
-use Rattle.message.specs.Writing.{writing, writingInto}
+use Rattle.message.specs.Writing.{writing}
 use Rattle.message.specs.Reading.{partsIn, judged, bodyLength, readingOf}
-use Rattle.message.proofs.Answers.{both, passed, answered-same}
+use Rattle.message.proofs.Answers.{both}
 use Rattle.message.proofs.Lists.{bytes-part}
 use Rattle.message.proofs.Parts.{split, join, joined-sized}
 use Rattle.message.proofs.Messages.{written, write, parts-few, judge, held}
@@ -31,16 +28,6 @@ read-back m fits e rest =
     let w = written m (frameOf m) e in
     let parts = join 68 (partsOf m) (parts-few m (w .passes)) (joined-sized (partsOf m) (omega (arith, w .short))) in
     read-frame (bodyOf m) rest (w .short) ∙ ap (λ (ps : Answer (List (List ℕ))). andThen ps judged) parts ∙ judge m fits (w .passes)
-
--- the same of what a writer leaves in an output: the frame over its front, and the rest as it was
-pub read-written : (m : Message) → FieldsFit (m .header) → (out frame : List ℕ) → writingInto (length out) m ≡ answered frame → readingOf (laid frame out) ≡ answered m
-unfolding writingInto
-read-written m fits out frame e =
-    let two = both (writing m) _ frame e in
-    let fitted = passed (ltb (length out) (length (two .value))) ShortOutput (answered (two .value)) frame (two .second) in
-    let w = written m (two .value) (two .first) in
-    let same : frame ≡ frameOf m = sym (answered-same (fitted .rest)) ∙ sym (w .same) in
-    rw same (read-back m fits (two .first ∙ ap answered (sym (w .same))) (drop (length (frameOf m)) out))
 
 -- ---- write back
 

@@ -15,7 +15,7 @@ use Rattle.tree.specs.Tree.{ranksIn, parentOf}
 use Rattle.tree.specs.Depths.{depthOf, treeGood}
 use Rattle.tree.proofs.Depths.{depth-top, good-depth, parent-in, depth-below}
 use Rattle.hops.specs.Towards.{above}
-use Rattle.hops.proofs.Paths.{Aside, Meeting, above-none, above-depth, above-top}
+use Rattle.hops.proofs.Paths.{Aside, Meeting, above-none, above-depth}
 use Rattle.path.specs.Path.{climbed, chain, upTo, below, isIn, commonAncestor, rankPath, deepest, treeDepth}
 
 -- ---- the tree's depth
@@ -108,18 +108,6 @@ module _ (tree : List ℕ) where
 
   -- ---- a rank and the so many parents above it
 
-  length-climbed : (n r : ℕ) → length (climbed tree n r) ≡ suc n
-  unfolding climbed
-  length-climbed zero r = refl
-  length-climbed (suc n) r = ap suc (length-climbed n (parentOf tree r))
-
-  climbed-at : (n k r : ℕ) → k ≤ n → getD (climbed tree n r) k 0 ≡ above tree k r
-  unfolding climbed above
-  climbed-at zero zero r h = refl
-  climbed-at zero (suc k) r h = absurd (omega arith)
-  climbed-at (suc n) zero r h = refl
-  climbed-at (suc n) (suc k) r h = climbed-at n k (parentOf tree r) (le-of-suc-le-suc h)
-
   -- up to the first that passes
   up-to-first : (p : ℕ → Bool) (n k r : ℕ) → k ≤ n → ((i : ℕ) → i < k → p (above tree i r) ≡ false) → p (above tree k r) ≡ true → upTo p (climbed tree n r) ≡ rise tree k r ++ (above tree k r ∷ [])
   unfolding climbed above upTo rise
@@ -154,19 +142,6 @@ module _ (tree : List ℕ) where
 
   -- ---- the chain of a rank
 
-  -- it has one rank more than the rank is deep
-  pub length-chain : (r : ℕ) → length (chain tree r) ≡ suc (depthOf tree r)
-  unfolding chain
-  length-chain r = length-climbed (depthOf tree r) r
-
-  -- the k-th is k parents above
-  pub chain-at : (k r : ℕ) → k ≤ depthOf tree r → getD (chain tree r) k 0 ≡ above tree k r
-  unfolding chain
-  chain-at k r h = climbed-at (depthOf tree r) k r h
-
-  pub chain-first : (r : ℕ) → getD (chain tree r) 0 0 ≡ r
-  chain-first r = chain-at 0 r (omega arith) ∙ above-none tree r
-
   -- what is in it, and what is not
   pub in-chain : (k r s : ℕ) → k ≤ depthOf tree r → above tree k r ≡ s → isIn s (chain tree r) ≡ true
   unfolding chain
@@ -189,17 +164,6 @@ module _ (tree : List ℕ) where
     climbed-in (suc n) r h l =
         let apart = not-top tree r (omega arith) in
         (h, climbed-in n (parentOf tree r) (parent-in tree g r h apart) (omega (arith, depth-below tree g r h apart)))
-
-    -- all are ranks of the tree
-    pub chain-in : (r : ℕ) → r < ranksIn tree → Each (λ s. s < ranksIn tree) (chain tree r)
-    unfolding chain
-    chain-in r h = climbed-in (depthOf tree r) r h (omega arith)
-
-    -- and the last is rank 0
-    pub chain-ends : (r : ℕ) → r < ranksIn tree → final 0 (chain tree r) ≡ 0
-    chain-ends r h =
-        let last : length (chain tree r) - 1 ≡ depthOf tree r = omega (arith, length-chain r) in
-        ap (λ (k : ℕ). getD (chain tree r) k 0) last ∙ chain-at (depthOf tree r) r (omega arith) ∙ above-top tree g r h
 
     -- the ranks in front of the one that is k parents above
     pub below-chain : (k r s : ℕ) → r < ranksIn tree → k ≤ depthOf tree r → above tree k r ≡ s → below s (chain tree r) ≡ rise tree k r
@@ -228,9 +192,3 @@ module _ (tree : List ℕ) where
           let top = commonAncestor tree from target in
           joined (below-chain (m .up) from top hf (m .up-most) (sym common-is)) common-is
           (ap reverse (below-chain (m .down) target top ht (m .down-most) (sym (common-is ∙ m .there))) ∙ reverse-rise (m .down) target)
-
-      -- the last broker is the target
-      pub rank-path-ends : final 0 (rankPath tree from target) ≡ target
-      rank-path-ends =
-          ap (final 0) rank-path-is ∙ final-append (rise tree (m .up) from) (above tree (m .up) from) (fall tree (m .down) target)
-          ∙ ap (λ (r : ℕ). final 0 (r ∷ fall tree (m .down) target)) (m .there) ∙ final-fall (m .down) target

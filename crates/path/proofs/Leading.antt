@@ -13,7 +13,7 @@ use Rattle.octets.proofs.Truth.{outcome}
 use Rattle.message.specs.declared.Header.{Header}
 use Rattle.message.specs.Header.{isUpstream}
 use Rattle.message.specs.Reading.{final}
-use Rattle.message.proofs.Lists.{Each, each-at}
+use Rattle.message.proofs.Lists.{Each}
 use Rattle.records.specs.declared.Found.{Found}
 use Rattle.records.specs.declared.Found.the-variants.{At, Nothing}
 use Rattle.tree.specs.Tree.{ranksIn, parentOf}
@@ -26,9 +26,9 @@ use Rattle.lookup.specs.Lookup.{serviceOf, registeredAs}
 use Rattle.routing.specs.declared.Way.the-variants.{Forward, Fail}
 use Rattle.routing.specs.Requests.{deliverOr, upwards, toRank, requestWay}
 use Rattle.routing.proofs.Ways.{parent-none, parent-some, rank-outside, rank-reached, rank-ahead, way-any, way-upstream, way-rank}
-use Rattle.path.specs.Path.{End, delivers, fails, climbed, chain, upTo, recordOf, isFound, upPath, rankPath, endAt, ending, stopping, pathOf, linksOf, treeDepth}
+use Rattle.path.specs.Path.{End, delivers, fails, climbed, chain, upTo, recordOf, isFound, upPath, rankPath, endAt, ending, stopping, pathOf, treeDepth}
 use Rattle.path.specs.Leading.{wayOf, Leads, Linked, Follows, Followed, IsFollowed}
-use Rattle.path.proofs.Chains.{not-top, final-next, rise, fall, rank-path-is, depth-at-most, tree-depth-most}
+use Rattle.path.proofs.Chains.{not-top, final-next, rise, fall, rank-path-is, depth-at-most}
 
 -- ---- the path by its cases
 
@@ -105,9 +105,6 @@ module _ (tree : List ℕ) where
   linked-ranks [] l = tt
   linked-ranks (r ∷ []) l = (linked-rank r [] l, tt)
   linked-ranks (r ∷ s ∷ rs) l = (linked-rank r (s ∷ rs) l, linked-ranks (s ∷ rs) (linked-on r s rs l))
-
-  pub linked-final : (r : ℕ) (rs : List ℕ) → Linked tree (r ∷ rs) → final 0 (r ∷ rs) < ranksIn tree
-  linked-final r rs l = each-at (λ s. s < ranksIn tree) (r ∷ rs) (length (r ∷ rs) - 1) 0 (linked-ranks (r ∷ rs) l) (omega arith)
 
 -- ---- brokers the last of which has the say
 
@@ -324,7 +321,3 @@ followed tree services entry h topic g inside =
         (λ f. follows-outside tree services entry h topic inside g n u (ltb-false (h .first) (ranksIn tree) f))
         (outcome (ltb (h .first) (ranksIn tree))))
         (outcome (isUpstream (h .flags)))
-
--- no path has more than 32 links, since no rank is deeper than 16
-pub followed-few : (tree services : List ℕ) (entry : ℕ) (h : Header) (topic : List ℕ) → treeGood tree ≡ true → Followed tree services entry h topic → linksOf (pathOf tree services entry h topic) ≤ 32
-followed-few tree services entry h topic g f = omega (arith, f .few, tree-depth-most tree g)

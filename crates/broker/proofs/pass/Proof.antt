@@ -17,7 +17,7 @@ use Rattle.routing.specs.Routed.{Tables, tablesOf}
 use Rattle.broker.specs.Working.{heldIn, Lies}
 use Rattle.broker.proofs.Lying.{refuses, makes-as}
 use Rattle.routing.proofs.Outcomes.{routed-request, routed-response, routed-neither}
-use Rattle.broker.proofs.Passing.{Read, read-accepted, pass-outside, pass-unread, pass-as}
+use Rattle.broker.proofs.Passing.{Held, read-accepted, pass-outside, pass-unread, pass-as}
 use Rattle.broker.proofs.pass.Statement.{statement}
 use Rattle.broker.proofs.pass.Tie as tie
 
@@ -56,7 +56,7 @@ module _ (a : tie.After-struct-known2) where
   abbrev f : Frame
   f = a .before .before .f .given .0 .0
 
-  read : Read (b (start done)) f
+  read : Held (b (start done)) f
   read = read-accepted (b (start done)) f (sym (a .before .before .f .given .1) ∙ done .read .ensures)
 
   -- its type is the header's

@@ -14,7 +14,8 @@ same-length-2 : tie.Need-same-length-2
 same-length-2 c = search needs
 
 returns : tie.Need-returns
-returns c = c .before .before .before .before .check-tree .ensures
+returns c = let does = c .before .before .before .before .check-tree .ensures in
+    record { returns = does .returns; fills = does .fills; lists = does .lists }
 
 pub lampreycoil-check-tree-spec : {M : Type 1} → statement M
 lampreycoil-check-tree-spec =
