@@ -179,6 +179,8 @@ int command_dump(int count, char **words)
     struct dump_options options = {0};
 
     int status = read_dump_options(&options, count, words);
+    if (status == 0 && options.payload_out != NULL)
+        status = check_apart(options.payload_out, options.file, "capture");
     if (status == 0)
         status = open_capture(&capture, options.file);
     if (status != 0)

@@ -1,4 +1,4 @@
-/* isatty and fileno are POSIX. */
+/* stat, isatty and fileno are POSIX. */
 #define _POSIX_C_SOURCE 200112L
 
 #include "files.h"
@@ -7,6 +7,7 @@
 #include <stdarg.h>
 #include <stdio.h>
 #include <string.h>
+#include <sys/stat.h>
 #include <unistd.h>
 
 #include "program.h"
@@ -29,6 +30,11 @@ int trouble(const char *format, ...)
 static int is_standard(const char *name)
 {
     return name == NULL || strcmp(name, "-") == 0;
+}
+
+const char *output_name(const char *name)
+{
+    return is_standard(name) ? "standard output" : name;
 }
 
 int open_input(struct input *input, const char *name)
@@ -89,6 +95,19 @@ int flush_output(void)
     if (fflush(stdout) != 0 || failed)
         return trouble("cannot write standard output: %s", strerror(errno));
     return 0;
+}
+
+/* What is no regular file, such as a terminal or /dev/null, loses nothing by being both. */
+int check_apart(const char *output, const char *input, const char *what)
+{
+    struct stat in, out;
+    int in_there = is_standard(input) ? fstat(fileno(stdin), &in) : stat(input, &in);
+    int out_there = is_standard(output) ? fstat(fileno(stdout), &out) : stat(output, &out);
+
+    if (in_there != 0 || out_there != 0 || !S_ISREG(in.st_mode) || in.st_dev != out.st_dev ||
+        in.st_ino != out.st_ino)
+        return 0;
+    return trouble("%s is the %s itself: name another file", output_name(output), what);
 }
 
 int write_all(const char *name, const uint8_t *bytes, size_t length)

@@ -1,4 +1,4 @@
-/* Whole files in and out, and what is said when something is wrong. */
+/* Files in, whole or piece by piece, and out, and what is said when something is wrong. */
 #ifndef HOST_FILES_H
 #define HOST_FILES_H
 
@@ -43,6 +43,16 @@ void close_input(struct input *input);
  * room for INPUT_MAX + 1, so that a longer input shows. Returns 0, or has said what is wrong.
  */
 int read_all(const char *name, uint8_t *bytes, size_t *length);
+
+/* The output as a person is told it. */
+const char *output_name(const char *name);
+
+/*
+ * Whether the output, named as for write_all, is another file than the input, named as for
+ * open_input: by writing it the input would be lost. Returns 0, or has said that it is the same;
+ * `what` says what the input is.
+ */
+int check_apart(const char *output, const char *input, const char *what);
 
 /*
  * Writes the file, or standard output if name is NULL or "-"; not to a terminal. Returns 0, or has

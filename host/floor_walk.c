@@ -249,6 +249,21 @@ static int check_walk_words(struct walk_words *asked, uint32_t *rank)
     return check_write_options(&asked->message);
 }
 
+/* What is left of a walk takes the place of nothing that the walk is made of. */
+static int check_output(const struct walk_words *asked)
+{
+    int status = 0;
+
+    if (asked->output == NULL)
+        return 0;
+    status = check_apart(asked->output, asked->floor, "floor");
+    if (status == 0 && asked->frame != NULL)
+        status = check_apart(asked->output, asked->frame, "frame");
+    if (status == 0 && asked->message.payload_file != NULL)
+        status = check_apart(asked->output, asked->message.payload_file, "payload");
+    return status;
+}
+
 /* The frame to the front of the buffer, which is as long as a frame can be. */
 static int read_frame(const char *name, uint8_t *buffer, size_t *length)
 {
@@ -273,6 +288,8 @@ static int walk_asked(struct walk_words *asked, int count, char **words)
 
     if (status == 0)
         status = check_walk_words(asked, &play.enter);
+    if (status == 0)
+        status = check_output(asked);
     if (status == 0)
         status = read_valid_floor(&floor, asked->floor);
     if (status == 0)

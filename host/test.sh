@@ -307,6 +307,11 @@ wrong 'a payload that is not there' "cannot read $room/missing" write --type eve
 wrong 'a frame that is not there' "cannot read $room/missing" dump "$room/missing"
 wrong 'a folder for a frame' "cannot read $room" dump "$room"
 wrong 'an output that cannot be made' "cannot write $room/no/where" write --type event --topic x -o "$room/no/where"
+printf hi >"$room/kept-payload"
+wrong 'an output that is the payload' "$room/kept-payload is the payload itself: name another file" \
+    write --type event --topic x --payload "$room/kept-payload" -o "$room/kept-payload"
+[ "$(cat "$room/kept-payload")" = hi ]
+report $? 'the payload stays as it was'
 bytes 1048577 >"$room/huge"
 wrong 'a payload that is too long' 'longer than 1048576 bytes' write --type event --topic x --payload "$room/huge"
 

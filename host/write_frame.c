@@ -36,6 +36,8 @@ int command_write(int count, char **words)
 
     start_write_options(&options);
     int status = take_words(&reading, &options, &output);
+    if (status == 0 && options.payload_file != NULL)
+        status = check_apart(output, options.payload_file, "payload");
     if (status == 0)
         status = make_frame(&options, frame, &length);
     return status == 0 ? write_all(output, frame, length) : status;

@@ -154,6 +154,27 @@ run dump --payload-out - --frame 1 "$room/middle"
 [ "$status" -eq 1 ] && [ ! -s "$room/out" ] && grep -q 'refused, 9: ' "$room/err"
 report $? 'no payload of a named frame that is refused'
 
+# An output that is the file read would destroy it: by its name, by another, through a link and on standard output.
+cp "$room/four" "$room/kept"
+ln -f "$room/kept" "$room/kept-too"
+ln -sf kept "$room/kept-link"
+for words in kept kept-too kept-link ./kept; do
+    wrong "a payload to the capture itself, as $words" "$room/$words is the capture itself: name another file" \
+        dump --payload-out "$room/$words" --frame 2 "$room/kept"
+done
+"$FLUX_FRAME" dump --payload-out "$room/kept" --frame 2 <"$room/kept" >"$room/out" 2>"$room/err"
+status=$?
+[ "$status" -eq 2 ] && [ ! -s "$room/out" ] && grep -q 'kept is the capture itself' "$room/err"
+report $? 'a payload to the capture on standard input'
+"$FLUX_FRAME" dump --payload-out - --frame 2 "$room/kept" >>"$room/kept" 2>"$room/err"
+status=$?
+[ "$status" -eq 2 ] && grep -q 'standard output is the capture itself' "$room/err"
+report $? 'a payload to the capture on standard output'
+cmp -s "$room/four" "$room/kept"
+report $? 'the capture stays as it was'
+run dump --payload-out /dev/null --frame 2 "$room/kept"
+report "$status" 'a payload to /dev/null'
+
 # ---- JSON
 
 # The object of a single frame, as the frame with this number has it.

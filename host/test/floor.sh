@@ -277,6 +277,16 @@ floor_wrong 'a frame and options' 'give a frame or the options of a message, not
 floor_wrong 'a word too many' "walk takes a floor and a frame, and 'more' is one more" walk --enter 1 "$example" "$room/log" more
 floor_wrong 'standard input twice' 'only one file can be standard input' walk --enter 1 - -
 floor_wrong 'standard output for two things' '-o takes a file' walk --enter 1 "$example" --topic x -o -
+cp "$example" "$room/kept-floor"
+cp "$room/log" "$room/kept-frame"
+printf hi >"$room/kept-payload"
+floor_wrong 'an output that is the floor' "$room/kept-floor is the floor itself: name another file" \
+    walk --enter 1 "$room/kept-floor" --topic x -o "$room/kept-floor"
+floor_wrong 'an output that is the frame' "$room/kept-frame is the frame itself" walk --enter 1 "$example" "$room/kept-frame" -o "$room/kept-frame"
+floor_wrong 'an output that is the payload of a walk' "$room/kept-payload is the payload itself" \
+    walk --enter 1 "$example" --topic x --payload "$room/kept-payload" -o "$room/kept-payload"
+cmp -s "$example" "$room/kept-floor" && cmp -s "$room/log" "$room/kept-frame" && [ "$(cat "$room/kept-payload")" = hi ]
+report $? 'they stay as they were'
 floor_wrong 'an option behind --' 'cannot read --topic' walk --enter 1 "$example" -- --topic
 floor_wrong 'home of a request' 'home takes a response, and this message is of type request' home --from 1 "$example" "$room/log"
 floor_wrong 'a frame that is not there' "cannot read $room/missing" walk --enter 1 "$example" "$room/missing"
