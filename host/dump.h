@@ -7,8 +7,8 @@
 
 #include "dump_capture.h"
 #include "dump_explain.h"
-#include "lampreycoil.h"
 #include "dump_split.h"
+#include "lampreycoil.h"
 
 /* The header's fields. */
 struct fields {
@@ -53,9 +53,6 @@ struct fields fields_at(const uint8_t *header);
 /* The places of an accepted frame's parts that the record does not name. */
 size_t delimiter_start(const struct dump *dump);
 size_t header_start(const struct dump *dump);
-
-/* "1 byte", and for any other number "bytes". */
-const char *counted(unsigned long long count);
 
 /* One frame, whole or refused: for a person, and for a machine. */
 void show_text(const struct dump *dump);

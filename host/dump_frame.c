@@ -65,6 +65,18 @@ static int write_payload(const struct dump *dump, const char *name)
                      dumped(dump, LAMPREYCOIL_READ_PAYLOAD_LENGTH));
 }
 
+/* The payload goes first: where there is none, nothing is written. */
+static int write_bytes(const struct dump *dump, const struct dump_options *options)
+{
+    int status = 0;
+
+    if (options->payload_out != NULL)
+        status = write_payload(dump, options->payload_out);
+    if (status == 0 && options->frame_out != NULL)
+        status = write_all(options->frame_out, dump->frame.bytes, dump->frame.length);
+    return status;
+}
+
 static void show(const struct dump *dump, const struct dump_options *options)
 {
     if (options->json)
@@ -82,13 +94,13 @@ static int dump_one(const struct dump *dump, const struct dump_options *options)
 {
     int status;
 
-    if (dump->refusal == LAMPREYCOIL_OK && options->payload_out != NULL) {
-        status = write_payload(dump, options->payload_out);
-        if (status != 0 || payload_only(options))
+    if (dump->refusal == LAMPREYCOIL_OK) {
+        status = write_bytes(dump, options);
+        if (status != 0 || bytes_only(options) != NULL)
             return status;
     }
-    /* A refused frame has no payload, so the reason is all that there is for anybody. */
-    if (payload_only(options))
+    /* Of a refused frame nothing is written, so the reason is all that there is for anybody. */
+    if (bytes_only(options) != NULL)
         trouble("refused, %lu: %s", (unsigned long)dump->refusal, dump->reason);
     else
         show(dump, options);
@@ -163,9 +175,9 @@ static int dump_asked(struct capture *capture, struct dump *dump,
     if (options->frame_text != NULL)
         return dump_named(capture, dump, options);
     if (options->summary || !is_single(capture)) {
-        if (options->payload_out != NULL)
-            return trouble("--payload-out is for one frame, and more follows the first: "
-                           "name one by --frame");
+        if (options->payload_out != NULL || options->frame_out != NULL)
+            return trouble("%s is for one frame, and more follows the first: name one by --frame",
+                           options->payload_out != NULL ? "--payload-out" : "--frame-out");
         return dump_all(capture, dump, options);
     }
     status = look_at_next(capture, dump);
@@ -181,6 +193,8 @@ int command_dump(int count, char **words)
     int status = read_dump_options(&options, count, words);
     if (status == 0 && options.payload_out != NULL)
         status = check_apart(options.payload_out, options.file, "capture");
+    if (status == 0 && options.frame_out != NULL)
+        status = check_apart(options.frame_out, options.file, "capture");
     if (status == 0)
         status = open_capture(&capture, options.file);
     if (status != 0)

@@ -31,15 +31,24 @@ static int take_words(struct dump_options *options, struct words *words)
             status = word_once(words, &options->frame_text);
         else if (word_is(words, "--payload-out"))
             status = word_once(words, &options->payload_out);
+        else if (word_is(words, "--frame-out"))
+            status = word_once(words, &options->frame_out);
         else
             status = other_option(words, "dump");
     }
     return status;
 }
 
-int payload_only(const struct dump_options *options)
+static int is_dash(const char *name)
 {
-    return options->payload_out != NULL && strcmp(options->payload_out, "-") == 0;
+    return name != NULL && strcmp(name, "-") == 0;
+}
+
+const char *bytes_only(const struct dump_options *options)
+{
+    if (is_dash(options->payload_out))
+        return "--payload-out";
+    return is_dash(options->frame_out) ? "--frame-out" : NULL;
 }
 
 /* The first option given that has no place in a summary; NULL where there is none. */
@@ -49,7 +58,19 @@ static const char *beside_summary(const struct dump_options *options)
         return "--json";
     if (options->all)
         return "--all";
-    return options->payload_out != NULL ? "--payload-out" : NULL;
+    if (options->payload_out != NULL)
+        return "--payload-out";
+    return options->frame_out != NULL ? "--frame-out" : NULL;
+}
+
+/* The first option given that has no place beside bytes on standard output; NULL as above. */
+static const char *beside_bytes(const struct dump_options *options)
+{
+    if (options->json)
+        return "--json";
+    if (options->all)
+        return "--all";
+    return is_dash(options->payload_out) && is_dash(options->frame_out) ? "--frame-out -" : NULL;
 }
 
 static int check_options(struct dump_options *options)
@@ -58,9 +79,11 @@ static int check_options(struct dump_options *options)
         return trouble("--summary leaves no place for %s", beside_summary(options));
     if (options->json && options->all)
         return trouble("--json has all bytes of the payload: leave out --all");
-    if (payload_only(options) && (options->json || options->all))
-        return trouble("--payload-out - leaves no place for %s",
-                       options->json ? "--json" : "--all");
+    if (bytes_only(options) != NULL && beside_bytes(options) != NULL)
+        return trouble("%s - leaves no place for %s", bytes_only(options), beside_bytes(options));
+    if (options->payload_out != NULL && options->frame_out != NULL &&
+        strcmp(options->payload_out, options->frame_out) == 0)
+        return trouble("--payload-out and --frame-out name one file, %s", options->frame_out);
     if (options->frame_text != NULL &&
         parse_number(options->frame_text, 10, UINT32_MAX, &options->frame) != 0)
         return trouble("--frame takes a frame's number, counted from 0, not '%s'",

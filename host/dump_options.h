@@ -7,6 +7,7 @@
 struct dump_options {
     const char *file; /* here and below: NULL where not given */
     const char *payload_out;
+    const char *frame_out;
     const char *frame_text; /* --frame as it was given */
     uint32_t frame;         /* and its number */
     int all;
@@ -17,7 +18,10 @@ struct dump_options {
 /* Takes the words. Returns 0, EXIT_SHOWN, or has said what is wrong. */
 int read_dump_options(struct dump_options *options, int count, char **words);
 
-/* Whether the payload goes to standard output, where it leaves no place for anything else. */
-int payload_only(const struct dump_options *options);
+/*
+ * The option by which bytes go to standard output, where they leave no place for anything else;
+ * NULL where there is none.
+ */
+const char *bytes_only(const struct dump_options *options);
 
 #endif

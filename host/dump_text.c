@@ -16,11 +16,6 @@ static void print_number(const char *name, uint32_t number, const char *note)
     printf(NAME "%lu%s%s\n", name, (unsigned long)number, *note == '\0' ? "" : " ", note);
 }
 
-const char *counted(unsigned long long count)
-{
-    return count == 1 ? "byte" : "bytes";
-}
-
 static void print_place(const char *name, size_t length, size_t start)
 {
     printf(NAME "%zu %s, from byte %zu\n", name, length, counted(length), start);

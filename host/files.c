@@ -32,6 +32,11 @@ static int is_standard(const char *name)
     return name == NULL || strcmp(name, "-") == 0;
 }
 
+const char *input_name(const char *name)
+{
+    return is_standard(name) ? "standard input" : name;
+}
+
 const char *output_name(const char *name)
 {
     return is_standard(name) ? "standard output" : name;
@@ -39,11 +44,9 @@ const char *output_name(const char *name)
 
 int open_input(struct input *input, const char *name)
 {
-    int standard = is_standard(name);
-
-    input->name = standard ? "standard input" : name;
+    input->name = input_name(name);
     input->ended = 0;
-    input->stream = standard ? stdin : fopen(name, "rb");
+    input->stream = is_standard(name) ? stdin : fopen(name, "rb");
     if (input->stream == NULL)
         return trouble("cannot read %s: %s", name, strerror(errno));
     return 0;

@@ -21,6 +21,11 @@ enum { INPUT_MAX = 1048576 };
  */
 int trouble(const char *format, ...);
 
+/* The names of an input and of an output as a person is told them: NULL and "-" are standard ones.
+ */
+const char *input_name(const char *name);
+const char *output_name(const char *name);
+
 /* An input that is read piece by piece. */
 struct input {
     FILE *stream;
@@ -43,9 +48,6 @@ void close_input(struct input *input);
  * room for INPUT_MAX + 1, so that a longer input shows. Returns 0, or has said what is wrong.
  */
 int read_all(const char *name, uint8_t *bytes, size_t *length);
-
-/* The output as a person is told it. */
-const char *output_name(const char *name);
 
 /*
  * Whether the output, named as for write_all, is another file than the input, named as for

@@ -144,22 +144,6 @@ static void tell_end(const struct play *play)
     tell_routes(play->floor, play->buffer, sizeof play->buffer);
 }
 
-/* Looks at the message before it is played. Returns 0, or has said what is wrong. */
-static int see_entry(const struct play *play, size_t length, uint8_t type, struct seen *seen)
-{
-    uint32_t refusal = see(seen, play->floor, play->buffer, length);
-
-    if (refusal != LAMPREYCOIL_OK) {
-        trouble("refused, %lu: %s", (unsigned long)refusal, lampreycoil_refusal_words(refusal));
-        return EXIT_REFUSED;
-    }
-    /* A walk may be any message's: what the library does not play it refuses. */
-    if (type == LAMPREYCOIL_RESPONSE && seen->type != type)
-        return trouble("home takes a response, and this message is of type %s",
-                       type_by_number(seen->type)->name);
-    return 0;
-}
-
 static int play_walk(struct play *play, const struct seen *seen, const char *output)
 {
     memcpy(play->entered, play->buffer, sizeof play->entered);
@@ -264,7 +248,8 @@ static int check_output(const struct walk_words *asked)
     return status;
 }
 
-/* The frame to the front of the buffer, which is as long as a frame can be. */
+/* The frame to the front of the buffer, which is as long as a frame can be; length is the file's.
+ */
 static int read_frame(const char *name, uint8_t *buffer, size_t *length)
 {
     static uint8_t bytes[INPUT_MAX + 1];
@@ -272,8 +257,34 @@ static int read_frame(const char *name, uint8_t *buffer, size_t *length)
 
     if (status != 0)
         return status;
-    *length = *length < LAMPREYCOIL_WALK_ROOM ? *length : LAMPREYCOIL_WALK_ROOM;
-    memcpy(buffer, bytes, *length);
+    memcpy(buffer, bytes, *length < LAMPREYCOIL_WALK_ROOM ? *length : LAMPREYCOIL_WALK_ROOM);
+    return 0;
+}
+
+/*
+ * Looks at the message before it is played; length is of all that was given. Returns 0, or has said
+ * what is wrong.
+ */
+static int see_entry(const struct play *play, size_t length, const struct walk_words *asked,
+                     struct seen *seen)
+{
+    size_t there = length < sizeof play->buffer ? length : sizeof play->buffer;
+    uint32_t refusal = see(seen, play->floor, play->buffer, there);
+
+    if (refusal != LAMPREYCOIL_OK) {
+        trouble("refused, %lu: %s", (unsigned long)refusal, lampreycoil_refusal_words(refusal));
+        return EXIT_REFUSED;
+    }
+    /* Of a capture nobody has said which frame is meant. */
+    if (length > seen->length)
+        return trouble("%s has %zu %s behind its first frame: a walk takes one frame (cut it out "
+                       "by flux_frame dump --frame N --frame-out FILE)",
+                       input_name(asked->frame), length - seen->length,
+                       counted(length - seen->length));
+    /* A walk may be any message's: what the library does not play it refuses. */
+    if (asked->type == LAMPREYCOIL_RESPONSE && seen->type != asked->type)
+        return trouble("home takes a response, and this message is of type %s",
+                       type_by_number(seen->type)->name);
     return 0;
 }
 
@@ -297,7 +308,7 @@ static int walk_asked(struct walk_words *asked, int count, char **words)
                                       : read_frame(asked->frame, play.buffer, &length);
     play.floor = &floor;
     if (status == 0)
-        status = see_entry(&play, length, asked->type, &seen);
+        status = see_entry(&play, length, asked, &seen);
     return status == 0 ? play_walk(&play, &seen, asked->output) : status;
 }
 

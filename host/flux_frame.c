@@ -27,6 +27,7 @@ const char usage[] =
     "  --payload-out FILE   write the payload to FILE; - is standard output, where\n"
     "                       nothing else is then shown; of several frames, --frame\n"
     "                       says which\n"
+    "  --frame-out FILE     write the frame itself to FILE, in the same way\n"
     "  --json               a JSON object a frame, each on its line, of ASCII characters\n"
     "                       alone, with all bytes of the parts in hexadecimal; behind\n"
     "                       several, one more that tells the stop\n"

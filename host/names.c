@@ -39,3 +39,8 @@ const struct type_names *type_by_name(const char *name)
     }
     return NULL;
 }
+
+const char *counted(unsigned long long count)
+{
+    return count == 1 ? "byte" : "bytes";
+}

@@ -135,7 +135,7 @@ wrong 'a frame of an empty file' 'no frame 0 (the first is frame 0): no frame: t
 wrong 'a frame that is no number' "not 'last'" dump --frame last "$room/four"
 wrong 'a frame below the first' "not '-1'" dump --frame -1 "$room/four"
 wrong '--frame twice' '--frame is given twice' dump --frame 1 --frame 1 "$room/four"
-for words in --json --all "--payload-out=$room/none"; do
+for words in --json --all "--payload-out=$room/none" "--frame-out=$room/none"; do
     wrong "--summary and ${words%%=*}" "--summary leaves no place for ${words%%=*}" dump --summary "$words" "$room/four"
 done
 
@@ -153,6 +153,37 @@ wrong 'a named frame without a payload' 'no payload' dump --payload-out "$room/n
 run dump --payload-out - --frame 1 "$room/middle"
 [ "$status" -eq 1 ] && [ ! -s "$room/out" ] && grep -q 'refused, 9: ' "$room/err"
 report $? 'no payload of a named frame that is refused'
+
+# ---- a frame, cut out
+
+wrong 'one frame of several' '--frame-out is for one frame, and more follows the first: name one by --frame' dump --frame-out "$room/none" "$room/four"
+wrong 'one frame with a torn one behind it' 'name one by --frame' dump --frame-out "$room/none" "$room/newline"
+run dump --frame-out "$room/cut" --frame 2 "$room/four"
+[ "$status" -eq 0 ] && cmp -s "$room/cut" "$room/response" && grep -qx 'frame 2       119 bytes, from byte 64 of the capture' "$room/out"
+report $? 'the frame that is named is cut out, and shown'
+run dump --frame-out=- --frame 0x3 "$room/four"
+[ "$status" -eq 0 ] && cmp -s "$room/out" "$room/event" && [ ! -s "$room/err" ]
+report $? 'on standard output it is alone'
+run dump --frame-out - <"$room/log"
+[ "$status" -eq 0 ] && cmp -s "$room/out" "$room/log" && [ ! -s "$room/err" ]
+report $? 'a single frame needs no number'
+run dump --frame-out "$room/cut" --payload-out - --frame 2 "$room/four"
+[ "$status" -eq 0 ] && cmp -s "$room/cut" "$room/response" && [ "$(cat "$room/out")" = hi ]
+report $? 'a frame and its payload'
+wrong 'a frame whose payload is not there' 'no payload' dump --frame-out "$room/none" --payload-out "$room/none-too" --frame 1 "$room/four"
+wrong 'a frame and its payload on standard output' '--payload-out - leaves no place for --frame-out -' dump --frame-out - --payload-out - "$room/response"
+wrong 'a frame and its payload in one file' "name one file, $room/none" dump --frame-out "$room/none" --payload-out "$room/none" "$room/response"
+wrong 'a frame and JSON on standard output' '--frame-out - leaves no place for --json' dump --frame-out - --json "$room/log"
+wrong '--frame-out twice' '--frame-out is given twice' dump --frame-out "$room/none" --frame-out "$room/none" "$room/log"
+wrong 'a frame to the capture itself' "$room/log is the capture itself: name another file" dump --frame-out "$room/log" "$room/log"
+has_lines 'no bytes of a refused frame' 1 --frame-out "$room/none" --frame 1 "$room/middle" -- "refused       9: $n9"
+has_lines 'nor of a torn one' 1 --frame-out "$room/none" --frame 1 "$room/torn" -- "refused       1: $n1"
+run dump --frame-out - --frame 1 "$room/middle"
+[ "$status" -eq 1 ] && [ ! -s "$room/out" ] && grep -q 'refused, 9: ' "$room/err"
+report $? 'nor on standard output'
+[ ! -e "$room/none" ]
+report $? 'and no file for any of them'
+unwritten 'a frame that standard output does not take' 'cannot write standard output' dump --frame-out - "$room/log"
 
 # An output that is the file read would destroy it: by its name, by another, through a link and on standard output.
 cp "$room/four" "$room/kept"

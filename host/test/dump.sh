@@ -186,9 +186,9 @@ unwritten 'a payload that standard output does not take' 'cannot write standard 
 status=$?
 [ "$status" -eq 2 ] && grep -q 'cannot write standard output' "$room/err"
 report $? 'a standard output that is closed'
-for words in 'write --type event --topic x' "dump --payload-out - $room/thirty"; do
+for words in 'write --type event --topic x' "dump --payload-out - $room/thirty" "dump --frame-out - $room/thirty"; do
     script -qec "$FLUX_FRAME $words" /dev/null </dev/null >"$room/out" 2>"$room/err"
     status=$?
     [ "$status" -eq 2 ] && grep -q 'standard output is a terminal' "$room/out"
-    report $? "no binary to a terminal: ${words%% *}"
+    report $? "no binary to a terminal: ${words%" $room"*}"
 done

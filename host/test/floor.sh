@@ -215,8 +215,7 @@ cmp "$room/home" "$room/want" >"$room/out" 2>"$room/err"
 report $? 'at home the reply has the routes of the request on entry'
 walks 'a response for a client' 0 'home at rank 3, links 0: 3' home --from 3 "$example" --topic x --route $two
 told 'the top route is no broker'"'"'s, so it is a client'"'"'s'
-{ cat "$room/log"; printf 'behind'; } >"$room/in"
-walks 'a frame from a file, with bytes behind it' 0 'delivered at rank 0, links 2: 6 > 2 > 0' walk --enter 6 -o "$room/left" "$example" "$room/in"
+walks 'a frame from a file' 0 'delivered at rank 0, links 2: 6 > 2 > 0' walk --enter 6 -o "$room/left" "$example" "$room/log"
 [ "$(wc -c <"$room/left")" -eq $((35 + 2 * 38)) ]
 report $? 'only the frame is left'
 cp "$room/log" "$room/in"
@@ -288,6 +287,14 @@ floor_wrong 'an output that is the payload of a walk' "$room/kept-payload is the
 cmp -s "$example" "$room/kept-floor" && cmp -s "$room/log" "$room/kept-frame" && [ "$(cat "$room/kept-payload")" = hi ]
 report $? 'they stay as they were'
 floor_wrong 'an option behind --' 'cannot read --topic' walk --enter 1 "$example" -- --topic
+one_frame='behind its first frame: a walk takes one frame (cut it out by flux_frame dump --frame N --frame-out FILE)'
+cat "$room/log" "$room/most.frame" >"$room/in"
+floor_wrong 'a walk of two frames' "$room/in has 32776 bytes $one_frame" walk --enter 6 "$example" "$room/in"
+{ cat "$room/reply" && echo; } >"$room/in"
+floor_wrong 'a way home with a byte behind it' "$room/in has 1 byte $one_frame" home --from 0 "$example" "$room/in"
+floor walk --enter 6 "$example" - < <(cat "$room/log" "$room/log")
+[ "$status" -eq 2 ] && [ ! -s "$room/out" ] && [ "$(cat "$room/err")" = "flux_floor: standard input has 35 bytes $one_frame" ]
+report $? 'two frames from standard input'
 floor_wrong 'home of a request' 'home takes a response, and this message is of type request' home --from 1 "$example" "$room/log"
 floor_wrong 'a frame that is not there' "cannot read $room/missing" walk --enter 1 "$example" "$room/missing"
 for words in "check $example" "show $example" "walk --enter 3 $example --topic x" --help --version; do
