@@ -35,14 +35,14 @@ struct dump {
 enum stop {
     STOP_END,    /* nothing */
     STOP_TORN,   /* the beginning of a frame */
-    STOP_REFUSED /* a frame that is refused: nobody knows where the next one begins */
+    STOP_REFUSED /* a frame that is refused, or fewer than FRONT bytes that begin none */
 };
 
 /* The stop, where what was looked at is no whole frame. */
 enum stop stop_of(const struct dump *dump);
 
 /* Room for the line that tells it. */
-enum { STOP_ROOM = REASON_ROOM + 200 };
+enum { STOP_ROOM = REASON_ROOM + 400 };
 
 /* The number at an index of the record. */
 uint32_t dumped(const struct dump *dump, size_t index);

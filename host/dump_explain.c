@@ -21,19 +21,26 @@ unsigned long long bytes_needed(size_t length, const struct split *split)
     return length < FRONT ? FRONT : (unsigned long long)split->body + FRONT;
 }
 
-/* The library looks at a frame's start only once all of its front is there. */
+int may_begin(const uint8_t *bytes, size_t length)
+{
+    static const uint8_t start[] = {0xFF, 0xEE, 0x00, 0x12};
+
+    return memcmp(bytes, start, length < sizeof start ? length : sizeof start) == 0;
+}
+
 static void explain_short(const uint8_t *bytes, size_t length, const struct split *split,
                           char *reason)
 {
-    static const uint8_t start[] = {0xFF, 0xEE, 0x00, 0x12};
     unsigned long long needed = bytes_needed(length, split);
-    size_t same = 0;
+    const char *wrong =
+        length == 1 ? "; no frame begins with this" : "; no frame begins with these";
 
-    while (same < sizeof start && same < length && bytes[same] == start[same])
-        same++;
-    say(reason, "%zu of %llu bytes are there%s; missing: %llu%s", length, needed,
-        length < FRONT ? ", which tell the frame's length" : "", needed - length,
-        same < sizeof start && same < length ? "; no frame begins with these" : "");
+    if (length >= FRONT)
+        say(reason, "%zu of %llu bytes are there; missing: %llu", length, needed, needed - length);
+    else
+        say(reason, "%zu of the %d bytes that tell a frame's length %s there; missing: %zu%s",
+            length, FRONT, length == 1 ? "is" : "are", FRONT - length,
+            may_begin(bytes, length) ? "" : wrong);
 }
 
 static void explain_part(const struct split *split, char *reason)

@@ -19,4 +19,10 @@ void explain(uint32_t refusal, const uint8_t *bytes, size_t length, const struct
 /* How many bytes the frame takes, as far as is known: FRONT, or FRONT and the body. */
 unsigned long long bytes_needed(size_t length, const struct split *split);
 
+/*
+ * Whether a frame may begin with these bytes. The library looks at a frame's start only once all of
+ * its front is there, so of fewer bytes it says no more than that they are too few.
+ */
+int may_begin(const uint8_t *bytes, size_t length);
+
 #endif

@@ -34,9 +34,11 @@ size_t header_start(const struct dump *dump)
 
 enum stop stop_of(const struct dump *dump)
 {
-    if (dump->refusal != LAMPREYCOIL_INPUT_SHORT)
+    const struct frame *frame = &dump->frame;
+
+    if (dump->refusal != LAMPREYCOIL_INPUT_SHORT || !may_begin(frame->bytes, frame->length))
         return STOP_REFUSED;
-    return dump->frame.length == 0 ? STOP_END : STOP_TORN;
+    return frame->length == 0 ? STOP_END : STOP_TORN;
 }
 
 /* Goes on to the next frame, or to what stands in its place, and has the library look at it. */
@@ -60,7 +62,7 @@ static int look_at_next(struct capture *capture, struct dump *dump)
 static int write_payload(const struct dump *dump, const char *name)
 {
     if ((dumped(dump, LAMPREYCOIL_READ_FLAGS) & LAMPREYCOIL_PAYLOAD) == 0)
-        return trouble("the frame has no payload to write to %s", name);
+        return trouble("the frame has no payload to write to %s", output_name(name));
     return write_all(name, dump->frame.bytes + dumped(dump, LAMPREYCOIL_READ_PAYLOAD_START),
                      dumped(dump, LAMPREYCOIL_READ_PAYLOAD_LENGTH));
 }
@@ -101,7 +103,8 @@ static int dump_one(const struct dump *dump, const struct dump_options *options)
     }
     /* Of a refused frame nothing is written, so the reason is all that there is for anybody. */
     if (bytes_only(options) != NULL)
-        trouble("refused, %lu: %s", (unsigned long)dump->refusal, dump->reason);
+        trouble("refused, %lu: %s (%s)", (unsigned long)dump->refusal,
+                lampreycoil_refusal_words(dump->refusal), dump->reason);
     else
         show(dump, options);
     if ((status = flush_output()) != 0)
@@ -109,11 +112,21 @@ static int dump_one(const struct dump *dump, const struct dump_options *options)
     return dump->refusal == LAMPREYCOIL_OK ? EXIT_DONE : EXIT_REFUSED;
 }
 
+/* Says why there is no such frame. */
+static int not_there(const struct dump *dump, uint32_t number)
+{
+    char text[STOP_ROOM];
+
+    if (dump->frame.number == 0 && stop_of(dump) == STOP_END)
+        return trouble("there is no frame %lu: the capture is empty", (unsigned long)number);
+    tell_stop(dump, text);
+    return trouble("there is no frame %lu (the first is frame 0): %s", (unsigned long)number, text);
+}
+
 /* Shows the frame that --frame names, which may be the one that is refused. */
 static int dump_named(struct capture *capture, struct dump *dump,
                       const struct dump_options *options)
 {
-    char text[STOP_ROOM];
     int status;
 
     do
@@ -121,11 +134,8 @@ static int dump_named(struct capture *capture, struct dump *dump,
     while (status == 0 && dump->frame.whole && dump->frame.number < options->frame);
     if (status != 0)
         return status;
-    if (!dump->frame.whole && (dump->frame.number < options->frame || stop_of(dump) == STOP_END)) {
-        tell_stop(dump, text);
-        return trouble("there is no frame %lu (the first is frame 0): %s",
-                       (unsigned long)options->frame, text);
-    }
+    if (!dump->frame.whole && (dump->frame.number < options->frame || stop_of(dump) == STOP_END))
+        return not_there(dump, options->frame);
     dump->placed = 1;
     return dump_one(dump, options);
 }

@@ -86,8 +86,8 @@ static int check_options(struct dump_options *options)
         return trouble("--payload-out and --frame-out name one file, %s", options->frame_out);
     if (options->frame_text != NULL &&
         parse_number(options->frame_text, 10, UINT32_MAX, &options->frame) != 0)
-        return trouble("--frame takes a frame's number, counted from 0, not '%s'",
-                       options->frame_text);
+        return trouble("--frame takes a frame's number, from 0 and at most %lu, not '%s'",
+                       (unsigned long)UINT32_MAX, options->frame_text);
     return 0;
 }
 

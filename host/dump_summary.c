@@ -72,11 +72,28 @@ void show_summary(const struct dump *dump)
     putchar('\n');
 }
 
+/* Room for the words below, with the longest number. */
+enum { NEXT_ROOM = 100 };
+
+/*
+ * Where the next frame would begin. Only of 4 to 10 is there anything to say: the start was right
+ * and the whole body is there, so the front may be right where the rest of the frame is not.
+ */
+static const char *tell_next(const struct dump *dump, char text[NEXT_ROOM])
+{
+    text[0] = '\0';
+    if (dump->refusal >= LAMPREYCOIL_PART_WRONG && dump->refusal <= LAMPREYCOIL_FIELD_WRONG)
+        snprintf(text, NEXT_ROOM, "; by its front the next one would begin at byte %llu",
+                 dump->frame.start + FRONT + dump->split.body);
+    return text;
+}
+
 void tell_stop(const struct dump *dump, char text[STOP_ROOM])
 {
     unsigned long long number = dump->frame.number, start = dump->frame.start;
     const char *frames = number == 1 ? "frame" : "frames";
     enum stop stop = stop_of(dump);
+    char next[NEXT_ROOM];
 
     if (stop == STOP_END && number == 0)
         snprintf(text, STOP_ROOM, "no frame: the capture is empty");
@@ -88,9 +105,9 @@ void tell_stop(const struct dump *dump, char text[STOP_ROOM])
                  number, frames, start, number, start, dump->reason);
     else
         snprintf(text, STOP_ROOM,
-                 "%llu %s, %llu bytes; frame %llu, from byte %llu, is refused, %lu: %s", number,
-                 frames, start, number, start, (unsigned long)dump->refusal,
-                 lampreycoil_refusal_words(dump->refusal));
+                 "%llu %s, %llu bytes; frame %llu, from byte %llu, is refused, %lu: %s (%s)%s",
+                 number, frames, start, number, start, (unsigned long)dump->refusal,
+                 lampreycoil_refusal_words(dump->refusal), dump->reason, tell_next(dump, next));
 }
 
 void show_stop(const struct dump *dump)

@@ -61,7 +61,7 @@ const char usage[] =
     "  --type-number N      the type byte, in place of --type\n"
     "\n"
     "Exit status: 0 done; 1 the library refused the message or a frame, also one that\n"
-    "is torn, and its number and words are printed; 2 wrong usage, a frame that is not\n"
-    "there, or a file that cannot be used or an output that cannot be written.\n";
+    "is torn, and its number and words are printed; 2 wrong usage, a frame or a payload\n"
+    "that is not there, a file that cannot be used, or an output that cannot be written.\n";
 
 const struct command commands[] = {{"write", command_write}, {"dump", command_dump}, {NULL, NULL}};

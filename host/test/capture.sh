@@ -9,14 +9,25 @@ stops() { # LABEL STATUS TEXT WORDS...
     part='tail -n 1' shows "$1" "$2" "stop          $3" "${@:4}"
 }
 
+# How many of the bytes are there, and missing, that tell a frame's length.
+few() { # BYTES
+    echo "$1 of the 8 bytes that tell a frame's length $([ "$1" -eq 1 ] && echo is || echo are) there; missing: $((8 - $1))"
+}
+
 # What is told of a tail of so many bytes of the request for "log".
 torn() { # BYTES
     if [ "$1" -lt 8 ]; then
-        echo "is torn: $1 of 8 bytes are there, which tell the frame's length; missing: $((8 - $1))"
+        echo "is torn: $(few "$1")"
     else
         echo "is torn: $1 of 35 bytes are there; missing: $((35 - $1))"
     fi
 }
+
+# What is told of the frame in the file nine, behind which a frame would begin at this byte.
+nine() { # BYTE
+    echo "is refused, 9: $n9 (the topic, from byte 9, does not end with a zero byte); by its front the next one would begin at byte $1"
+}
+junk="is refused, 2: $n2 (77 68 61 74 in place of FF EE 00 12)"
 
 # ---- several frames
 
@@ -64,11 +75,11 @@ shows 'a single frame is shown without its place' 0 "$(printf '%s\n' "$two_frame
 : >"$room/nothing"
 shows 'an empty file' 1 "input         0 bytes
 refused       1: $n1
-because       0 of 8 bytes are there, which tell the frame's length; missing: 8
+because       0 of the 8 bytes that tell a frame's length are there; missing: 8
 bytes         none" "$room/nothing"
 shows 'a summary of an empty file' 1 'stop          no frame: the capture is empty' --summary "$room/nothing"
-shows 'the JSON of an empty file' 1 '{"accepted":false,"input":0,"refusal":1,"words":"'"$n1"'","because":"0 of 8 bytes are there, which tell the frame'"'"'s length; missing: 8","front":"","needed":8}' --json "$room/nothing"
-stops 'a summary of a refused frame' 1 "0 frames, 0 bytes; frame 0, from byte 0, is refused, 9: $n9" --summary "$room/nine"
+shows 'the JSON of an empty file' 1 '{"accepted":false,"input":0,"refusal":1,"words":"'"$n1"'","because":"0 of the 8 bytes that tell a frame'"'"'s length are there; missing: 8","front":"","needed":8}' --json "$room/nothing"
+stops 'a summary of a refused frame' 1 "0 frames, 0 bytes; frame 0, from byte 0, $(nine 31)" --summary "$room/nine"
 
 # ---- a torn tail
 
@@ -100,7 +111,21 @@ stop          1 frame, 29 bytes; frame 1, from byte 29, $(torn 17)" "$room/torn"
 head -c 32 "$room/two" >"$room/front"
 has_lines 'a torn front' 1 "$room/front" -- 'input         3 bytes from there on' 'bytes         FF EE 00'
 { cat "$room/log" && echo; } >"$room/newline"
-stops 'a newline behind a frame' 1 "1 frame, 35 bytes; frame 1, from byte 35, is torn: 1 of 8 bytes are there, which tell the frame's length; missing: 7; no frame begins with these" "$room/newline"
+stops 'a newline behind a frame' 1 "1 frame, 35 bytes; frame 1, from byte 35, is refused, 1: $n1 ($(few 1); no frame begins with this)" "$room/newline"
+
+good=0
+for bytes in FE 'FF EF' 'FF EE 01' 'FF EE 00 13' 'FF EE 00 13 00' 'FF EE 00 13 00 00' 'FF EE 00 13 00 00 00'; do
+    { cat "$room/log" && unhex "$bytes"; } >"$room/in"
+    for words in '' --summary; do
+        # shellcheck disable=SC2086 # the words are words
+        run dump $words "$room/in"
+        [ "$status" -eq 1 ] && tail -n 1 "$room/out" | grep -qF "from byte 35, is refused, 1: $n1 (" && ! grep -q torn "$room/out" || good=1
+    done
+    run dump --json "$room/in"
+    [ "$status" -eq 1 ] && [ "$(tail -n 1 "$room/out")" = '{"stop":"refused","frames":1,"bytes":35,"refusal":1}' ] || good=1
+done
+report "$good" 'a tail of fewer than 8 bytes that no frame begins with is refused'
+dump_tells 'such a tail alone, of two bytes' 'FF EF' "because       $(few 2); no frame begins with these"
 
 { cat "$room/log" "$room/control" && head -c 12 "$room/log"; } >"$room/capture"
 shows 'the summary in README.md' 1 "$(sed -n '/^\$ .* dump --summary capture$/,/^\$ .*flux_floor/p' README.md | grep -v '^\$')" --summary "$room/capture"
@@ -108,15 +133,21 @@ shows 'the summary in README.md' 1 "$(sed -n '/^\$ .* dump --summary capture$/,/
 # ---- a frame that is refused
 
 { cat "$room/two" && printf 'what is no frame'; } >"$room/junk"
-stops 'junk behind frames' 1 "2 frames, 64 bytes; frame 2, from byte 64, is refused, 2: $n2" "$room/junk"
+stops 'junk behind frames' 1 "2 frames, 64 bytes; frame 2, from byte 64, $junk" "$room/junk"
 has_lines 'and which' 1 "$room/junk" -- 'frame 2       from byte 64 of the capture' 'input         16 bytes from there on' \
     'because       77 68 61 74 in place of FF EE 00 12'
 cat "$room/control" "$room/nine" "$room/log" >"$room/middle"
-stops 'a refused frame among others' 1 "1 frame, 29 bytes; frame 1, from byte 29, is refused, 9: $n9" --summary "$room/middle"
+stops 'a refused frame among others' 1 "1 frame, 29 bytes; frame 1, from byte 29, $(nine 60)" --summary "$room/middle"
 has_lines 'its own places count from its front' 1 "$room/middle" -- 'frame 1       from byte 29 of the capture' \
     'input         66 bytes from there on' 'because       the topic, from byte 9, does not end with a zero byte' '  1 header    20 bytes, from byte 11'
 ! grep -q '^matchtag' "$room/out"
 report $? 'nothing behind it is shown'
+{ cat "$room/control" && unhex "$start 00 00 80 01"; } >"$room/in"
+stops 'a body too long tells no next frame' 1 "1 frame, 29 bytes; frame 1, from byte 29, is refused, 3: $n3 (the body length is 32769)" "$room/in"
+{ cat "$room/control" && unhex "$start 00 00 00 01 01 00 00"; } >"$room/in"
+stops 'a part past the body is the first that does' 1 "1 frame, 29 bytes; frame 1, from byte 29, is refused, 4: $n4 (part 0, at byte 8, has the size 1, and the body ends at byte 9); by its front the next one would begin at byte 38" "$room/in"
+{ cat "$room/control" && unhex "${log/FF FF FF FF 00 00 00 01/FF FF FF FE 00 00 00 01}"; } >"$room/in"
+stops 'a field is the last' 1 "1 frame, 29 bytes; frame 1, from byte 29, is refused, 10: $n10 (the request's nodeid is 4294967294); by its front the next one would begin at byte 64" "$room/in"
 
 # ---- one of several
 
@@ -129,10 +160,12 @@ has_lines '--frame of the torn tail' 1 --frame 1 "$room/torn" -- 'frame 1       
 stops '--frame of the torn tail, as a summary' 1 "1 frame, 29 bytes; frame 1, from byte 29, $(torn 17)" --frame 1 --summary "$room/torn"
 has_lines '--frame of a refused frame' 1 --frame 1 "$room/middle" -- "refused       9: $n9"
 wrong 'a frame behind the last' 'no frame 4 (the first is frame 0): 4 frames, 218 bytes, and nothing behind them' dump --frame 4 "$room/four"
-wrong 'a frame behind a refused one' "no frame 2 (the first is frame 0): 1 frame, 29 bytes; frame 1, from byte 29, is refused, 9: $n9" dump --frame 2 "$room/middle"
+wrong 'a frame behind a refused one' "no frame 2 (the first is frame 0): 1 frame, 29 bytes; frame 1, from byte 29, $(nine 60)" dump --frame 2 "$room/middle"
 wrong 'a frame behind a torn one' "$(torn 17)" dump --frame 4294967295 "$room/torn"
-wrong 'a frame of an empty file' 'no frame 0 (the first is frame 0): no frame: the capture is empty' dump --frame 0 "$room/nothing"
+wrong 'a frame of an empty file' 'there is no frame 0: the capture is empty' dump --frame 0 "$room/nothing"
 wrong 'a frame that is no number' "not 'last'" dump --frame last "$room/four"
+wrong 'a frame above 4 bytes' "at most 4294967295, not '4294967296'" dump --frame 4294967296 "$room/four"
+shows '--frame in hexadecimal' 0 "$response_line" --summary --frame 0x2 "$room/four"
 wrong 'a frame below the first' "not '-1'" dump --frame -1 "$room/four"
 wrong '--frame twice' '--frame is given twice' dump --frame 1 --frame 1 "$room/four"
 for words in --json --all "--payload-out=$room/none" "--frame-out=$room/none"; do
@@ -151,7 +184,8 @@ report $? 'the payload of the frame that is named'
 shows 'the same on standard output' 0 hi --payload-out - --frame 2 "$room/four"
 wrong 'a named frame without a payload' 'no payload' dump --payload-out "$room/none" --frame 1 "$room/four"
 run dump --payload-out - --frame 1 "$room/middle"
-[ "$status" -eq 1 ] && [ ! -s "$room/out" ] && grep -q 'refused, 9: ' "$room/err"
+[ "$status" -eq 1 ] && [ ! -s "$room/out" ] &&
+    [ "$(cat "$room/err")" = "flux_frame: refused, 9: $n9 (the topic, from byte 9, does not end with a zero byte)" ]
 report $? 'no payload of a named frame that is refused'
 
 # ---- a frame, cut out
@@ -225,9 +259,9 @@ case $four_json in
 esac
 shows 'the JSON of a frame that is named' 0 "$(placed_json 2 64 "$room/response")" --json --frame 2 "$room/four"
 shows 'the JSON of a torn tail' 1 "$(placed_json 0 0 "$room/control")
-"'{"accepted":false,"number":1,"start":29,"input":3,"refusal":1,"words":"'"$n1"'","because":"3 of 8 bytes are there, which tell the frame'"'"'s length; missing: 5","front":"FFEE00","needed":8}
+"'{"accepted":false,"number":1,"start":29,"input":3,"refusal":1,"words":"'"$n1"'","because":"3 of the 8 bytes that tell a frame'"'"'s length are there; missing: 5","front":"FFEE00","needed":8}
 {"stop":"torn","frames":1,"bytes":29,"refusal":1}' --json "$room/front"
-shows 'the JSON of a named frame that is torn' 1 '{"accepted":false,"number":1,"start":29,"input":3,"refusal":1,"words":"'"$n1"'","because":"3 of 8 bytes are there, which tell the frame'"'"'s length; missing: 5","front":"FFEE00","needed":8}' --json --frame 1 "$room/front"
+shows 'the JSON of a named frame that is torn' 1 '{"accepted":false,"number":1,"start":29,"input":3,"refusal":1,"words":"'"$n1"'","because":"3 of the 8 bytes that tell a frame'"'"'s length are there; missing: 5","front":"FFEE00","needed":8}' --json --frame 1 "$room/front"
 shows 'the JSON of junk behind frames' 1 "$(printf '%s\n' "$four_json" | head -n 2)
 "'{"accepted":false,"number":2,"start":64,"input":16,"refusal":2,"words":"'"$n2"'","because":"77 68 61 74 in place of FF EE 00 12","front":"7768617420697320"}
 {"stop":"refused","frames":2,"bytes":64,"refusal":2}' --json "$room/junk"
@@ -248,7 +282,7 @@ report $? 'each of 3,073 frames has its number and place'
 { cat "$room/1024" && head -c 34 "$room/log"; } >"$room/in"
 stops 'a torn frame behind a full list' 1 "1024 frames, 29696 bytes; frame 1024, from byte 29696, $(torn 34)" --summary "$room/in"
 cat "$room/1024" "$room/nine" >"$room/in"
-stops 'a refused frame behind a full list' 1 "1024 frames, 29696 bytes; frame 1024, from byte 29696, is refused, 9: $n9" "$room/in"
+stops 'a refused frame behind a full list' 1 "1024 frames, 29696 bytes; frame 1024, from byte 29696, $(nine 29727)" "$room/in"
 
 # ---- captures above 1,048,576 bytes, which one call looks at: 31 of the longest frames, then others
 
@@ -280,7 +314,7 @@ run write --type request --topic log --payload <(bytes 32480) -o "$room/last"
 cat "$room/31" "$room/last" >"$room/exact"
 stops 'frames that end at that byte' 0 '32 frames, 1048576 bytes, and nothing behind them' --summary "$room/exact"
 { cat "$room/exact" && printf 'what is no frame'; } >"$room/in"
-stops 'junk behind that byte' 1 "32 frames, 1048576 bytes; frame 32, from byte 1048576, is refused, 2: $n2" --summary "$room/in"
+stops 'junk behind that byte' 1 "32 frames, 1048576 bytes; frame 32, from byte 1048576, $junk" --summary "$room/in"
 bytes 1048576 >"$room/in"
 has_lines 'no frame, of 1,048,576 bytes' 1 "$room/in" -- 'input         1048576 bytes' "refused       2: $n2"
 bytes 1048577 >"$room/in"

@@ -47,9 +47,9 @@ unwritten() { # LABEL TEXT WORDS...
 # ---- a refused frame: what can be said of it
 
 dump_tells 'no bytes: how many are needed' '' 'input         0 bytes' 'bytes         none' \
-    "because       0 of 8 bytes are there, which tell the frame's length; missing: 8"
+    "because       0 of the 8 bytes that tell a frame's length are there; missing: 8"
 dump_tells '5 bytes: which, and how many are needed' "$start 00" 'input         5 bytes' 'bytes         FF EE 00 12 00' \
-    "because       5 of 8 bytes are there, which tell the frame's length; missing: 3"
+    "because       5 of the 8 bytes that tell a frame's length are there; missing: 3"
 dump_tells 'a torn body: how many bytes are needed, and its parts so far' "${log% 01}" 'body          27 bytes, from byte 8' \
     'because       34 of 35 bytes are there; missing: 1' 'parts         2 can be split' '  1           4 bytes, from byte 10: "log\x00"' \
     '              no more from byte 14 on'
@@ -135,6 +135,7 @@ report $? '--payload-out - writes the payload alone'
 wrong 'no payload to write' 'no payload' dump --payload-out "$room/none" "$room/log"
 [ ! -e "$room/none" ]
 report $? 'and no file for it'
+wrong 'no payload for standard output' 'no payload to write to standard output' dump --payload-out - "$room/log"
 run dump --payload-out "$room/none" "$room/obeyed"
 [ "$status" -eq 1 ] && [ ! -e "$room/none" ] && grep -q '^refused  ' "$room/out"
 report $? 'no payload of a refused frame'
@@ -149,7 +150,7 @@ header_hex='8E010109FFFFFFFF00000000FFFFFFFF00000001'
 shows 'the JSON of log' 0 '{"accepted":true,"input":35,"frame":35,"behind":0,"type":1,"type_name":"request","flags":9,"flag_names":["topic","route"],"userid":4294967295,"rolemask":0,"role_names":[],"first":4294967295,"second":1,"first_name":"nodeid","second_name":"matchtag","routes":[],"delimiter":{"start":9,"length":0,"hex":""},"topic":{"start":10,"length":3,"hex":"6C6F67","text":"log"},"payload":null,"header":{"start":15,"length":20,"hex":"'$header_hex'"}}' --json "$room/log"
 shows 'the JSON of a response' 0 '{"accepted":true,"input":119,"frame":119,"behind":0,"type":2,"type_name":"response","flags":127,"flag_names":["topic","payload","noresponse","route","upstream","private","streaming"],"userid":1000,"rolemask":17,"role_names":["owner"],"first":38,"second":7,"first_name":"errnum","second_name":"matchtag","error_name":"ENOSYS","routes":[{"start":9,"length":37,"text":"'$two'"},{"start":47,"length":37,"text":"'$one'"}],"delimiter":{"start":85,"length":0,"hex":""},"topic":{"start":86,"length":8,"hex":"6B76732E22676574","text":"kvs.\"get"},"payload":{"start":96,"length":2,"hex":"6869"},"header":{"start":99,"length":20,"hex":"8E01027F000003E8000000110000002600000007"}}' --json "$room/response"
 printf '\xFF\xEE\0' >"$room/short"
-shows 'the JSON of 3 bytes' 1 '{"accepted":false,"input":3,"refusal":1,"words":"'"$n1"'","because":"3 of 8 bytes are there, which tell the frame'"'"'s length; missing: 5","front":"FFEE00","needed":8}' --json "$room/short"
+shows 'the JSON of 3 bytes' 1 '{"accepted":false,"input":3,"refusal":1,"words":"'"$n1"'","because":"3 of the 8 bytes that tell a frame'"'"'s length are there; missing: 5","front":"FFEE00","needed":8}' --json "$room/short"
 unhex "$start 00 00 00 17 01 1B 14 8E 01 04 01 $fields" >"$room/nine"
 shows 'the JSON of a refused frame' 1 '{"accepted":false,"input":31,"refusal":9,"words":"'"$n9"'","because":"the topic, from byte 9, does not end with a zero byte","front":"FFEE001200000017","body":23,"header_start":11,"header_is_last_part":true,"type":4,"type_name":"event","flags":1,"flag_names":["topic"],"userid":0,"rolemask":0,"role_names":[],"first":2,"second":3,"first_name":"sequence","second_name":"unused","whole":true,"parts":[{"role":"topic","start":9,"length":1,"hex":"1B"},{"role":"header","start":11,"length":20,"hex":"8E01040100000000000000000000000200000003"}]}' --json "$room/nine"
 
