@@ -13,6 +13,8 @@ if [ -z "${FLUX_FRAME:-}" ] || [ -z "${FLUX_FLOOR:-}" ]; then
     FLUX_FLOOR=${FLUX_FLOOR:-target/host/flux_floor}
     make --no-print-directory -s host >&2 || { echo "host/test.sh: make host failed" >&2; exit 2; }
 fi
+# Absolute, so that a test may run them in another folder.
+FLUX_FRAME=$(realpath "$FLUX_FRAME") && FLUX_FLOOR=$(realpath "$FLUX_FLOOR") || exit 2
 
 ARCHIVE=${ARCHIVE:-target/staticlib/liblampreycoil.a}
 room=$(mktemp -d) || exit 2
@@ -287,6 +289,9 @@ dump_refuses "an event's unused field is 10" 10 "$n10" "$start 00 00 00 18 02 41
 
 helps run '--payload-text'
 helps run '--payload-text' write
+helps run '--frame-out FILE' dump
+helps run 'a route, in lower case' write
+helps run 'a frame or a payload' dump
 wrong 'no command' 'flux_frame dump [OPTIONS] [FILE]'
 wrong 'an unknown command' "unknown command 'send'" send
 wrong 'an unknown option of write' "unknown option '--colour'" write --type event --colour red
@@ -322,12 +327,14 @@ wrong 'a payload that is too long' 'longer than 1048576 bytes' write --type even
 
 # ---- the header
 
+# The examples of README.md, which host/test/stream.c runs.
+awk '/^```c$/ { code = 1; next } /^```$/ { code = 0 } code' README.md >"$room/readme.c"
+
 # shellcheck source=host/test/header.sh
 . host/test/header.sh
 
 # ---- the list of a stream, the step, the examples of README.md, the walk, and the stack
 
-awk '/^```c$/ { code = 1; next } /^```$/ { code = 0 } code' README.md >"$room/readme.c"
 "${CC:-gcc}" -std=c99 -Wall -Wextra -Werror -Iinclude -c -o "$room/readme.o" "$room/readme.c" >"$room/out" 2>"$room/err"
 status=$?
 report "$status" 'the examples of README.md compile'

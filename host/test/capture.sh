@@ -62,6 +62,10 @@ unhex "${log/FF FF FF FF 00 00 00 01/00 00 00 04 00 00 00 01}" >"$room/rank4"
 has_lines 'a request to a rank, and an error without a name' 0 --summary <(cat "$room/rank4" "$room/nameless") -- \
     'frame 0          35 bytes, from byte 0         request   "log", nodeid 4, matchtag 1, no payload' \
     'frame 1          33 bytes, from byte 35        response  "x", errnum 4000, matchtag 0, no payload'
+run write --type response --topic x --errnum 4294967295 --route $one -o "$room/any"
+shows 'one route, and an error that is not called any' 0 \
+    'frame 0          71 bytes, from byte 0         response  "x", errnum 4294967295, matchtag 0, no payload, 1 route' --summary --frame 0 "$room/any"
+has_lines 'nor as text' 0 "$room/any" -- 'errnum        4294967295' 'routes        1'
 cat "$room/thirty" "$room/thirty" >"$room/sixty"
 run dump --all "$room/sixty"
 [ "$status" -eq 0 ] && [ "$(grep -c '^  0040  ' "$room/out")" -eq 2 ] && ! grep -q 'more' "$room/out"
@@ -266,6 +270,18 @@ shows 'the JSON of junk behind frames' 1 "$(printf '%s\n' "$four_json" | head -n
 "'{"accepted":false,"number":2,"start":64,"input":16,"refusal":2,"words":"'"$n2"'","because":"77 68 61 74 in place of FF EE 00 12","front":"7768617420697320"}
 {"stop":"refused","frames":2,"bytes":64,"refusal":2}' --json "$room/junk"
 
+good=0
+for words in log four nine front junk; do
+    "$FLUX_FRAME" dump --json "$room/$words"
+done >"$room/out"
+for words in $(grep -o '"[a-z_]*":' "$room/out" | tr -d '":' | sort -u) more; do
+    case $words in
+    role | length | hex | text) ;; # these stand with what they are of
+    *) grep -qx "\.I $words" man/flux_frame.1 || good=1 ;;
+    esac
+done
+report "$good" 'each field is in the page of flux_frame'
+
 # ---- more frames than one list has room for: 1,024
 
 for _ in $(seq 32); do cat "$room/control"; done >"$room/32"
@@ -325,6 +341,10 @@ run dump --json "$room/long-junk"
 [ "$status" -eq 1 ] && sed -n 2p "$room/out" | grep -q '^{"accepted":false,"number":1,"start":35,"input":1048576,"more":true,"refusal":2,'
 report $? 'and as JSON'
 
+run dump --json "$room/thrice"
+[ "$status" -eq 0 ] && [ "$(wc -l <"$room/out")" -eq 100 ] && ! grep -q '"more"' "$room/out"
+report $? 'whole frames of a long capture have no more behind them'
+
 # ---- bytes that a terminal would obey, and outputs that cannot be written
 
 run write --type event --topic "$obeyed" -o "$room/obeyed-topic"
@@ -339,7 +359,7 @@ for words in '' --summary --json '--frame 1'; do
     # shellcheck disable=SC2086 # the words are words
     unwritten "dump $words of several frames that cannot be written" 'cannot write standard output' dump $words "$room/four"
 done
-"$FLUX_FRAME" dump "$room/thrice" 2>"$room/err" | head -n 1 >"$room/out"
+"$FLUX_FRAME" dump --json "$room/thrice" 2>"$room/err" | head -c 1 >"$room/out"
 status=${PIPESTATUS[0]}
 [ "$status" -eq 2 ] && grep -q 'cannot write standard output' "$room/err"
 report $? 'a reader that goes away'

@@ -164,7 +164,7 @@ run dump --json --version
 report $? 'dump --version'
 writes 'log, each value in its option' "$log" --type=request --topic=log --matchtag=1 --nodeid=any --
 cp "$room/log" "$room/--all"
-(cd "$room" && "$OLDPWD/$FLUX_FRAME" dump -- --all >out 2>err)
+(cd "$room" && "$FLUX_FRAME" dump -- --all >out 2>err)
 status=$?
 [ "$status" -eq 0 ] && grep -qx 'frame         35 bytes' "$room/out"
 report $? 'a file named like an option, behind --'

@@ -43,8 +43,10 @@ echo 'int main(void) { return 0; }' >"$room/watched.c"
 if "${CC:-gcc}" $watched -o "$room/watched" "$room/watched.c" 2>"$room/err" && "$room/watched" 2>"$room/err"; then
     program empty "${CC:-gcc}" -std=c99 $watched
     program helpers "${CC:-gcc}" -std=c99 $watched
+    program read_stream "${CC:-gcc}" -std=c99 $watched
+    program stream "${CC:-gcc}" -std=c99 $watched
 else
-    echo 'no sanitizers here: host/test/empty.c and helpers.c run without them alone'
+    echo 'no sanitizers here: host/test/empty.c, helpers.c, read_stream.c and stream.c run without them alone'
 fi
 
 # An answer that nobody looks at is a warning: of each call, and of what is made of the calls.
