@@ -113,7 +113,8 @@ static void explain_parts(const uint8_t *bytes, const struct split *split, char 
     }
     asked += (flags & LAMPREYCOIL_TOPIC) != 0 ? 1u : 0u;
     asked += (flags & LAMPREYCOIL_PAYLOAD) != 0 ? 1u : 0u;
-    say(reason, "there are %zu parts, and the flags ask for %zu", split->count, asked);
+    say(reason, "there %s %zu part%s, and the flags ask for %zu", split->count == 1 ? "is" : "are",
+        split->count, plural(split->count), asked);
 }
 
 /* What should stand at this place of a route. */

@@ -3,35 +3,7 @@
 
 #include "dump.h"
 #include "names.h"
-#include "quoted.h"
-
-/* The flags that no part stands for. */
-enum {
-    FLAGS_SHOWN =
-        LAMPREYCOIL_NORESPONSE | LAMPREYCOIL_UPSTREAM | LAMPREYCOIL_PRIVATE | LAMPREYCOIL_STREAMING
-};
-
-static void print_topic(const struct dump *dump)
-{
-    print_quoted(stdout, dump->frame.bytes + dumped(dump, LAMPREYCOIL_READ_TOPIC_START),
-                 dumped(dump, LAMPREYCOIL_READ_TOPIC_LENGTH));
-    printf(", ");
-}
-
-static void print_fields(const struct fields *fields, const struct type_names *names)
-{
-    const struct error_name *error = error_by_number(fields->first);
-
-    if (fields->type == LAMPREYCOIL_REQUEST && fields->first == LAMPREYCOIL_NODEID_ANY)
-        printf("%s any", names->first);
-    else
-        printf("%s %lu", names->first, (unsigned long)fields->first);
-    if (fields->type == LAMPREYCOIL_RESPONSE && error != NULL)
-        printf(" %s", error->name);
-    /* An event's second field is always zero. */
-    if (fields->type != LAMPREYCOIL_EVENT)
-        printf(", %s %lu", names->second, (unsigned long)fields->second);
-}
+#include "one_line.h"
 
 static void print_payload(const struct dump *dump, uint8_t flags)
 {
@@ -40,35 +12,26 @@ static void print_payload(const struct dump *dump, uint8_t flags)
     if ((flags & LAMPREYCOIL_PAYLOAD) == 0)
         printf(", no payload");
     else
-        printf(", payload %lu %s", (unsigned long)length, counted(length));
-}
-
-static void print_marks(const struct dump *dump, uint8_t flags)
-{
-    uint32_t routes = dumped(dump, LAMPREYCOIL_READ_ROUTES);
-
-    if (routes > 0)
-        printf(", %lu %s", (unsigned long)routes, routes == 1 ? "route" : "routes");
-    for (size_t i = 0; i < FLAG_NAMES; i++) {
-        if ((flags & FLAGS_SHOWN & flag_names[i].bit) != 0)
-            printf(", %s", flag_names[i].name);
-    }
+        printf(", payload %lu byte%s", (unsigned long)length, plural(length));
 }
 
 void show_summary(const struct dump *dump)
 {
     struct fields fields = fields_at(dump->frame.bytes + header_start(dump));
-    const struct type_names *names = type_by_number(fields.type);
+    const uint8_t *topic = dump->frame.bytes + dumped(dump, LAMPREYCOIL_READ_TOPIC_START);
+    uint32_t routes = dumped(dump, LAMPREYCOIL_READ_ROUTES);
 
     printf("frame %-7llu %5zu bytes, from byte %-9llu %-8s  ", dump->frame.number,
-           dump->frame.length, dump->frame.start, names->name);
-    if ((fields.flags & LAMPREYCOIL_TOPIC) != 0)
-        print_topic(dump);
-    print_fields(&fields, names);
+           dump->frame.length, dump->frame.start, type_by_number(fields.type)->name);
+    print_topic_and_fields((fields.flags & LAMPREYCOIL_TOPIC) != 0 ? topic : NULL,
+                           dumped(dump, LAMPREYCOIL_READ_TOPIC_LENGTH), fields.type, fields.first,
+                           fields.second);
     /* A control message cannot have one. */
     if (fields.type != LAMPREYCOIL_CONTROL)
         print_payload(dump, fields.flags);
-    print_marks(dump, fields.flags);
+    if (routes > 0)
+        printf(", %lu route%s", (unsigned long)routes, plural(routes));
+    print_marks(fields.flags);
     putchar('\n');
 }
 
@@ -91,22 +54,22 @@ static const char *tell_next(const struct dump *dump, char text[NEXT_ROOM])
 void tell_stop(const struct dump *dump, char text[STOP_ROOM])
 {
     unsigned long long number = dump->frame.number, start = dump->frame.start;
-    const char *frames = number == 1 ? "frame" : "frames";
     enum stop stop = stop_of(dump);
     char next[NEXT_ROOM];
 
     if (stop == STOP_END && number == 0)
         snprintf(text, STOP_ROOM, "no frame: the capture is empty");
     else if (stop == STOP_END)
-        snprintf(text, STOP_ROOM, "%llu %s, %llu bytes, and nothing behind %s", number, frames,
-                 start, number == 1 ? "it" : "them");
+        snprintf(text, STOP_ROOM, "%llu frame%s, %llu bytes, and nothing behind %s", number,
+                 plural(number), start, number == 1 ? "it" : "them");
     else if (stop == STOP_TORN)
-        snprintf(text, STOP_ROOM, "%llu %s, %llu bytes; frame %llu, from byte %llu, is torn: %s",
-                 number, frames, start, number, start, dump->reason);
+        snprintf(text, STOP_ROOM,
+                 "%llu frame%s, %llu bytes; frame %llu, from byte %llu, is torn: %s", number,
+                 plural(number), start, number, start, dump->reason);
     else
         snprintf(text, STOP_ROOM,
-                 "%llu %s, %llu bytes; frame %llu, from byte %llu, is refused, %lu: %s (%s)%s",
-                 number, frames, start, number, start, (unsigned long)dump->refusal,
+                 "%llu frame%s, %llu bytes; frame %llu, from byte %llu, is refused, %lu: %s (%s)%s",
+                 number, plural(number), start, number, start, (unsigned long)dump->refusal,
                  lampreycoil_refusal_words(dump->refusal), dump->reason, tell_next(dump, next));
 }
 

@@ -18,7 +18,7 @@ static void print_number(const char *name, uint32_t number, const char *note)
 
 static void print_place(const char *name, size_t length, size_t start)
 {
-    printf(NAME "%zu %s, from byte %zu\n", name, length, counted(length), start);
+    printf(NAME "%zu byte%s, from byte %zu\n", name, length, plural(length), start);
 }
 
 /* The names of the bits that are set. Returns the bits that have none. */
@@ -96,7 +96,7 @@ static void print_topic(const struct dump *dump)
         return;
     }
     print_quoted(stdout, dump->frame.bytes + start, length);
-    printf(" (%zu %s), from byte %zu\n", length, counted(length), start);
+    printf(" (%zu byte%s), from byte %zu\n", length, plural(length), start);
 }
 
 static void print_row(const uint8_t *bytes, size_t at, size_t length)
@@ -128,8 +128,8 @@ static void print_payload(const struct dump *dump)
     for (size_t at = 0; at < shown; at += ROW)
         print_row(dump->frame.bytes + start, at, shown - at < ROW ? shown - at : ROW);
     if (shown < length)
-        printf("  %-12s%zu %s more (--all shows all)\n", "", length - shown,
-               counted(length - shown));
+        printf("  %-12s%zu byte%s more (--all shows all)\n", "", length - shown,
+               plural(length - shown));
 }
 
 /* Which frame it is. The number is cut nowhere, however long, and a space always follows it. */
@@ -160,8 +160,8 @@ static void print_part(const struct dump *dump, size_t index)
     const struct part *part = &dump->split.parts[index];
     size_t shown = part->length < PART_SHOWN ? part->length : PART_SHOWN;
 
-    printf(" %2zu %-10s%zu %s, from byte %zu", index, role_name(part->role), part->length,
-           counted(part->length), part->start);
+    printf(" %2zu %-10s%zu byte%s, from byte %zu", index, role_name(part->role), part->length,
+           plural(part->length), part->start);
     if (shown > 0 && part->role != ROLE_HEADER) {
         printf(": ");
         print_quoted(stdout, dump->frame.bytes + part->start, shown);
@@ -196,7 +196,7 @@ static void print_input(const struct dump *dump)
         print_frame_number(dump);
         printf("from byte %llu of the capture\n", dump->frame.start);
     }
-    printf(NAME "%zu %s%s%s\n", "input", length, counted(length),
+    printf(NAME "%zu byte%s%s%s\n", "input", length, plural(length),
            dump->placed ? " from there on" : "", dump->frame.more ? ", and more behind them" : "");
 }
 

@@ -4,6 +4,7 @@
 
 #include "files.h"
 #include "floor.h"
+#include "names.h"
 #include "program.h"
 #include "quoted.h"
 
@@ -50,8 +51,9 @@ int command_check(int count, char **words)
     status = check_floor(floor, stdout);
     if (status == 0) {
         print_plain(stdout, floor->file);
-        printf(": a valid floor: %lu ranks, depth %u, %lu services\n", (unsigned long)floor->ranks,
-               tree_depth(floor), (unsigned long)floor->services);
+        printf(": a valid floor: %lu rank%s, depth %u, %lu service%s\n",
+               (unsigned long)floor->ranks, plural(floor->ranks), tree_depth(floor),
+               (unsigned long)floor->services, plural(floor->services));
     }
     return flush_output() == 0 ? status : EXIT_TROUBLE;
 }

@@ -3,6 +3,7 @@
 #include <string.h>
 
 #include "names.h"
+#include "one_line.h"
 #include "quoted.h"
 
 uint32_t see(struct seen *seen, const struct floor *floor, const uint8_t *frame, size_t length)
@@ -33,22 +34,14 @@ uint32_t see(struct seen *seen, const struct floor *floor, const uint8_t *frame,
 
 void tell_message(const struct seen *seen)
 {
-    const struct type_names *names = type_by_number(seen->type);
-    uint32_t parts = LAMPREYCOIL_TOPIC | LAMPREYCOIL_PAYLOAD | LAMPREYCOIL_ROUTE;
-    uint32_t others = seen->flags & ~parts;
+    int topic = (seen->flags & LAMPREYCOIL_TOPIC) != 0;
 
-    printf("%s ", names->name);
-    print_quoted(stdout, seen->topic, seen->topic_length);
-    if (seen->type == LAMPREYCOIL_REQUEST && seen->first == LAMPREYCOIL_NODEID_ANY)
-        printf(", %s any", names->first);
-    else
-        printf(", %s %lu", names->first, (unsigned long)seen->first);
-    printf(", %s %lu", names->second, (unsigned long)seen->second);
-    for (size_t i = 0; i < FLAG_NAMES; i++) {
-        if ((others & flag_names[i].bit) != 0)
-            printf(", %s", flag_names[i].name);
-    }
-    printf(": %lu bytes, %lu routes\n", (unsigned long)seen->length, (unsigned long)seen->routes);
+    printf("%s%s ", type_by_number(seen->type)->name, topic ? "" : ",");
+    print_topic_and_fields(topic ? seen->topic : NULL, seen->topic_length, seen->type, seen->first,
+                           seen->second);
+    print_marks(seen->flags);
+    printf(": %lu bytes, %lu route%s\n", (unsigned long)seen->length, (unsigned long)seen->routes,
+           plural(seen->routes));
 }
 
 static void tell_service(const struct seen *seen, const char *before)

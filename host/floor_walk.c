@@ -277,10 +277,10 @@ static int see_entry(const struct play *play, size_t length, const struct walk_w
     }
     /* Of a capture nobody has said which frame is meant. */
     if (length > seen->length)
-        return trouble("%s has %zu %s behind its first frame: a walk takes one frame (cut it out "
-                       "by flux_frame dump --frame N --frame-out FILE)",
-                       input_name(asked->frame), length - seen->length,
-                       counted(length - seen->length));
+        return trouble(
+            "%s has %zu byte%s behind its first frame: a walk takes one frame (cut it out "
+            "by flux_frame dump --frame N --frame-out FILE)",
+            input_name(asked->frame), length - seen->length, plural(length - seen->length));
     /* A walk may be any message's: what the library does not play it refuses. */
     if (asked->type == LAMPREYCOIL_RESPONSE && seen->type != asked->type)
         return trouble("home takes a response, and this message is of type %s",

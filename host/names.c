@@ -40,7 +40,7 @@ const struct type_names *type_by_name(const char *name)
     return NULL;
 }
 
-const char *counted(unsigned long long count)
+const char *plural(unsigned long long count)
 {
-    return count == 1 ? "byte" : "bytes";
+    return count == 1 ? "" : "s";
 }

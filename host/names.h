@@ -34,7 +34,7 @@ const struct error_name *error_by_number(uint32_t number);
 const struct type_names *type_by_number(uint32_t number);
 const struct type_names *type_by_name(const char *name);
 
-/* "byte" for 1, and "bytes" for any other number. */
-const char *counted(unsigned long long count);
+/* What stands behind a word for so many of a thing: nothing for 1, and "s" for any other number. */
+const char *plural(unsigned long long count);
 
 #endif

@@ -74,6 +74,7 @@ dump_tells "a control's flags" "$start 00 00 00 15 14 8E 01 08 01 $fields" \
 dump_tells "an event's flags" "$start 00 00 00 15 14 8E 01 04 00 $fields" 'because       an event has the flag topic and not the flag route'
 dump_tells "a request's flags" "$start 00 00 00 15 14 8E 01 01 01 $fields" 'because       a request or response has the flags topic and route'
 dump_tells 'no delimiter' "$start 00 00 00 18 02 41 00 14 8E 01 01 09 $fields" 'because       flag route is set, and no part in front of the header is empty'
+dump_tells 'a part too few' "$start 00 00 00 15 14 8E 01 04 01 $fields" 'because       there is 1 part, and the flags ask for 2'
 dump_tells 'a part left over' "$start 00 00 00 1B 00 02 41 00 01 42 14 8E 01 01 09 $fields" \
     'because       there are 4 parts, and the flags ask for 3' '  0 delimiter 0 bytes, from byte 9' '  1 topic     2 bytes, from byte 10: "A\x00"' \
     '  2 left over 1 byte, from byte 13: "B"' '  3 header    20 bytes, from byte 15'

@@ -74,6 +74,8 @@ cp "$room/out" "$room/picture"
 floor show - <"$room/tac"
 [ "$status" -eq 0 ] && cmp -s "$room/out" "$room/picture"
 report $? 'show of standard input, its lines in another order, with comments and carriage returns'
+echo '0 none 00000000-0123-4567-89ab-cdef01234567 log' >"$room/floor"
+floor_prints 'one rank and one service' "$room/floor: a valid floor: 1 rank, depth 0, 1 service" check "$room/floor"
 chain 17 >"$room/floor"
 floor_prints 'a depth of 16 is allowed' "$room/floor: a valid floor: 17 ranks, depth 16, 0 services" check "$room/floor"
 floor show "$room/floor"
@@ -221,6 +223,19 @@ report $? 'only the frame is left'
 cp "$room/log" "$room/in"
 walks 'a frame from standard input' 0 'delivered at rank 0, links 0: 0' walk --enter 0 "$example" - <"$room/in"
 walks 'the most ranks' 0 'delivered at rank 1000, links 0: 1000' walk --enter 1000 "$room/most.floor" --topic s.x
+
+# A message in one line is worded as flux_frame dump --summary words it.
+told_as() { # LINE WORDS...
+    floor walk --enter 1 "$example" "${@:2}"
+    grep -qxF "message   $1" "$room/out"
+    report $? "a message of flux_floor: $1"
+}
+told_as 'response "x", errnum 38 ENOSYS, matchtag 0, private: 71 bytes, 1 route' --type response --topic x --errnum 38 --route $two --private
+told_as 'response "x", errnum 4294967295, matchtag 0: 33 bytes, 0 routes' --type response --topic x --errnum 4294967295
+told_as 'request "x", nodeid any, matchtag 2, noresponse, upstream, streaming: 33 bytes, 0 routes' \
+    --topic x --matchtag 2 --noresponse --upstream --streaming
+told_as 'event "x", sequence 5: 32 bytes, 0 routes' --type event --topic x --seq 5
+told_as 'control, control type 2, status 3: 29 bytes, 0 routes' --type control --control-type 2 --status 3
 
 # ---- refusals
 
