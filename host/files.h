@@ -21,8 +21,7 @@ enum { INPUT_MAX = 1048576 };
  */
 int trouble(const char *format, ...);
 
-/* The names of an input and of an output as a person is told them: NULL and "-" are standard ones.
- */
+/* An input's and an output's name as a person is told it: that of NULL and "-" is in words. */
 const char *input_name(const char *name);
 const char *output_name(const char *name);
 

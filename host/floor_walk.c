@@ -248,8 +248,7 @@ static int check_output(const struct walk_words *asked)
     return status;
 }
 
-/* The frame to the front of the buffer, which is as long as a frame can be; length is the file's.
- */
+/* The frame to the front of the buffer, which is as long as a frame can be; *length is all's. */
 static int read_frame(const char *name, uint8_t *buffer, size_t *length)
 {
     static uint8_t bytes[INPUT_MAX + 1];
@@ -278,8 +277,8 @@ static int see_entry(const struct play *play, size_t length, const struct walk_w
     /* Of a capture nobody has said which frame is meant. */
     if (length > seen->length)
         return trouble(
-            "%s has %zu byte%s behind its first frame: a walk takes one frame (cut it out "
-            "by flux_frame dump --frame N --frame-out FILE)",
+            "%s has %zu byte%s behind its first frame: a walk takes one frame (cut it out by "
+            "flux_frame dump --frame N --frame-out FILE)",
             input_name(asked->frame), length - seen->length, plural(length - seen->length));
     /* A walk may be any message's: what the library does not play it refuses. */
     if (asked->type == LAMPREYCOIL_RESPONSE && seen->type != asked->type)
