@@ -309,10 +309,10 @@ uint32_t lampreycoil_read(const uint8_t *bytes, size_t bytes_length, uint8_t *re
  *   next one starts; after 4 to 10 only this frame's own front does (lampreycoil_frame_length).
  *
  * Bytes past the first LAMPREYCOIL_STREAM_MAX count as absent: a frame that crosses that place is 1
- * at its start, though the rest of it is there. So where bytes_length is above
- * LAMPREYCOIL_STREAM_MAX, do not wait for more after 1: call again from the stop, which is then
- * never 0. No frame is shorter than LAMPREYCOIL_FRAME_MIN bytes, so a list of LAMPREYCOIL_LIST_MAX
- * bytes has room for whatever bytes hold.
+ * (or 2 or 3, if its front is in sight and wrong), though the rest of it is there. So where
+ * bytes_length is above LAMPREYCOIL_STREAM_MAX, do not wait for more after 1: call again from the
+ * stop, which is then never 0. No frame is shorter than LAMPREYCOIL_FRAME_MIN bytes, so a list of
+ * LAMPREYCOIL_LIST_MAX bytes has room for whatever bytes hold.
  *
  * What stopped it stands in record alone, and is no refusal of the call: the call returns 0, or 11
  * where record is too short, and then nothing is written.
