@@ -1,6 +1,6 @@
 // A step's and a walk's answer as the row of numbers that a C program gets.
-use broker::Stepped;
 use onward::Walked;
+use sending::Stepped;
 ghost use mathlib.Core.Path.{_≡_};
 ghost use Rattle.answers.specs.Steps.{refusalIn, stepRow, walkRow};
 

@@ -1,12 +1,12 @@
 -- What is known where a frame lies in the buffer, and what each way through a step comes to.
 -- Assumes nothing.
-use mathlib.Core.Path.{_≡_, refl, sym, ap, ap₂, _∙_}
-use mathlib.Core.Bool.{Bool, true, false, cond, _||_}
+use mathlib.Core.Path.{_≡_, refl, sym, ap, ap₂, subst, _∙_}
+use mathlib.Core.Bool.{Bool, true, false, cond}
 use mathlib.Core.Logic.{_⊎_, inl, inr, ⊎-elim}
 use Prim.Native.Nat.{ℕ, _+_, _-_, _*_, _<_, _≤_}
 use mathlib.Core.List.{List, [], _∷_, _++_, append-nil}
 use native.Mathlib.Omega.{arith}
-use borrow.Author.Tests.{lt-ltb, le-ltb}
+use borrow.Author.Tests.{ltb-true, ltb-false, lt-ltb, le-ltb, le-leb}
 use lib.Dec.{ltb}
 use lib.ListN.{length, getD, drop, length-append}
 use Rattle.octets.proofs.Truth.{outcome, or-neither}
@@ -26,28 +26,30 @@ use Rattle.body.specs.declared.Frame.{Frame}
 use Rattle.body.specs.Places.{stretch, dataAt, placesOf}
 use Rattle.body.proofs.Holding.{Begins, begins-read, topic-told, topic-within, route-told, route-most}
 use Rattle.identities.specs.Identities.{brokerOf}
-use Rattle.rewrite.specs.Renewed.{cleared, withoutFront}
+use Rattle.rewrite.specs.Renewed.{cleared, withPart, withoutFront, withHeader}
 use Rattle.routing.specs.declared.Broker.{Broker}
 use Rattle.routing.specs.declared.Way.{Way}
 use Rattle.routing.specs.Requests.{requestWay}
 use Rattle.routing.specs.declared.Back.{Back}
 use Rattle.routing.specs.declared.Back.the-variants.{To}
 use Rattle.routing.specs.Responses.{towardsBroker, responseWay}
-use Rattle.routing.specs.Messages.{pushed, popped, errorReply, tooLarge}
+use Rattle.routing.specs.Messages.{pushed, popped, replyHeader, errorReply, tooLarge}
 use Rattle.routing.specs.Routed.{Outcome, forwarded, replied, silenced, home, failed, forwardedIf, responded}
-use Rattle.broker.specs.declared.Stepped.{Stepped}
-use Rattle.broker.specs.declared.Stepped.the-variants.{Refused}
+use Rattle.sending.specs.declared.Stepped.{Stepped}
+use Rattle.sending.specs.declared.Stepped.the-variants.{Refused, Replied, Silenced}
+use Rattle.sending.specs.Sending.{grownTo, toldOf, leftOf, Forwards, replyIn, Fails}
+use Rattle.sending.proofs.Growing.{or-right-holds, grown-many, grown-long, grown-tight, grown-fits}
 use Rattle.broker.specs.Step.{roomFor, leftBy, toldAs, Makes}
 use Rattle.broker.specs.Working.{heldIn, Lies}
 use Rattle.routing.proofs.Bodies.{body-on-top}
 use Rattle.routing.proofs.Made.{has-group, has-topic as names-topic}
 use Rattle.routing.proofs.Outcomes.{failed-loud, failed-quiet}
 use Rattle.broker.proofs.Bodies.{popped-body, frontOf}
-use Rattle.broker.proofs.Buffers.{body-short, body-within, popped-left}
+use Rattle.broker.proofs.Buffers.{body-short, body-within, pushed-left, popped-left, reply-left}
 
-pub or-right-holds : (a : Bool) {b : Bool} → b ≡ true → (a || b) ≡ true
-or-right-holds true e = refl
-or-right-holds false e = e
+-- one of two numbers is the smaller one
+below : (a b : ℕ) → (a < b) ⊎ (b ≤ a)
+below a b = ⊎-elim (λ t. inl (ltb-true a b t)) (λ f. inr (ltb-false a b f)) (outcome (ltb a b))
 
 -- ---- how a step ends
 
@@ -88,6 +90,15 @@ module _ (b : List ℕ) (f : Frame) (kind : ℕ) (l : Lies b f kind) where
     pub has-topic : hasTopic (heldIn b .header .flags) ≡ true
     has-topic = names-topic (heldIn b) (back-held .writable) typed
 
+    -- it lies behind the first eight bytes
+    pub topic-behind : 8 ≤ f .topic .start
+    unfolding placesOf
+    topic-behind =
+        let m = heldIn b in
+        let ended = m .topic ++ (0 ∷ []) in
+        let start : f .topic .start ≡ dataAt (routing m) ended = ap (λ (g : Frame). g .topic .start) (l .places) ∙ ap (λ (t : Bool). cond t (dataAt (routing m) ended) 0) has-topic in
+        omega (arith, start)
+
     -- the topic ends where the front of the body does, with a zero byte that is not shown
     pub front-told : f .topic .start + f .topic .len + 1 ≡ 8 + length (frontOf (heldIn b))
     unfolding placesOf
@@ -117,7 +128,7 @@ module _ (b : List ℕ) (f : Frame) (l : Lies b f 1) (identity : List ℕ) (shor
   abbrev forwarding : Answer Outcome
   forwarding = andThen (forwardedIf next (pushed identity (heldIn b))) (roomFor (length b))
 
-  pub grown-told : length (bodyOf (pushed identity (heldIn b))) ≡ 1 + length identity + (f .taken - 8)
+  grown-told : length (bodyOf (pushed identity (heldIn b))) ≡ 1 + length identity + (f .taken - 8)
   grown-told =
       omega (
         arith,
@@ -127,10 +138,10 @@ module _ (b : List ℕ) (f : Frame) (l : Lies b f 1) (identity : List ℕ) (shor
         taken-told b f 1 l,
       )
 
-  pub forward-many : 64 ≤ f .routes → forwarding ≡ refused NoForwarding
+  forward-many : 64 ≤ f .routes → forwarding ≡ refused NoForwarding
   forward-many h = rw (lt-ltb 64 (length (identity ∷ heldIn b .routes)) (omega (arith, routes-told b f 1 l)))
 
-  pub forward-long : 32768 < grown → forwarding ≡ refused NoForwarding
+  forward-long : 32768 < grown → forwarding ≡ refused NoForwarding
   forward-long h = rw (or-right-holds (ltb 64 (length (identity ∷ heldIn b .routes))) (lt-ltb 32768 (length (bodyOf (pushed identity (heldIn b)))) (omega (arith, grown-told))))
 
   module _ (few : f .routes < 64) (fits : grown ≤ 32768) where
@@ -140,13 +151,40 @@ module _ (b : List ℕ) (f : Frame) (l : Lies b f 1) (identity : List ℕ) (shor
         (le-ltb 64 (length (identity ∷ heldIn b .routes)) (omega (arith, routes-told b f 1 l)))
         (le-ltb 32768 (length (bodyOf (pushed identity (heldIn b)))) (omega (arith, grown-told)))
 
-    pub forward-tight : length b < 8 + grown → forwarding ≡ refused ShortOutput
+    forward-tight : length b < 8 + grown → forwarding ≡ refused ShortOutput
     forward-tight h =
         rw (small, lt-ltb (length b) (length (frameOf (pushed identity (heldIn b)))) (omega (arith, grown-told, frame-long (pushed identity (heldIn b)))))
 
-    pub forward-on : 8 + grown ≤ length b → forwarding ≡ answered (forwarded next (pushed identity (heldIn b)))
+    forward-on : 8 + grown ≤ length b → forwarding ≡ answered (forwarded next (pushed identity (heldIn b)))
     forward-on h =
         rw (small, le-ltb (length b) (length (frameOf (pushed identity (heldIn b)))) (omega (arith, grown-told, frame-long (pushed identity (heldIn b)))))
+
+  -- what is said and left where the frame lies as f says
+  module _ {r : Stepped} {left : List ℕ} (made : Forwards (f .routes) (f .taken - 8) identity next b r left) where
+    ends : {a : Answer ℕ} {o : Answer Outcome} → grownTo (f .routes) (f .taken - 8) (length identity) (length b) ≡ a → forwarding ≡ o → toldOf next a ≡ toldAs o → leftOf identity (f .taken - 8) b a ≡ leftBy o b → Makes forwarding b r left
+    ends is out told leaves = makes out (made .told ∙ ap (toldOf next) is ∙ told) (made .leaves ∙ ap (leftOf identity (f .taken - 8) b) is ∙ leaves)
+
+    pub forward-made : Makes forwarding b r left
+    forward-made = ⊎-elim (λ few. ⊎-elim (λ long. too-long long) (λ fits. ⊎-elim (too-tight few fits) (goes-on few fits) (below (length b) (8 + grown))) (below 32768 grown)) too-many (below (f .routes) 64)
+      where
+        too-many : 64 ≤ f .routes → Makes forwarding b r left
+        too-many h = ends (grown-many (f .routes) (f .taken - 8) (length identity) (length b) h) (forward-many h) refl refl
+
+        too-long : 32768 < grown → Makes forwarding b r left
+        too-long h = ends (grown-long (f .routes) (f .taken - 8) (length identity) (length b) h) (forward-long h) refl refl
+
+        too-tight : f .routes < 64 → grown ≤ 32768 → length b < 8 + grown → Makes forwarding b r left
+        too-tight few fits h = ends (grown-tight (f .routes) (f .taken - 8) (length identity) (length b) few fits (omega arith)) (forward-tight few fits h) refl refl
+
+        goes-on : f .routes < 64 → grown ≤ 32768 → 8 + grown ≤ length b → Makes forwarding b r left
+        goes-on few fits h =
+            let back = back-held b f 1 l in
+            let size : f .taken - 8 ≡ length (bodyOf (heldIn b)) = omega (arith, taken-told b f 1 l) in
+            ends
+            (grown-fits (f .routes) (f .taken - 8) (length identity) (length b) few fits (omega arith))
+            (forward-on few fits h)
+            refl
+            (ap (λ (n : ℕ). withPart identity n b) size ∙ pushed-left b (heldIn b) back identity (has-route b f 1 l (inl refl)) (omega (arith, short)) (omega (arith, size)))
 
 -- ---- an error
 
@@ -160,6 +198,38 @@ module _ (who : Broker) (errnum : ℕ) (m : Message) where
   -- neither a reply nor silence asks for room
   pub fails-anyhow : (room : ℕ) → roomFor room (failed who errnum m) ≡ answered (failed who errnum m)
   fails-anyhow room = ⊎-elim (λ t. rw t) (λ f. rw f) (outcome (noResponse (m .header .flags)))
+
+-- what is said and left where the frame lies as f says
+module _ (b : List ℕ) (f : Frame) (l : Lies b f 1) (who : Broker) (errnum : ℕ) where
+  abbrev end : ℕ
+  end = f .topic .start + f .topic .len
+
+  kept : end - 8 + 1 ≡ length (frontOf (heldIn b))
+  kept = omega (arith, topic-behind b f 1 l (inl refl), front-told b f 1 l (inl refl))
+
+  replies : replyIn who errnum (f .header) end b ≡ cleared (frameOf (errorReply (who .userid) (who .rolemask) errnum (heldIn b))) b
+  replies =
+      ap (λ (t : Bool). cond t (withHeader (replyHeader (who .userid) (who .rolemask) errnum (f .header)) (end - 8 + 1) b) b)
+      (le-leb 8 end (omega (arith, topic-behind b f 1 l (inl refl))))
+      ∙ ap₂ (λ (h : Header) (n : ℕ). withHeader (replyHeader (who .userid) (who .rolemask) errnum h) n b) (header-told b f 1 l) kept
+      ∙ reply-left b (heldIn b) (back-held b f 1 l) (who .userid) (who .rolemask) errnum (has-route b f 1 l (inl refl)) (has-topic b f 1 l (inl refl))
+
+  module _ {r : Stepped} {left : List ℕ} {last : ℕ} (at : last ≡ end) (given : Fails who errnum (f .header) last b r left) where
+    made : Fails who errnum (f .header) end b r left
+    made = subst (λ (n : ℕ). Fails who errnum (f .header) n b r left) at given
+
+    flags : {t : Bool} → noResponse (heldIn b .header .flags) ≡ t → noResponse (f .header .flags) ≡ t
+    flags e = ap (λ (h : Header). noResponse (h .flags)) (header-told b f 1 l) ∙ e
+
+    told : {t : Bool} → noResponse (heldIn b .header .flags) ≡ t → r ≡ cond t (Silenced errnum) (Replied errnum)
+    told e = made .told ∙ ap (λ (t : Bool). cond t (Silenced errnum) (Replied errnum)) (flags e)
+
+    leaves : {t : Bool} → noResponse (heldIn b .header .flags) ≡ t → left ≡ cond t b (replyIn who errnum (f .header) end b)
+    leaves e = made .leaves ∙ ap (λ (t : Bool). cond t b (replyIn who errnum (f .header) end b)) (flags e)
+
+    pub fail-made : Makes (answered (failed who errnum (heldIn b))) b r left
+    fail-made =
+        ⊎-elim (λ t. makes (fails-silent who errnum (heldIn b) t) (told t) (leaves t)) (λ n. makes (fails-reply who errnum (heldIn b) n) (told n) (leaves n ∙ replies)) (outcome (noResponse (heldIn b .header .flags)))
 
 -- the same step by an answer that is equal
 pub makes-as : {answer a : Answer Outcome} {buffer left : List ℕ} {r : Stepped} → answer ≡ a → Makes a buffer r left → Makes answer buffer r left

@@ -17,8 +17,8 @@ use Rattle.identities.specs.Identities.{identitiesGood}
 use Rattle.rewrite.specs.Renewed.{cleared}
 use Rattle.routing.specs.declared.Broker.{Broker}
 use Rattle.routing.specs.Routed.{Tables, Outcome, delivered, forwarded, replied, silenced, home, routed}
-use Rattle.broker.specs.declared.Stepped.{Stepped}
-use Rattle.broker.specs.declared.Stepped.the-variants.{Refused, Delivered, Forwarded, Replied, Silenced, Home}
+use Rattle.sending.specs.declared.Stepped.{Stepped}
+use Rattle.sending.specs.declared.Stepped.the-variants.{Refused, Delivered, Forwarded, Replied, Silenced, Home}
 
 -- ---- the order of refusals: "Step: 14, 15, 16, 17, reader's numbers, 18, 19, 12, 11"
 

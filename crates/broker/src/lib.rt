@@ -6,12 +6,11 @@ use message::Refusal;
 use routing::Back;
 use routing::Broker;
 use routing::Way;
-ghost use Rattle.message.specs.Answer.{answered, andThen};
+use sending::Stepped;
+ghost use Rattle.message.specs.Answer.{andThen};
 ghost use Rattle.routing.specs.Requests.{requestWay};
 ghost use Rattle.routing.specs.Responses.{responseWay};
-ghost use Rattle.routing.specs.Messages.{pushed};
-ghost use Rattle.routing.specs.Routed.{tablesOf, failed, forwardedIf, requested, responded};
-ghost use Prim.Native.Nat.{_≤_};
+ghost use Rattle.routing.specs.Routed.{tablesOf, requested, responded};
 ghost use lib.ListN.{length};
 ghost use Rattle.broker.specs.Step.{roomFor, passOf, Makes};
 ghost use Rattle.broker.specs.Working.{heldIn, Lies};
@@ -20,53 +19,6 @@ ghost use Rattle.broker.specs.Working.{heldIn, Lies};
 const REQUEST: u8 = 1;
 
 const RESPONSE: u8 = 2;
-
-// What a step says: why it is refused; or delivered with a record's number, forwarded to a rank, an error reply or silence with the error's number,
-// or home.
-pub enum Stepped {
-    Refused(Refusal),
-    Delivered(usize),
-    Forwarded(u32),
-    Replied(u32),
-    Silenced(u32),
-    Home,
-}
-
-// Forwards a request: this broker's identity goes in front of its body.
-fn forward(buffer: &mut [u8], f: Frame, identity: &[u8], next: u32) -> Stepped
-    requires { ⌜ Lies (now buffer) f 1 × (length (now identity) ≤ 37) ⌝ }
-    ensures { λ r. ⌜ Makes (andThen (forwardedIf next (pushed (now (identity .entry)) (heldIn (now (buffer .entry))))) (roomFor (length (now (buffer .entry))))) (now (buffer .entry)) r (now (buffer .exit)) ⌝ }
-{
-    let size = f.taken - FRONT;
-    if f.routes >= message::MOST_ROUTES {
-        return Stepped::Refused(Refusal::NoForwarding);
-    }
-    let grown = 1 + identity.len() + size;
-    if grown > message::MOST_BODY {
-        return Stepped::Refused(Refusal::NoForwarding);
-    }
-    if FRONT + grown > buffer.len() {
-        return Stepped::Refused(Refusal::ShortOutput);
-    }
-    rewrite::put_part(buffer, size, identity);
-    Stepped::Forwarded(next)
-}
-
-// Answers a request with an error, or is silent where it wants no response: the reply is the front of the request's body up to its topic, and a
-// header.
-fn fail(buffer: &mut [u8], f: Frame, b: Broker, errnum: u32) -> Stepped
-    requires { ⌜ Lies (now buffer) f 1 ⌝ }
-    ensures { λ r. ⌜ Makes (answered (failed b errnum (heldIn (now (buffer .entry))))) (now (buffer .entry)) r (now (buffer .exit)) ⌝ }
-{
-    if message::no_response(f.header.flags) {
-        return Stepped::Silenced(errnum);
-    }
-    let topic = f.topic;
-    // the topic ends in a zero byte that is not shown
-    let kept = topic.start + topic.len + 1 - FRONT;
-    rewrite::put_header(buffer, kept, routing::reply_header(b, errnum, f.header));
-    Stepped::Replied(errnum)
-}
 
 // A request: delivered, forwarded, or an error.
 fn request(
@@ -95,9 +47,9 @@ fn request(
         Way::Deliver(number) => Stepped::Delivered(number),
         Way::Forward(next) => {
             let identity = identities::identity_of(identities, b.rank);
-            forward(buffer, f, identity, next)
+            sending::forward(buffer, f.routes, f.taken - FRONT, identity, next)
         }
-        Way::Fail(errnum) => fail(buffer, f, b, errnum),
+        Way::Fail(errnum) => sending::fail(buffer, end, b, errnum, f.header),
     }
 }
 

@@ -20,7 +20,7 @@ use Rattle.message.proofs.Answers.{some-number}
 use Rattle.message.proofs.Frames.{reading}
 use Rattle.routing.specs.declared.Broker.{Broker}
 use Rattle.routing.specs.Routed.{Tables, Outcome, delivered, forwarded, replied, silenced, home}
-use Rattle.broker.specs.declared.Stepped.{Stepped}
+use Rattle.sending.specs.declared.Stepped.{Stepped}
 use Rattle.broker.specs.Step.{stepOf, leftBy, toldAs}
 use Rattle.broker.proofs.Passing.{step-took}
 use Rattle.answers.specs.Steps.{refusalIn, stepRow, frameLength}

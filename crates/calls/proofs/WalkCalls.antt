@@ -18,8 +18,8 @@ use Rattle.message.specs.Refusals.{numberOf}
 use Rattle.message.specs.Answer.{Answer, refused, answered}
 use Rattle.routing.specs.declared.Broker.{Broker}
 use Rattle.routing.specs.Routed.{Tables, Outcome}
-use Rattle.broker.specs.declared.Stepped.{Stepped}
-use Rattle.broker.specs.declared.Stepped.the-variants.{Refused, Delivered, Forwarded, Replied, Silenced, Home}
+use Rattle.sending.specs.declared.Stepped.{Stepped}
+use Rattle.sending.specs.declared.Stepped.the-variants.{Refused, Delivered, Forwarded, Replied, Silenced, Home}
 use Rattle.broker.specs.Step.{toldAs}
 use Rattle.onward.specs.declared.Walked.{Walked}
 use Rattle.walk.specs.Walk.{Walk, walkOf, Walks}

@@ -33,8 +33,8 @@ use Rattle.routing.specs.declared.Broker.{Broker}
 use Rattle.routing.specs.Messages.{withRoutes, errorReply}
 use Rattle.routing.specs.Routed.{Tables, Outcome, delivered, replied, silenced, home}
 use Rattle.routing.proofs.Made.{reply-writable}
-use Rattle.broker.specs.declared.Stepped.{Stepped}
-use Rattle.broker.specs.declared.Stepped.the-variants.{Home}
+use Rattle.sending.specs.declared.Stepped.{Stepped}
+use Rattle.sending.specs.declared.Stepped.the-variants.{Home}
 use Rattle.broker.specs.Step.{ValidTables, leftAfter, toldAs}
 use Rattle.message.proofs.Frames.{frame-long}
 use Rattle.broker.proofs.Keeping.{Sound, sound-read, sound-route, sound-short}

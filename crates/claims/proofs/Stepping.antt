@@ -12,8 +12,8 @@ use Rattle.message.specs.Answer.{Answer, answered}
 use Rattle.message.specs.Reading.{final}
 use Rattle.routing.specs.declared.Broker.{Broker}
 use Rattle.routing.specs.Routed.{Tables, Outcome, forwarded}
-use Rattle.broker.specs.declared.Stepped.{Stepped}
-use Rattle.broker.specs.declared.Stepped.the-variants.{Forwarded}
+use Rattle.sending.specs.declared.Stepped.{Stepped}
+use Rattle.sending.specs.declared.Stepped.the-variants.{Forwarded}
 use Rattle.broker.specs.Step.{stepOf, leftAfter, leftBy, toldAs}
 use Rattle.walk.specs.Walk.{Walk, onward}
 use Rattle.walk.specs.Runs.{Run, rests, goes}

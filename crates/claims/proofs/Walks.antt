@@ -28,7 +28,7 @@ use Rattle.path.specs.Path.{End, delivers, fails, pathOf}
 use Rattle.path.specs.Walks.{floorTree, floorServices, Told, toldOf, Row, walk, table, byPath}
 use Rattle.path.proofs.Walks.{walks-are-right}
 use Rattle.routing.specs.Routed.{Tables}
-use Rattle.broker.specs.declared.Stepped.{Stepped}
+use Rattle.sending.specs.declared.Stepped.{Stepped}
 use Rattle.broker.specs.Step.{ValidTables}
 use Rattle.message.proofs.Frames.{frame-long}
 use Rattle.answers.specs.Steps.{stepRow, frameLength}

@@ -14,7 +14,7 @@ use Rattle.rewrite.specs.Renewed.{cleared}
 use Rattle.routing.specs.declared.Broker.{Broker}
 use Rattle.routing.specs.Messages.{withRoutes, errorReply}
 use Rattle.routing.specs.Routed.{Tables}
-use Rattle.broker.specs.declared.Stepped.the-variants.{Home}
+use Rattle.sending.specs.declared.Stepped.the-variants.{Home}
 use Rattle.walk.specs.Walk.{leastBuffer, walkOf}
 use Rattle.walk.specs.Runs.{IsRun}
 use Rattle.claims.specs.Demand3.{Enters, Responds, Goes, routesAtRest, messageAt, asOnEntry, leftOf}

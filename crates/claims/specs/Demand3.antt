@@ -22,8 +22,8 @@ use Rattle.path.specs.Path.{End, delivers, fails, Path, pathOf, linksOf, treeDe
 use Rattle.rewrite.specs.Renewed.{cleared}
 use Rattle.routing.specs.Messages.{withRoutes, errorReply}
 use Rattle.routing.specs.Routed.{Tables}
-use Rattle.broker.specs.declared.Stepped.{Stepped}
-use Rattle.broker.specs.declared.Stepped.the-variants.{Delivered, Forwarded, Replied, Silenced, Home}
+use Rattle.sending.specs.declared.Stepped.{Stepped}
+use Rattle.sending.specs.declared.Stepped.the-variants.{Delivered, Forwarded, Replied, Silenced, Home}
 use Rattle.broker.specs.Step.{ValidTables}
 use Rattle.walk.specs.Walk.{leastBuffer}
 use Rattle.answers.specs.Steps.{stepRow, frameLength}

@@ -11,8 +11,8 @@ use Rattle.message.specs.Frame.{frameOf}
 use Rattle.message.specs.Reading.{final}
 use Rattle.path.specs.Walks.{bytes, floorTree, floorServices, Told, delivered, failed, silenced, Row, walk, header, table}
 use Rattle.routing.specs.Routed.{Tables, tablesOf}
-use Rattle.broker.specs.declared.Stepped.{Stepped}
-use Rattle.broker.specs.declared.Stepped.the-variants.{Delivered, Replied, Silenced}
+use Rattle.sending.specs.declared.Stepped.{Stepped}
+use Rattle.sending.specs.declared.Stepped.the-variants.{Delivered, Replied, Silenced}
 use Rattle.walk.specs.Walk.{leastBuffer}
 use Rattle.answers.specs.Steps.{stepRow, frameLength}
 use Rattle.calls.specs.Calls.{hostBroker, Plays, walkRecord}

@@ -1,8 +1,8 @@
 // The floor of paper 01: its tables, a step and a walk on them, and a picture of it.
 use crate::print;
-use broker::Stepped;
 use onward::Walked;
 use routing::Broker;
+use sending::Stepped;
 
 // "Parents none,0,0,1,1,2,2."
 const TREE: [u8; 28] = *b"\xFF\xFF\xFF\xFF\0\0\0\0\0\0\0\0\0\0\0\x01\0\0\0\x01\0\0\0\x02\0\0\0\x02";

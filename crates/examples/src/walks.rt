@@ -5,10 +5,10 @@ use crate::words;
 use body::FRONT;
 use body::Reading;
 use body::Stretch;
-use broker::Stepped;
 use message::Header;
 use message::Refusal;
 use onward::Walked;
+use sending::Stepped;
 
 // "any"
 const ANY: u32 = 4294967295;

@@ -1,8 +1,8 @@
 // What is asked, and what a walk came to, in words.
 use crate::floor;
 use crate::print;
-use broker::Stepped;
 use onward::Walked;
+use sending::Stepped;
 
 fn target(nodeid: u32) {
     if nodeid == 4294967295 {

@@ -1,7 +1,7 @@
 // The whole step of a broker on a buffer: its tables are checked, and then the message is passed.
-use broker::Stepped;
 use message::Refusal;
 use routing::Broker;
+use sending::Stepped;
 ghost use Rattle.routing.specs.Routed.{tablesOf};
 ghost use Rattle.broker.specs.Step.{stepOf, Makes};
 

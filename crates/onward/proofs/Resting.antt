@@ -11,9 +11,9 @@ use Rattle.message.specs.Answer.{Answer, refused, answered}
 use Rattle.message.specs.Message.{Message}
 use Rattle.routing.specs.declared.Broker.{Broker}
 use Rattle.routing.specs.Routed.{Tables, Outcome, delivered, forwarded, replied, silenced, home}
-use Rattle.broker.specs.declared.Stepped.{Stepped}
-use Rattle.broker.proofs.Stepped.{the-type}
-use Rattle.broker.specs.declared.Stepped.the-variants.{Forwarded}
+use Rattle.sending.specs.declared.Stepped.{Stepped}
+use Rattle.sending.proofs.Stepped.{the-type}
+use Rattle.sending.specs.declared.Stepped.the-variants.{Forwarded}
 use Rattle.broker.specs.Step.{passOf, leftBy, toldAs}
 use Rattle.onward.specs.declared.Walked.{Walked}
 use Rattle.onward.specs.Onward.{Walk, onward, restsAt, afterStep, Walks}

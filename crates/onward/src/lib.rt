@@ -1,7 +1,7 @@
 // A walk behind its first link: one broker's pass after another, until a broker does something else with the message than forward it.
-use broker::Stepped;
 use message::Refusal;
 use routing::Broker;
+use sending::Stepped;
 ghost use Rattle.routing.specs.Routed.{tablesOf};
 ghost use Rattle.onward.specs.Onward.{onward, Walks};
 ghost use Rattle.onward.specs.Passes.{passesFrom};

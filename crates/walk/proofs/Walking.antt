@@ -10,8 +10,8 @@ use Rattle.message.specs.declared.Refusal.the-variants.{ShortOutput}
 use Rattle.message.specs.Answer.{Answer, refused, answered}
 use Rattle.routing.specs.declared.Broker.{Broker}
 use Rattle.routing.specs.Routed.{Tables, Outcome, delivered, forwarded, replied, silenced, home}
-use Rattle.broker.specs.declared.Stepped.{Stepped}
-use Rattle.broker.specs.declared.Stepped.the-variants.{Forwarded}
+use Rattle.sending.specs.declared.Stepped.{Stepped}
+use Rattle.sending.specs.declared.Stepped.the-variants.{Forwarded}
 use Rattle.broker.specs.Step.{ValidTables, passOf, stepOf, leftAfter, toldAs}
 use Rattle.broker.proofs.Passing.{step-pass, step-took}
 use Rattle.onward.specs.Onward.{Walk, onward, restsAt, afterStep}

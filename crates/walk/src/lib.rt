@@ -1,8 +1,8 @@
 // A walk through the tables: steps one after another, until a broker does something else with the message than forward it.
-use broker::Stepped;
 use message::Refusal;
 use onward::Walked;
 use routing::Broker;
+use sending::Stepped;
 ghost use Rattle.routing.specs.Routed.{tablesOf};
 ghost use Rattle.walk.specs.Walk.{walkOf, Walks};
 

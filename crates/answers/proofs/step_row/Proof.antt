@@ -2,7 +2,7 @@
 -- Assumes nothing.
 use borrow.Author.Needs.{needs}
 use mathlib.Core.Path.{sym, ap}
-use Rattle.broker.specs.declared.Stepped.{Stepped}
+use Rattle.sending.specs.declared.Stepped.{Stepped}
 use Rattle.answers.specs.Steps.{stepRow}
 use Rattle.answers.proofs.step_row.Statement.{statement}
 use Rattle.answers.proofs.step_row.Tie as tie

@@ -5,8 +5,8 @@ use mathlib.Core.Path.{_≡_, refl, ap, _∙_}
 use Prim.Native.Nat.{ℕ}
 use mathlib.Core.List.{List, [], _∷_, _++_}
 use lib.ListN.{getD}
-use Rattle.broker.specs.declared.Stepped.{Stepped}
-use Rattle.broker.specs.declared.Stepped.the-variants.{Refused, Delivered, Forwarded, Replied, Silenced, Home}
+use Rattle.sending.specs.declared.Stepped.{Stepped}
+use Rattle.sending.specs.declared.Stepped.the-variants.{Refused, Delivered, Forwarded, Replied, Silenced, Home}
 use Rattle.answers.specs.Steps.{stepRow}
 use Rattle.answers.proofs.walk_row.Statement.{statement}
 use Rattle.answers.proofs.walk_row.Tie as tie

@@ -15,7 +15,7 @@ use Rattle.routing.specs.Messages.{pushed}
 use Rattle.routing.specs.Routed.{Tables, Outcome, tablesOf, forwardedIf, requested}
 use Rattle.broker.specs.Step.{roomFor}
 use Rattle.broker.specs.Working.{heldIn, Lies}
-use Rattle.broker.proofs.Lying.{makes, makes-as, topic-inside, topic-low, way-told, fails-anyhow}
+use Rattle.broker.proofs.Lying.{makes, makes-as, taken-told, topic-inside, topic-low, way-told, forward-made, fail-made, fails-anyhow}
 use Rattle.broker.proofs.request.Statement.{statement}
 use Rattle.broker.proofs.request.Tie as tie
 
@@ -80,10 +80,12 @@ enum-known-way-2 c = search needs
 identity-of-requires : tie.Need-identity-of-requires
 identity-of-requires c κs = search needs
 
+sub-forward : tie.Need-sub-forward
+sub-forward c = let s = start (c .before .before .before .before .before .before) in
+    omega (arith, taken-told (b s) (f s) 1 (lies s))
+
 forward-requires : tie.Need-forward-requires
-forward-requires c κs = let w = c .before .before .before .before .before in
-    let s = start w in
-    (lies s, omega (arith, ap length (c .before .identity-of .ensures), most-taken 37 (drop (who s .rank * 37) (s .args .identities .now))))
+forward-requires c κs = search needs
 
 enum-known-way-3 : tie.Need-enum-known-way-3
 enum-known-way-3 c = search needs
@@ -102,14 +104,16 @@ same-length-2 c = search needs
 
 returns-2 : tie.Need-returns-2
 returns-2 c = let go = c .before .before in
-    let own = go .before .before in
+    let own = go .before .before .before in
     let way = own .before .before in
     let w = way .before .before in
     let s = start w in
+    let identity = own .identity-of .result .now in
+    let short : length identity ≤ 37 = omega (arith, ap length (own .identity-of .ensures), most-taken 37 (drop (who s .rank * 37) (s .args .identities .now))) in
     makes-as
     (way-is w (way .way2 .given .1)
     ∙ ap (λ (identity : List ℕ). andThen (forwardedIf (way .way2 .given .0 .0) (pushed identity (heldIn (b s)))) (roomFor (length (b s)))) (sym (own .identity-of .ensures)))
-    (go .forward .ensures)
+    (forward-made (b s) (f s) (lies s) identity short (way .way2 .given .0 .0) (go .forward .ensures))
 
 same-length-3 : tie.Need-same-length-3
 same-length-3 c = search needs
@@ -119,7 +123,7 @@ returns-3 c = let end = c .before .before in
     let way = end .before .before .before in
     let w = way .before .before in
     let s = start w in
-    makes-as (way-is w (way .way3 .given .1) ∙ fails-anyhow (who s) (way .way3 .given .0 .0) (heldIn (b s)) (length (b s))) (end .fail .ensures)
+    makes-as (way-is w (way .way3 .given .1) ∙ fails-anyhow (who s) (way .way3 .given .0 .0) (heldIn (b s)) (length (b s))) (fail-made (b s) (f s) (lies s) (who s) (way .way3 .given .0 .0) (omega arith) (end .fail .ensures))
 
 pub request-spec : {M : Type 1} → statement M
 request-spec =
@@ -133,6 +137,7 @@ request-spec =
     enum-known-way
     enum-known-way-2
     identity-of-requires
+    sub-forward
     forward-requires
     enum-known-way-3
     fail-requires

@@ -1,0 +1,49 @@
+-- What a broker makes in the buffer that holds a request, by where the frame's parts are said to lie: of any numbers and any bytes. Only for the
+-- proofs of the step: no promise of a call speaks of it, and that it is the paper's step is proved (broker/proofs/Lying.antt). Assumes nothing.
+use mathlib.Core.Path.{_≡_}
+use Prim.Native.Nat.{ℕ, _+_, _-_}
+use mathlib.Core.Bool.{cond, _||_}
+use mathlib.Core.List.{List}
+use lib.Dec.{leb, ltb}
+use lib.ListN.{length}
+use Rattle.message.specs.declared.Header.{Header}
+use Rattle.message.specs.declared.Refusal.the-variants.{ShortOutput, NoForwarding}
+use Rattle.message.specs.Answer.{Answer, refused, answered, refuseIf}
+use Rattle.message.specs.Header.{noResponse}
+use Rattle.message.specs.Frame.{mostBody}
+use Rattle.message.specs.Writing.{mostRoutes}
+use Rattle.rewrite.specs.Renewed.{withPart, withHeader}
+use Rattle.routing.specs.declared.Broker.{Broker}
+use Rattle.routing.specs.Messages.{replyHeader}
+use Rattle.sending.specs.declared.Stepped.{Stepped}
+use Rattle.sending.specs.declared.Stepped.the-variants.{Refused, Forwarded, Replied, Silenced}
+
+-- ---- a route more
+
+-- 12 for a route or a body too many, 11 for no room; else how long the body is with a part of so many bytes in front
+unfoldable pub grownTo : ℕ → ℕ → ℕ → ℕ → Answer ℕ
+grownTo routes size part room =
+    refuseIf (leb mostRoutes routes || ltb mostBody (1 + part + size)) NoForwarding
+    (refuseIf (ltb room (9 + part + size)) ShortOutput (answered (1 + part + size)))
+
+abbrev pub toldOf : ℕ → Answer ℕ → Stepped
+toldOf next (refused r) = Refused r
+toldOf next (answered grown) = Forwarded next
+
+abbrev pub leftOf : List ℕ → ℕ → List ℕ → Answer ℕ → List ℕ
+leftOf identity size buffer (refused r) = buffer
+leftOf identity size buffer (answered grown) = withPart identity size buffer
+
+pub record Forwards (routes size : ℕ) (identity : List ℕ) (next : ℕ) (buffer : List ℕ) (r : Stepped) (left : List ℕ) : Type 0 where
+  pub told : r ≡ toldOf next (grownTo routes size (length identity) (length buffer))
+  pub leaves : left ≡ leftOf identity size buffer (grownTo routes size (length identity) (length buffer))
+
+-- ---- an error reply, or silence
+
+-- the body's front up to the zero byte behind a topic that ends there, and the reply's header
+abbrev pub replyIn : Broker → ℕ → Header → ℕ → List ℕ → List ℕ
+replyIn b errnum header end buffer = cond (leb 8 end) (withHeader (replyHeader (b .userid) (b .rolemask) errnum header) (end - 8 + 1) buffer) buffer
+
+pub record Fails (b : Broker) (errnum : ℕ) (header : Header) (end : ℕ) (buffer : List ℕ) (r : Stepped) (left : List ℕ) : Type 0 where
+  pub told : r ≡ cond (noResponse (header .flags)) (Silenced errnum) (Replied errnum)
+  pub leaves : left ≡ cond (noResponse (header .flags)) buffer (replyIn b errnum header end buffer)
