@@ -35,7 +35,7 @@ fn request(
     let topic = f.topic;
     let start = topic.start;
     let end = start + topic.len;
-    let way = routing::request_way(
+    let way = request_way::request_way(
         tree,
         services,
         b.rank,
@@ -63,7 +63,7 @@ fn response(tree: &[u8], identities: &[u8], rank: u32, f: Frame, buffer: &mut [u
     }
     let top = f.route;
     let end = top + form::ROUTE;
-    let back = routing::response_way(tree, identities, rank, &buffer[top..end]);
+    let back = response_way::response_way(tree, identities, rank, &buffer[top..end]);
     match back {
         Back::Home => Stepped::Home,
         Back::To(next) => {

@@ -1,12 +1,12 @@
--- `routing::to_parent` meets its contract.
+-- `request_way::to_parent` meets its contract.
 -- Assumes nothing.
 use borrow.Author.Needs.{needs}
 use native.Mathlib.Omega.{arith}
 use mathlib.Core.Path.{sym, ap, _∙_}
 use Rattle.routing.specs.declared.Way.the-variants.{Forward}
 use Rattle.routing.proofs.Ways.{parent-none, parent-some}
-use Rattle.routing.proofs.to_parent.Statement.{statement}
-use Rattle.routing.proofs.to_parent.Tie as tie
+use Rattle.request_way.proofs.to_parent.Statement.{statement}
+use Rattle.request_way.proofs.to_parent.Tie as tie
 
 returns : tie.Need-returns
 returns c = sym (parent-none _ (c .before .before .args .rank) (omega (arith, c .if1 .taken)))

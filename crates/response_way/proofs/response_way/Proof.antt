@@ -1,4 +1,4 @@
--- `routing::response_way` meets its contract.
+-- `response_way::response_way` meets its contract.
 -- Assumes nothing.
 use borrow.Author.Needs.{needs}
 use native.Mathlib.Omega.{arith}
@@ -6,12 +6,12 @@ use mathlib.Core.Path.{_≡_, sym, ap, _∙_}
 use Prim.Native.Nat.{ℕ}
 use Rattle.records.specs.declared.Found.the-variants.{At}
 use Rattle.identities.specs.Identities.{brokerOf}
 use Rattle.routing.specs.declared.Back.{Back}
 use Rattle.routing.specs.declared.Back.the-variants.{To, Stray}
 use Rattle.routing.specs.Responses.{towardsBroker}
 use Rattle.routing.proofs.Ways.{broker-no-rank, broker-near, broker-far}
-use Rattle.routing.proofs.response_way.Statement.{statement}
-use Rattle.routing.proofs.response_way.Tie as tie
+use Rattle.response_way.proofs.response_way.Statement.{statement}
+use Rattle.response_way.proofs.response_way.Tie as tie
 
 -- a broker was found
 module _ (k : tie.After-known-told) where

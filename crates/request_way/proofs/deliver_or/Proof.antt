@@ -1,11 +1,11 @@
--- `routing::deliver_or` meets its contract.
+-- `request_way::deliver_or` meets its contract.
 -- Assumes nothing.
 use borrow.Author.Needs.{needs}
 use mathlib.Core.Path.{sym, ap}
 use Rattle.records.specs.declared.Found.{Found}
 use Rattle.routing.specs.Requests.{deliverOr}
-use Rattle.routing.proofs.deliver_or.Statement.{statement}
-use Rattle.routing.proofs.deliver_or.Tie as tie
+use Rattle.request_way.proofs.deliver_or.Statement.{statement}
+use Rattle.request_way.proofs.deliver_or.Tie as tie
 
 enum-known-found : tie.Need-enum-known-found
 enum-known-found c = search needs

@@ -1,16 +1,16 @@
--- `routing::upwards` meets its contract.
+-- `request_way::upwards` meets its contract.
 -- Assumes nothing.
 use borrow.Author.Needs.{needs}
 use mathlib.Core.Path.{sym, ap, ap₂, _∙_}
 use Rattle.routing.specs.declared.Way.{Way}
 use Rattle.records.specs.declared.Found.{Found}
 use Rattle.lookup.specs.Lookup.{registeredAs}
 use Prim.Native.Nat.{ℕ}
 use mathlib.Core.List.{List}
 use Rattle.routing.specs.Requests.{deliverOr}
 use Rattle.routing.proofs.Ways.{up-skipped, up-tried}
-use Rattle.routing.proofs.upwards.Statement.{statement}
-use Rattle.routing.proofs.upwards.Tie as tie
+use Rattle.request_way.proofs.upwards.Statement.{statement}
+use Rattle.request_way.proofs.upwards.Tie as tie
 
 to-parent-requires : tie.Need-to-parent-requires
 to-parent-requires c κs = search needs

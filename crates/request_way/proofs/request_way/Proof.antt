@@ -1,11 +1,11 @@
--- `routing::request_way` meets its contract.
+-- `request_way::request_way` meets its contract.
 -- Assumes nothing.
 use borrow.Author.Needs.{needs}
 use native.Mathlib.Omega.{arith}
 use mathlib.Core.Path.{sym, _∙_}
 use Rattle.routing.proofs.Ways.{way-any, way-upstream, way-rank}
-use Rattle.routing.proofs.request_way.Statement.{statement}
-use Rattle.routing.proofs.request_way.Tie as tie
+use Rattle.request_way.proofs.request_way.Statement.{statement}
+use Rattle.request_way.proofs.request_way.Tie as tie
 
 upwards-requires : tie.Need-upwards-requires
 upwards-requires c κs = search needs

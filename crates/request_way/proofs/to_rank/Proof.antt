@@ -1,17 +1,17 @@
--- `routing::to_rank` meets its contract.
+-- `request_way::to_rank` meets its contract.
 -- Assumes nothing.
 use borrow.Author.Needs.{needs}
 use native.Mathlib.Omega.{arith}
 use mathlib.Core.Path.{sym, ap, _∙_}
 use Rattle.routing.specs.declared.Way.the-variants.{Forward, Fail}
 use Rattle.records.specs.declared.Found.{Found}
 use Rattle.lookup.specs.Lookup.{registeredAs}
 use Prim.Native.Nat.{ℕ}
 use mathlib.Core.List.{List}
 use Rattle.routing.specs.Requests.{deliverOr}
 use Rattle.routing.proofs.Ways.{rank-outside, rank-reached, rank-ahead}
-use Rattle.routing.proofs.to_rank.Statement.{statement}
-use Rattle.routing.proofs.to_rank.Tie as tie
+use Rattle.request_way.proofs.to_rank.Statement.{statement}
+use Rattle.request_way.proofs.to_rank.Tie as tie
 
 ranks-in-requires : tie.Need-ranks-in-requires
 ranks-in-requires c κs = search needs

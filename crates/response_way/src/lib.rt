@@ -1,0 +1,29 @@
+// Where a broker sends a response. Nothing here looks at a frame, and every table may hold any bytes.
+use records::Found;
+use routing::Back;
+ghost use mathlib.Core.Path.{_≡_};
+ghost use Rattle.identities.specs.Identities.{brokerOf};
+ghost use Rattle.routing.specs.Responses.{towardsBroker};
+
+// The most ranks that a tree has.
+const MOST_RANKS: usize = 1024;
+
+// Where the broker of a rank sends a response with this top route. What is found behind 1,024 identities is no rank of any tree.
+pub fn response_way(tree: &[u8], identities: &[u8], rank: u32, top: &[u8]) -> Back
+    ensures { λ r. ⌜ r ≡ towardsBroker (now (tree .entry)) rank (brokerOf (now (identities .entry)) (now (top .entry))) ⌝ }
+{
+    let found = identities::find_broker(identities, top);
+    match found {
+        Found::Nothing => Back::Home,
+        Found::At(broker) => {
+            if broker >= MOST_RANKS {
+                return Back::Stray;
+            }
+            if hops::is_neighbour(tree, rank, broker as u32) {
+                Back::To(broker as u32)
+            } else {
+                Back::Stray
+            }
+        }
+    }
+}
