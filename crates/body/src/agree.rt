@@ -20,9 +20,9 @@ fn parts_wanted(flags: u8, routes: usize) -> usize
     requires { ⌜ routes ≤ 68 ⌝ }
     ensures { λ r. ⌜ r ≡ partsWanted flags routes ⌝ }
 {
-    let delimiter = if_set(message::has_route(flags), 1);
-    let topic = if_set(message::has_topic(flags), 1);
-    let payload = if_set(message::has_payload(flags), 1);
+    let delimiter = if_set(header_flags::has_route(flags), 1);
+    let topic = if_set(header_flags::has_topic(flags), 1);
+    let payload = if_set(header_flags::has_payload(flags), 1);
     routes + delimiter + topic + payload + 1
 }
 
@@ -31,7 +31,7 @@ pub(crate) fn parts_agree(h: Header, count: usize, routes: usize) -> bool
     requires { ⌜ routes ≤ 68 ⌝ }
     ensures { λ r. ⌜ r ≡ (partsFit h && eqb count (partsWanted (h .flags) routes)) ⌝ }
 {
-    if message::parts_fit(h) {
+    if header_fields::parts_fit(h) {
         count == parts_wanted(h.flags, routes)
     } else {
         false

@@ -111,7 +111,7 @@ fn topic_wrong(body: &[u8], flags: u8, topic: Piece) -> bool
 {
     let from = topic.at;
     let to = topic.next;
-    if message::has_topic(flags) {
+    if header_flags::has_topic(flags) {
         !topic_part::is_topic_part(&body[from..to])
     } else {
         false
@@ -123,7 +123,7 @@ fn placed(size: usize, h: Header, routes: usize, topic: Piece, payload: Piece) -
     requires { ⌜ Placeable size h topic payload ⌝ }
     ensures { λ r. ⌜ r ≡ placedAs size h routes topic payload ⌝ }
 {
-    let has_topic = message::has_topic(h.flags);
+    let has_topic = header_flags::has_topic(h.flags);
     let shown = topic.len - if_set(has_topic, 1);
     Frame {
         taken: FRONT + size,
@@ -135,7 +135,7 @@ fn placed(size: usize, h: Header, routes: usize, topic: Piece, payload: Piece) -
             len: shown,
         },
         payload: Stretch {
-            start: if_set(message::has_payload(h.flags), FRONT + payload.at),
+            start: if_set(header_flags::has_payload(h.flags), FRONT + payload.at),
             len: payload.len,
         },
     }
@@ -146,15 +146,15 @@ fn judge_rest(body: &[u8], h: Header, routes: usize) -> Reading
     requires { ⌜ Sorted (now body) h routes ⌝ }
     ensures { λ r. ⌜ r ≡ readAs (judgedAs h (front (partsFound (now (body .entry))))) ⌝ }
 {
-    let at = message::ROUTE_PART * routes + if_set(message::has_route(h.flags), 1);
-    let topic = piece_if(body, message::has_topic(h.flags), at);
+    let at = message::ROUTE_PART * routes + if_set(header_flags::has_route(h.flags), 1);
+    let topic = piece_if(body, header_flags::has_topic(h.flags), at);
     let wrong = topic_wrong(body, h.flags, topic);
-    let good = message::fields_good(h);
+    let good = header_fields::fields_good(h);
     if wrong {
         return Reading::Refused(Refusal::WrongTopic);
     }
     if good {
-        let payload = piece_if(body, message::has_payload(h.flags), topic.next);
+        let payload = piece_if(body, header_flags::has_payload(h.flags), topic.next);
         Reading::Accepted(placed(body.len(), h, routes, topic, payload))
     } else {
         Reading::Refused(Refusal::WrongField)
@@ -166,7 +166,7 @@ fn judge_parts(body: &[u8], w: Walked, h: Header) -> Reading
     requires { ⌜ Headed (now body) w h ⌝ }
     ensures { λ r. ⌜ r ≡ readAs (judgedAs h (front (partsFound (now (body .entry))))) ⌝ }
 {
-    let routes = if_set(message::has_route(h.flags), w.empty);
+    let routes = if_set(header_flags::has_route(h.flags), w.empty);
     let agree = parts_agree(h, w.count, routes);
     if !agree {
         return Reading::Refused(Refusal::WrongParts);

@@ -41,7 +41,7 @@ pub(crate) fn body_length(header: Header, routes: &[u8], topic: &[u8], payload: 
     ensures { λ r. ⌜ r ≡ length (bodyOf (givenMessage header (now (routes .entry)) (now (topic .entry)) (now (payload .entry)))) ⌝ }
 {
     let flags = header.flags;
-    let group = group_length(message::has_route(flags), routes.len());
-    let upto = group + part_length(message::has_topic(flags), topic.len() + 1);
-    upto + part_length(message::has_payload(flags), payload.len()) + HEADER_PART
+    let group = group_length(header_flags::has_route(flags), routes.len());
+    let upto = group + part_length(header_flags::has_topic(flags), topic.len() + 1);
+    upto + part_length(header_flags::has_payload(flags), payload.len()) + HEADER_PART
 }

@@ -25,7 +25,7 @@ pub enum Written {
 fn topic_wrong(flags: u8, topic: &[u8]) -> bool
     ensures { λ r. ⌜ r ≡ (hasTopic flags && not (isTopic (now (topic .entry)))) ⌝ }
 {
-    if message::has_topic(flags) {
+    if header_flags::has_topic(flags) {
         !form::is_topic(topic)
     } else {
         false
@@ -58,11 +58,11 @@ fn measure(header: Header, routes: &[u8], topic: &[u8], payload: &[u8], room: us
 pub fn judge(header: Header, routes: &[u8], topic: &[u8], payload: &[u8], room: usize) -> Written
     ensures { λ r. ⌜ r ≡ writtenAs (writingInto room (givenMessage header (now (routes .entry)) (now (topic .entry)) (now (payload .entry)))) ⌝ }
 {
-    let known = message::is_known(header);
+    let known = header_fields::is_known(header);
     let agree = fitting::parts_agree(header, routes, topic, payload);
     let good = fitting::routes_good(routes);
     let wrong = topic_wrong(header.flags, topic);
-    let fields = message::fields_good(header);
+    let fields = header_fields::fields_good(header);
     if !known {
         return Written::Refused(Refusal::WrongHeader);
     }

@@ -13,10 +13,10 @@ fn target(nodeid: u32) {
 }
 
 fn wishes(flags: u8) {
-    if message::is_upstream(flags) {
+    if header_flags::is_upstream(flags) {
         print::text(b", upstream");
     }
-    if message::no_response(flags) {
+    if header_flags::no_response(flags) {
         print::text(b", no response wanted");
     }
 }

@@ -23,16 +23,16 @@ pub fn parts_agree(header: Header, routes: &[u8], topic: &[u8], payload: &[u8]) 
     ensures { λ r. ⌜ r ≡ (partsFit header && partsGivenFit (givenMessage header (now (routes .entry)) (now (topic .entry)) (now (payload .entry)))) ⌝ }
 {
     let flags = header.flags;
-    if !message::parts_fit(header) {
+    if !header_fields::parts_fit(header) {
         return false;
     }
-    if !may_be_given(message::has_route(flags), routes) {
+    if !may_be_given(header_flags::has_route(flags), routes) {
         return false;
     }
-    if !may_be_given(message::has_topic(flags), topic) {
+    if !may_be_given(header_flags::has_topic(flags), topic) {
         return false;
     }
-    may_be_given(message::has_payload(flags), payload)
+    may_be_given(header_flags::has_payload(flags), payload)
 }
 
 // Whether there are at most 64 routes of 37 bytes, and each is of the form.

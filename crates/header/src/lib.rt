@@ -42,7 +42,7 @@ pub fn read_header(p: &[u8]) -> Head
         return Head::Wrong;
     }
     let h = fields(p);
-    if message::is_known(h) {
+    if header_fields::is_known(h) {
         Head::Fields(h)
     } else {
         Head::Wrong

@@ -1,7 +1,6 @@
 // A Flux message: the fields of its header, the forms of its parts, and why a call can say no.
 ghost use mathlib.Core.Path.{_≡_};
 ghost use Rattle.message.specs.Refusals.{numberOf};
-ghost use Rattle.message.specs.Header.{hasTopic, hasPayload, noResponse, hasRoute, isUpstream, isStreaming, isType, isKnown, partsFit, fieldsGood};
 
 // The numbers of "A frame" that more than one crate uses: the header's first two bytes, its length without and with its size byte, FF EE 00 12
 // as one number, a route's length with its size byte, and the most routes and the most bytes that a body has.
@@ -20,9 +19,6 @@ pub const ROUTE_PART: usize = 38;
 pub const MOST_ROUTES: usize = 64;
 
 pub const MOST_BODY: usize = 32768;
-
-// The nodeid that never appears on the wire.
-const NO_NODE: u32 = 4294967294;
 
 // Why a call says no: a name for each row of "Numbers for a no".
 pub enum Refusal {
@@ -80,106 +76,4 @@ pub fn number(r: Refusal) -> u32
         Refusal::NotRouted => 18,
         Refusal::NoNeighbour => 19,
     }
-}
-
-// Whether there is a topic, a payload, a routing group: flags 01, 02 and 08.
-pub fn has_topic(flags: u8) -> bool
-    ensures { λ r. ⌜ r ≡ hasTopic flags ⌝ }
-{
-    flags % 2 == 1
-}
-
-pub fn has_payload(flags: u8) -> bool
-    ensures { λ r. ⌜ r ≡ hasPayload flags ⌝ }
-{
-    flags / 2 % 2 == 1
-}
-
-pub fn has_route(flags: u8) -> bool
-    ensures { λ r. ⌜ r ≡ hasRoute flags ⌝ }
-{
-    flags / 8 % 2 == 1
-}
-
-// Whether nobody is to reply with an error, whether the request goes upstream, and whether responses stream: flags 04, 10 and 40.
-pub fn no_response(flags: u8) -> bool
-    ensures { λ r. ⌜ r ≡ noResponse flags ⌝ }
-{
-    flags / 4 % 2 == 1
-}
-
-pub fn is_upstream(flags: u8) -> bool
-    ensures { λ r. ⌜ r ≡ isUpstream flags ⌝ }
-{
-    flags / 16 % 2 == 1
-}
-
-pub fn is_streaming(flags: u8) -> bool
-    ensures { λ r. ⌜ r ≡ isStreaming flags ⌝ }
-{
-    flags / 64 % 2 == 1
-}
-
-// Whether there is such a type.
-fn is_type(kind: u8) -> bool
-    ensures { λ r. ⌜ r ≡ isType kind ⌝ }
-{
-    if kind == 1 {
-        return true;
-    }
-    if kind == 2 {
-        return true;
-    }
-    if kind == 4 {
-        return true;
-    }
-    kind == 8
-}
-
-// Whether the type is one of the four and flag 80 is clear.
-pub fn is_known(h: Header) -> bool
-    ensures { λ r. ⌜ r ≡ isKnown h ⌝ }
-{
-    if is_type(h.kind) {
-        h.flags < 128
-    } else {
-        false
-    }
-}
-
-// Whether the flags ask for the parts that the type has.
-pub fn parts_fit(h: Header) -> bool
-    ensures { λ r. ⌜ r ≡ partsFit h ⌝ }
-{
-    let route = has_route(h.flags);
-    let topic = has_topic(h.flags);
-    if h.kind == 8 {
-        if route {
-            return false;
-        }
-        if topic {
-            return false;
-        }
-        return !has_payload(h.flags);
-    }
-    if h.kind == 4 {
-        if route {
-            return false;
-        }
-        return topic;
-    }
-    if route { topic } else { false }
-}
-
-// Whether the fields that a type binds hold what they must: a request's nodeid, an event's unused field.
-pub fn fields_good(h: Header) -> bool
-    ensures { λ r. ⌜ r ≡ fieldsGood h ⌝ }
-{
-    if h.kind == 1 {
-        return h.first != NO_NODE;
-    }
-    if h.kind == 4 {
-        return h.second == 0;
-    }
-    true
 }

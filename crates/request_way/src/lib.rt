@@ -74,7 +74,7 @@ pub fn request_way(
     if header.first == ANY_RANK {
         return upwards(tree, services, rank, topic, false);
     }
-    if message::is_upstream(header.flags) {
+    if header_flags::is_upstream(header.flags) {
         return upwards(tree, services, rank, topic, from_client);
     }
     to_rank(tree, services, rank, header.first, topic)

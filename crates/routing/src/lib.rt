@@ -38,7 +38,7 @@ pub fn reply_header(b: Broker, errnum: u32, request: Header) -> Header
 {
     Header {
         kind: RESPONSE,
-        flags: if message::is_streaming(request.flags) {
+        flags: if header_flags::is_streaming(request.flags) {
             STREAMING_REPLY
         } else {
             REPLY

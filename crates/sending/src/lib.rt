@@ -44,7 +44,7 @@ pub fn forward(buffer: &mut [u8], routes: usize, size: usize, identity: &[u8], n
 pub fn fail(buffer: &mut [u8], end: usize, b: Broker, errnum: u32, header: Header) -> Stepped
     ensures { λ r. ⌜ Fails b errnum header end (now (buffer .entry)) r (now (buffer .exit)) ⌝ }
 {
-    if message::no_response(header.flags) {
+    if header_flags::no_response(header.flags) {
         return Stepped::Silenced(errnum);
     }
     // no topic ends in front of the body

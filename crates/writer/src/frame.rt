@@ -16,11 +16,15 @@ fn write_body(out: &mut [u8], header: Header, routes: &[u8], topic: &[u8], paylo
     ensures { λ r. ⌜ Lays (bodyOf (givenMessage header (now (routes .entry)) (now (topic .entry)) (now (payload .entry)))) (now (out .entry)) (now (out .exit)) r ⌝ }
 {
     let flags = header.flags;
-    let topic_at = part::write_group(out, message::has_route(flags), routes);
+    let topic_at = part::write_group(out, header_flags::has_route(flags), routes);
     let payload_at = topic_at
-        + part::write_topic(&mut out[topic_at..], message::has_topic(flags), topic);
+        + part::write_topic(&mut out[topic_at..], header_flags::has_topic(flags), topic);
     let header_at = payload_at
-        + part::write_payload(&mut out[payload_at..], message::has_payload(flags), payload);
+        + part::write_payload(
+            &mut out[payload_at..],
+            header_flags::has_payload(flags),
+            payload,
+        );
     header_at + header::write_header(&mut out[header_at..], header)
 }
 

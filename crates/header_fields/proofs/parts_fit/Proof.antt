@@ -1,10 +1,10 @@
--- `message::parts_fit` meets its contract.
+-- `header_fields::parts_fit` meets its contract.
 -- Assumes nothing.
 use borrow.Author.Needs.{needs}
 use mathlib.Core.Path.{refl, sym, _∙_}
 use Rattle.message.proofs.Fields.{control-fits, event-fits, call-fits}
-use Rattle.message.proofs.parts_fit.Statement.{statement}
-use Rattle.message.proofs.parts_fit.Tie as tie
+use Rattle.header_fields.proofs.parts_fit.Statement.{statement}
+use Rattle.header_fields.proofs.parts_fit.Tie as tie
 
 has-route-requires : tie.Need-has-route-requires
 has-route-requires c κs = search needs

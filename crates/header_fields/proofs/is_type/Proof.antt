@@ -1,8 +1,8 @@
--- `message::is_type` meets its contract.
+-- `header_fields::is_type` meets its contract.
 -- Assumes nothing.
 use borrow.Author.Tests.{eq-eqb, ne-eqb}
-use Rattle.message.proofs.is_type.Statement.{statement}
-use Rattle.message.proofs.is_type.Tie as tie
+use Rattle.header_fields.proofs.is_type.Statement.{statement}
+use Rattle.header_fields.proofs.is_type.Tie as tie
 
 returns : tie.Need-returns
 returns c = rw (eq-eqb (c .before .args .kind) 1 (c .if1 .taken))

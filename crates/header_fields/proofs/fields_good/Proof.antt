@@ -1,12 +1,12 @@
--- `message::fields_good` meets its contract.
+-- `header_fields::fields_good` meets its contract.
 -- Assumes nothing.
 use native.Mathlib.Omega.{arith}
 use mathlib.Core.Path.{sym}
 use borrow.Author.Tests.{eq-eqb, lt-ltb, eqb-true, ltb-true}
 use Rattle.octets.proofs.Truth.{same-test}
 use Rattle.message.proofs.Fields.{request-fields, event-good, event-unused, free-fields}
-use Rattle.message.proofs.fields_good.Statement.{statement}
-use Rattle.message.proofs.fields_good.Tie as tie
+use Rattle.header_fields.proofs.fields_good.Statement.{statement}
+use Rattle.header_fields.proofs.fields_good.Tie as tie
 
 returns : tie.Need-returns
 returns c = sym (request-fields (c .before .before .before .args .h) (c .before .if1 .taken))

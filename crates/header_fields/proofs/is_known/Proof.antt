@@ -1,13 +1,13 @@
--- `message::is_known` meets its contract.
+-- `header_fields::is_known` meets its contract.
 -- Assumes nothing.
 use borrow.Author.Needs.{needs}
 use native.Mathlib.Omega.{arith}
 use mathlib.Core.Path.{sym, _∙_}
 use borrow.Author.Tests.{lt-ltb, le-leb, ltb-true, leb-true}
 use Rattle.octets.proofs.Truth.{same-test}
 use Rattle.message.proofs.Fields.{known-in, known-flags, unknown-type}
-use Rattle.message.proofs.is_known.Statement.{statement}
-use Rattle.message.proofs.is_known.Tie as tie
+use Rattle.header_fields.proofs.is_known.Statement.{statement}
+use Rattle.header_fields.proofs.is_known.Tie as tie
 
 is-type-requires : tie.Need-is-type-requires
 is-type-requires c κs = search needs

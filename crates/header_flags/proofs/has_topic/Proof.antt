@@ -1,0 +1,13 @@
+-- `header_flags::has_topic` meets its contract.
+-- Assumes nothing.
+use native.Mathlib.Omega.{arith}
+use borrow.Author.Tests.{eq-eqb, eqb-true}
+use Rattle.octets.proofs.Truth.{same-test}
+use Rattle.header_flags.proofs.has_topic.Statement.{statement}
+use Rattle.header_flags.proofs.has_topic.Tie as tie
+
+returns : tie.Need-returns
+returns c = same-test (λ e. omega (arith, eq-eqb, eqb-true)) (λ e. omega (arith, eq-eqb, eqb-true))
+
+pub has-topic-spec : {M : Type 1} → statement M
+has-topic-spec = tie.close (tie.spec returns)
