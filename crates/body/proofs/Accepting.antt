@@ -23,11 +23,26 @@ use Rattle.message.proofs.Forms.{topic-parted}
 use Rattle.message.proofs.Parts.{split, joined-append}
 use Rattle.message.proofs.Messages.{held}
 use Rattle.message.proofs.Places.{kept-group}
-use Rattle.body.specs.declared.judge.Piece.{Piece}
+use Rattle.places.specs.declared.Piece.{Piece}
+use Rattle.places.specs.Placing.{firstRoute, placedIn}
+use Rattle.places.proofs.Placing.{place-in}
 use Rattle.body.specs.Places.{dataAt, placesOf}
-use Rattle.body.specs.Judging.{partsFound, Found, pieceAt, pieceIf, firstRoute, Within, topicWrong, Placeable, placedAs, Sorted}
+use Rattle.body.specs.Judging.{partsFound, Found, pieceAt, pieceIf, Within, topicWrong, Placeable, placedAs, Sorted}
 use Rattle.body.proofs.Cursors.{At, at-found, at-parts, at-some, at-next, at-data, at-if}
 use Rattle.body.proofs.Sorting.{judged-message, group-joined, found, topicData, payloadData, behindTopic, topic-at}
+
+-- ---- the places by the pieces
+
+pub placed-in : (size : ℕ) (h : Header) (routes : ℕ) (topic payload : Piece) → Placeable size h topic payload → placedIn size h routes topic payload ≡ placedAs size h routes topic payload
+placed-in size h routes topic payload p =
+    λ i. record {
+      taken = place-in true size (p .short) i;
+      header = h;
+      routes = routes;
+      route = firstRoute routes;
+      topic = record { start = place-in (hasTopic (h .flags)) (topic .at) (omega (arith, p .topic-in, p .short)) i; len = topic .len - one (hasTopic (h .flags)) };
+      payload = record { start = place-in (hasPayload (h .flags)) (payload .at) (omega (arith, p .payload-in, p .short)) i; len = payload .len };
+    }
 
 -- ---- a part that is there if its flag is set
 

@@ -6,7 +6,7 @@ use native.Mathlib.Omega.{arith}
 use Rattle.message.specs.declared.Refusal.{Refusal}
 use Rattle.message.specs.Answer.{Answer, refused, answered}
 use Rattle.message.specs.Message.{Message}
-use Rattle.body.specs.declared.Frame.{Frame}
+use Rattle.places.specs.declared.Frame.{Frame}
 use Rattle.body.specs.declared.Reading.the-variants.{Refused, Accepted}
 use Rattle.body.specs.Places.{readAs, placesOf}
 

@@ -13,8 +13,8 @@ use Rattle.octets.proofs.Numbers.{number-four, bytes-drop}
 use Rattle.message.specs.Frame.{sizeBytes, partBytes, joined}
 use Rattle.message.proofs.Lists.{Each}
 use Rattle.message.proofs.Parts.{Sized, split, part-short, part-long}
-use Rattle.body.specs.declared.Stretch.{Stretch}
-use Rattle.body.specs.declared.judge.Piece.{Piece}
+use Rattle.places.specs.declared.Stretch.{Stretch}
+use Rattle.places.specs.declared.Piece.{Piece}
 use Rattle.parts.proofs.Passing.{part-from}
 use Rattle.octets.proofs.Numbers.{number-at}
 use Rattle.header.proofs.Heads.{NumberAt}

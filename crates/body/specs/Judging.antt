@@ -3,7 +3,7 @@ use mathlib.Core.Path.{_≡_}
 use Prim.Native.Nat.{ℕ, _+_, _-_, _≤_}
 use mathlib.Core.Bool.{Bool, true, cond, not, _&&_}
 use mathlib.Core.List.{List, []}
-use lib.Dec.{eqb, ltb}
+use lib.Dec.{ltb}
 use lib.ListN.{length, getD, take, drop}
 use Rattle.octets.specs.Number.{number}
 use Rattle.message.specs.declared.Header.{Header}
@@ -13,11 +13,12 @@ use Rattle.message.specs.Header.{hasTopic, hasPayload, hasRoute, headerIn, isHe
 use Rattle.message.specs.Frame.{sizeBytes, partBytes, joined}
 use Rattle.message.specs.Writing.{routesGood}
 use Rattle.message.specs.Reading.{partsIn, front, final, beforeEmpty, routesIn, partsAgree, isTopicPart}
-use Rattle.body.specs.declared.Stretch.{Stretch}
-use Rattle.body.specs.declared.Frame.{Frame}
+use Rattle.places.specs.declared.Stretch.{Stretch}
+use Rattle.places.specs.declared.Frame.{Frame}
 use Rattle.body.specs.Places.{stretchIf}
 use Rattle.parts.specs.declared.walk.Walked.{Walked}
-use Rattle.body.specs.declared.judge.Piece.{Piece}
+use Rattle.places.specs.Placing.{firstRoute}
+use Rattle.places.specs.declared.Piece.{Piece}
 
 -- the parts of bytes that are known to have some, and that they are known to
 abbrev pub orNone : Answer (List (List ℕ)) → List (List ℕ)
@@ -47,10 +48,6 @@ pieceAt place p = record { at = place + length (sizeBytes (length p)); len = len
 -- the first of the parts at a place, if there is to be one
 abbrev pub pieceIf : Bool → ℕ → List (List ℕ) → Piece
 pieceIf flag place ps = cond flag (pieceAt place (getD ps 0 [])) (record { at = 0; len = 0; next = place })
-
--- behind the frame's eight bytes and the first route's size
-abbrev pub firstRoute : ℕ → ℕ
-firstRoute routes = cond (eqb routes 0) 0 9
 
 -- a topic's piece lies within the body
 pub record Within (flags : ℕ) (topic : Piece) (size : ℕ) : Type 0 where

@@ -11,8 +11,8 @@ use Rattle.message.specs.Header.{hasTopic, hasPayload}
 use Rattle.message.specs.Message.{Message}
 use Rattle.message.specs.Frame.{sizeBytes, joined, routing, topicPart, mostBody, frameOf}
 use Rattle.message.specs.Writing.{isEmpty}
-use Rattle.body.specs.declared.Stretch.{Stretch}
-use Rattle.body.specs.declared.Frame.{Frame}
+use Rattle.places.specs.declared.Stretch.{Stretch}
+use Rattle.places.specs.declared.Frame.{Frame}
 use Rattle.body.specs.declared.Reading.{Reading}
 use Rattle.body.specs.declared.Reading.the-variants.{Refused, Accepted}
 

@@ -1,8 +1,5 @@
 // What the parts of a body are: the header first, then 7 to 10 in the paper's order.
-use crate::FRONT;
-use crate::Frame;
 use crate::Reading;
-use crate::Stretch;
 use crate::agree::if_set;
 use crate::agree::parts_agree;
 use header::Head;
@@ -12,6 +9,9 @@ use message::Refusal;
 use parts::walk::Walk;
 use parts::walk::Walked;
 use parts::walk::count_parts;
+use places::Piece;
+use places::Stretch;
+use places::placed;
 ghost use mathlib.Core.Path.{_≡_};
 ghost use mathlib.Core.Bool.{true};
 ghost use Prim.Native.Nat.{_<_, _≤_};
@@ -20,19 +20,10 @@ ghost use Rattle.message.specs.Answer.{andThen};
 ghost use Rattle.message.specs.Writing.{allRoutes};
 ghost use Rattle.message.specs.Reading.{partsIn, front, judged, judgedAs};
 ghost use Rattle.body.specs.Places.{readAs};
-ghost use Rattle.body.specs.Judging.{partsFound, Found, HasSize, stretchAt, firstRoute, pieceIf, Within, topicWrong, Placeable, placedAs, WalkedOver, Headed, Sorted};
+ghost use Rattle.body.specs.Judging.{partsFound, Found, HasSize, stretchAt, pieceIf, Within, topicWrong, WalkedOver, Headed, Sorted};
 
 // The size byte of a route's part.
 const ROUTE_SIZE: u8 = 37;
-// Where the data of a first route starts: behind the bytes in front of the body, and its size byte.
-const FIRST_ROUTE: usize = 9;
-
-// Where a part's data lies in the body, and where the next part begins.
-struct Piece {
-    at: usize,
-    len: usize,
-    next: usize,
-}
 
 // The data of the part that begins s, whose size is known to be right.
 fn stretch_at(s: &[u8]) -> Stretch
@@ -97,13 +88,6 @@ fn are_routes(body: &[u8], routes: usize) -> bool
     true
 }
 
-// Where the first route's data starts.
-fn first_route(routes: usize) -> usize
-    ensures { λ r. ⌜ r ≡ firstRoute routes ⌝ }
-{
-    if routes == 0 { 0 } else { FIRST_ROUTE }
-}
-
 // 9: whether there is to be a topic, and the part is none.
 fn topic_wrong(body: &[u8], flags: u8, topic: Piece) -> bool
     requires { ⌜ Within flags topic (length (now body)) ⌝ }
@@ -115,29 +99,6 @@ fn topic_wrong(body: &[u8], flags: u8, topic: Piece) -> bool
         !topic_part::is_topic_part(&body[from..to])
     } else {
         false
-    }
-}
-
-// The answer, counted from the frame's front: the body lies behind its first eight bytes.
-fn placed(size: usize, h: Header, routes: usize, topic: Piece, payload: Piece) -> Frame
-    requires { ⌜ Placeable size h topic payload ⌝ }
-    ensures { λ r. ⌜ r ≡ placedAs size h routes topic payload ⌝ }
-{
-    let has_topic = header_flags::has_topic(h.flags);
-    let shown = topic.len - if_set(has_topic, 1);
-    Frame {
-        taken: FRONT + size,
-        header: h,
-        routes,
-        route: first_route(routes),
-        topic: Stretch {
-            start: if_set(has_topic, FRONT + topic.at),
-            len: shown,
-        },
-        payload: Stretch {
-            start: if_set(header_flags::has_payload(h.flags), FRONT + payload.at),
-            len: payload.len,
-        },
     }
 }
 

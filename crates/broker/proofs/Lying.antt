@@ -22,7 +22,7 @@ use Rattle.message.proofs.Forms.{routes-each}
 use Rattle.message.proofs.Frames.{frame-long}
 use Rattle.message.proofs.Parts.{part-short, joined-append}
 use Rattle.message.proofs.RoundTrip.{WrittenBack, write-back}
-use Rattle.body.specs.declared.Frame.{Frame}
+use Rattle.places.specs.declared.Frame.{Frame}
 use Rattle.body.specs.Places.{stretch, dataAt, placesOf}
 use Rattle.body.proofs.Holding.{Begins, begins-read, topic-told, topic-within, route-told, route-most}
 use Rattle.identities.specs.Identities.{brokerOf}

@@ -14,7 +14,7 @@ use Rattle.message.specs.Message.{Message}
 use Rattle.message.specs.Frame.{frameOf}
 use Rattle.message.specs.Reading.{readingOf}
 use Rattle.message.proofs.Answers.{answered-same, passed, both}
-use Rattle.body.specs.declared.Frame.{Frame}
+use Rattle.places.specs.declared.Frame.{Frame}
 use Rattle.body.specs.declared.Reading.the-variants.{Accepted}
 use Rattle.body.specs.Places.{readAs, placesOf}
 use Rattle.body.proofs.Readings.{accepted-read}

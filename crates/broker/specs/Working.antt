@@ -6,7 +6,7 @@ use Rattle.octets.specs.Number.{Bytes}
 use Rattle.message.specs.Answer.{Answer, refused, answered}
 use Rattle.message.specs.Message.{Message}
 use Rattle.message.specs.Reading.{readingOf}
-use Rattle.body.specs.declared.Frame.{Frame}
+use Rattle.places.specs.declared.Frame.{Frame}
 use Rattle.body.specs.Places.{placesOf}
 
 -- the message of bytes that are known to hold one

@@ -1,8 +1,8 @@
 // One broker's step behind the checks of its tables: what it does with the frame at the front of a buffer. It works in place and allocates nothing.
-use body::FRONT;
-use body::Frame;
 use body::Reading;
 use message::Refusal;
+use places::FRONT;
+use places::Frame;
 use routing::Back;
 use routing::Broker;
 use routing::Way;

@@ -10,7 +10,7 @@ use Rattle.message.specs.declared.Refusal.the-variants.{ShortOutput}
 use Rattle.message.specs.Answer.{refused, answered}
 use Rattle.message.specs.Message.{Message}
 use Rattle.message.specs.Reading.{readingOf}
-use Rattle.body.specs.declared.Frame.{Frame}
+use Rattle.places.specs.declared.Frame.{Frame}
 use Rattle.body.specs.declared.Reading.the-variants.{Refused, Accepted}
 use Rattle.body.specs.Places.{readAs, placesOf}
 use Rattle.body.proofs.Readings.{refused-read, accepted-read}

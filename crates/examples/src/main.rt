@@ -1,8 +1,8 @@
 // Runs the bytes that paper 01 gives to be reproduced, and prints them.
 use body::Reading;
-use body::Stretch;
 use draft::Written;
 use message::Header;
+use places::Stretch;
 
 mod floor;
 mod print;

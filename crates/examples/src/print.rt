@@ -1,11 +1,11 @@
 // Printing: bytes in hexadecimal, numbers, and what the reader answered.
-use body::Frame;
 use body::Reading;
-use body::Stretch;
 use draft::Written;
 use libc::STDOUT_FILENO;
 use message::Header;
 use message::Refusal;
+use places::Frame;
+use places::Stretch;
 
 pub(crate) fn text(s: &[u8]) {
     io::write_all(STDOUT_FILENO, s);

@@ -2,12 +2,12 @@
 use crate::floor;
 use crate::print;
 use crate::words;
-use body::FRONT;
 use body::Reading;
-use body::Stretch;
 use message::Header;
 use message::Refusal;
 use onward::Walked;
+use places::FRONT;
+use places::Stretch;
 use sending::Stepped;
 
 // "any"

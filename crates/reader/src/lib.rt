@@ -1,7 +1,7 @@
 // The reader: says where the parts of a framed message lie in the caller's bytes, or why there is no message. It copies nothing.
-use body::FRONT;
 use body::Reading;
 use message::Refusal;
+use places::FRONT;
 ghost use mathlib.Core.Path.{_≡_};
 ghost use Prim.Native.Nat.{_≤_};
 ghost use lib.ListN.{length};

@@ -1,7 +1,7 @@
 // A frame changed where it lies: a part put in front of its body, bytes taken from there, or the end of its body replaced by a header. Behind the
 // new frame everything is cleared, to the end of the buffer.
-use body::FRONT;
 use message::Header;
+use places::FRONT;
 ghost use mathlib.Core.Path.{_≡_};
 ghost use Prim.Native.Nat.{_+_, _≤_, _<_};
 ghost use lib.ListN.{length};

@@ -16,5 +16,5 @@ fn frame_length(buffer: &[u8]) -> usize
     requires { ⌜ 8 ≤ length (now buffer) ⌝ }
     ensures { λ r. ⌜ r ≡ frameLength (now (buffer .entry)) ⌝ }
 {
-    body::FRONT + octets::number_of(buffer[4], buffer[5], buffer[6], buffer[7]) as usize
+    places::FRONT + octets::number_of(buffer[4], buffer[5], buffer[6], buffer[7]) as usize
 }

@@ -1,7 +1,7 @@
 -- A read's answer as a row of numbers. Assumes nothing.
 use Prim.Native.Nat.{ℕ}
 use mathlib.Core.List.{List, [], _∷_}
-use Rattle.body.specs.declared.Frame.{Frame}
+use Rattle.places.specs.declared.Frame.{Frame}
 
 -- bytes the frame took, type, flags, userid, rolemask, first field, second field, number of routes, start of the first route's data,
 -- topic start, topic length, payload start, payload length

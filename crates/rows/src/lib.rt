@@ -1,5 +1,5 @@
 // The record that a C program gets of a read: where the message lies, as a row of numbers, four bytes each.
-use body::Frame;
+use places::Frame;
 ghost use mathlib.Core.Path.{_≡_};
 ghost use Rattle.octets.specs.Number.{rowBytes};
 ghost use Rattle.octets.specs.Laid.{laidIfRoom};

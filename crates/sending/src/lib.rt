@@ -1,8 +1,8 @@
 // What a broker makes of a request in the buffer that holds it: the request with a route more, or an error reply. It goes by where the frame's parts
 // are said to lie and reads none of them, so any numbers may be given.
-use body::FRONT;
 use message::Header;
 use message::Refusal;
+use places::FRONT;
 use routing::Broker;
 ghost use Rattle.sending.specs.Sending.{Forwards, Fails};
 

@@ -22,7 +22,7 @@ use Rattle.message.specs.Message.{Message}
 use Rattle.message.specs.Reading.{readingOf}
 use Rattle.message.proofs.Frames.{frame-least}
 use Rattle.message.proofs.RoundTrip.{write-back}
-use Rattle.body.specs.declared.Frame.{Frame}
+use Rattle.places.specs.declared.Frame.{Frame}
 use Rattle.body.specs.Places.{placesOf}
 use Rattle.body.proofs.Readings.{Read}
 use Rattle.stream.specs.declared.Stopped.{Stopped}

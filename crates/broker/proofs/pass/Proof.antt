@@ -8,7 +8,7 @@ use mathlib.Core.List.{List}
 use Rattle.octets.specs.Number.{Bytes}
 use Rattle.octets.proofs.Numbers.{bytes-of}
 use Rattle.message.specs.Reading.{readingOf}
-use Rattle.body.specs.declared.Frame.{Frame}
+use Rattle.places.specs.declared.Frame.{Frame}
 use Rattle.body.specs.Places.{placesOf}
 use Rattle.body.proofs.Readings.{refused-read}
 use Rattle.tree.specs.Tree.{ranksIn}

@@ -7,7 +7,7 @@ use Prim.Native.Nat.{ℕ, _*_, _≤_}
 use mathlib.Core.List.{List}
 use lib.ListN.{length, take, drop, length-take}
 use Rattle.message.specs.Answer.{Answer, andThen}
-use Rattle.body.specs.declared.Frame.{Frame}
+use Rattle.places.specs.declared.Frame.{Frame}
 use Rattle.routing.specs.declared.Broker.{Broker}
 use Rattle.routing.specs.declared.Way.{Way}
 use Rattle.routing.specs.Requests.{requestWay}

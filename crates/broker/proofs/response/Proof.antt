@@ -7,7 +7,7 @@ use Prim.Native.Nat.{ℕ, _<_}
 use mathlib.Core.List.{List}
 use lib.ListN.{length}
 use Rattle.message.specs.Answer.{Answer, andThen}
-use Rattle.body.specs.declared.Frame.{Frame}
+use Rattle.places.specs.declared.Frame.{Frame}
 use Rattle.routing.specs.declared.Back.{Back}
 use Rattle.routing.specs.Responses.{responseWay}
 use Rattle.routing.specs.Routed.{Outcome, responded}

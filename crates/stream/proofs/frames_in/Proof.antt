@@ -10,7 +10,7 @@ use borrow.Rule.Slice.PartAt.{part-to-end}
 use Rattle.octets.specs.Number.{Bytes}
 use Rattle.octets.proofs.Numbers.{bytes-of}
 use Rattle.message.specs.Reading.{readingOf}
-use Rattle.body.specs.declared.Frame.{Frame}
+use Rattle.places.specs.declared.Frame.{Frame}
 use Rattle.body.specs.Places.{readAs}
 use Rattle.body.proofs.Readings.{Read, refused-read, accepted-read}
 use Rattle.stream.proofs.Streaming.{Whole, Listed, listed-none, listed-whole, listed-used, listed-length, listed-stopped, listed-full, listed-more}

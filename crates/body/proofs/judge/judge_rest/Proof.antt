@@ -7,7 +7,7 @@ use mathlib.Core.Bool.{Bool, true, false, not, _&&_}
 use mathlib.Core.List.{List}
 use Prim.Native.Nat.{ℕ, _+_, _*_}
 use lib.ListN.{drop}
-use Rattle.body.proofs.Accepting.{topic-in, topic-found, topic-some, topic-within, topic-tested, payload-in, payload-found, payload-some, placeable, answer-is, placed-is}
+use Rattle.body.proofs.Accepting.{topic-in, topic-found, topic-some, topic-within, topic-tested, payload-in, payload-found, payload-some, placeable, placed-in, answer-is, placed-is}
 use Rattle.body.proofs.Sorting.{judged-topic, judged-field, topicData, few-routes}
 use Rattle.body.specs.Judging.{Sorted, partsFound, pieceIf}
 use Rattle.body.specs.Places.{readAs}
@@ -113,11 +113,7 @@ piece-if-requires-2 c κs =
     ((inside, sorted p .short), (payload-found _ _ _ (sorted p) (bytes p) (at p) (place p) _ (is-topic q), (λ _. payload-some _ _ _ (sorted p) (bytes p) (at p) (place p) _ (is-topic q))))
 
 placed-requires : tie.Need-placed-requires
-placed-requires c κs =
-    let e = c .before .before .before in
-    let q = e .before .before .before in
-    let p = q .before .before in
-    placeable _ _ _ (sorted p) (bytes p) (at p) (place p) _ (is-topic q) _ (is-payload c) (good e)
+placed-requires c κs = search needs
 
 returns-2 : tie.Need-returns-2
 returns-2 c =
@@ -126,7 +122,8 @@ returns-2 c =
     let p = q .before .before in
     let f = fields (c .before .before .before) in
     let answer = answer-is _ _ _ (sorted p) (bytes p) (at p) (place p) _ (is-topic q) _ (is-payload (c .before)) (good e) f in
-    ap Accepted (c .placed .ensures ∙ placed-is _ _ _ (sorted p) (bytes p) (at p) (place p) _ (is-topic q) _ (is-payload (c .before)) (good e) f) ∙ sym (ap readAs answer)
+    let fits = placeable _ _ _ (sorted p) (bytes p) (at p) (place p) _ (is-topic q) _ (is-payload (c .before)) (good e) in
+    ap Accepted (c .placed .ensures ∙ placed-in _ _ _ _ _ fits ∙ placed-is _ _ _ (sorted p) (bytes p) (at p) (place p) _ (is-topic q) _ (is-payload (c .before)) (good e) f) ∙ sym (ap readAs answer)
 
 returns-3 : tie.Need-returns-3
 returns-3 c =

@@ -1,8 +1,8 @@
--- `body::judge::first_route` meets its contract.
+-- `places::first_route` meets its contract.
 -- Assumes nothing.
 use borrow.Author.Tests.{eq-eqb, ne-eqb}
-use Rattle.body.proofs.judge.first_route.Statement.{statement}
-use Rattle.body.proofs.judge.first_route.Tie as tie
+use Rattle.places.proofs.first_route.Statement.{statement}
+use Rattle.places.proofs.first_route.Tie as tie
 
 returns : tie.Need-returns
 returns c = rw (eq-eqb (c .before .args .routes) 0 (c .if1 .taken))

@@ -1,0 +1,2 @@
+-- Laws about this crate's definitions.
+pub mod Placing

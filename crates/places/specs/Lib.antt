@@ -1,0 +1,2 @@
+-- Where the parts of a message lie.
+pub mod Placing
