@@ -6,7 +6,7 @@ use mathlib.Core.Logic.{_⊎_, inl, inr, ⊎-elim}
 use Prim.Native.Nat.{ℕ, _+_, _-_, _*_, _<_, _≤_}
 use mathlib.Core.List.{List, [], _∷_, _++_, append-nil}
 use native.Mathlib.Omega.{arith}
-use borrow.Author.Tests.{ltb-true, ltb-false, lt-ltb, le-ltb, le-leb}
+use borrow.Author.Tests.{ltb-true, ltb-false, lt-ltb, le-ltb}
 use lib.Dec.{ltb}
 use lib.ListN.{length, getD, drop, length-append}
 use Rattle.octets.proofs.Truth.{outcome, or-neither}
@@ -201,22 +201,21 @@ module _ (who : Broker) (errnum : ℕ) (m : Message) where
 
 -- what is said and left where the frame lies as f says
 module _ (b : List ℕ) (f : Frame) (l : Lies b f 1) (who : Broker) (errnum : ℕ) where
-  abbrev end : ℕ
-  end = f .topic .start + f .topic .len
+  -- the reply keeps the body up to the zero byte behind the topic
+  abbrev kept : ℕ
+  kept = f .topic .start + f .topic .len - 8 + 1
 
-  kept : end - 8 + 1 ≡ length (frontOf (heldIn b))
-  kept = omega (arith, topic-behind b f 1 l (inl refl), front-told b f 1 l (inl refl))
+  front : kept ≡ length (frontOf (heldIn b))
+  front = omega (arith, topic-behind b f 1 l (inl refl), front-told b f 1 l (inl refl))
 
-  replies : replyIn who errnum (f .header) end b ≡ cleared (frameOf (errorReply (who .userid) (who .rolemask) errnum (heldIn b))) b
+  replies : replyIn who errnum (f .header) kept b ≡ cleared (frameOf (errorReply (who .userid) (who .rolemask) errnum (heldIn b))) b
   replies =
-      ap (λ (t : Bool). cond t (withHeader (replyHeader (who .userid) (who .rolemask) errnum (f .header)) (end - 8 + 1) b) b)
-      (le-leb 8 end (omega (arith, topic-behind b f 1 l (inl refl))))
-      ∙ ap₂ (λ (h : Header) (n : ℕ). withHeader (replyHeader (who .userid) (who .rolemask) errnum h) n b) (header-told b f 1 l) kept
+      ap₂ (λ (h : Header) (n : ℕ). withHeader (replyHeader (who .userid) (who .rolemask) errnum h) n b) (header-told b f 1 l) front
       ∙ reply-left b (heldIn b) (back-held b f 1 l) (who .userid) (who .rolemask) errnum (has-route b f 1 l (inl refl)) (has-topic b f 1 l (inl refl))
 
-  module _ {r : Stepped} {left : List ℕ} {last : ℕ} (at : last ≡ end) (given : Fails who errnum (f .header) last b r left) where
-    made : Fails who errnum (f .header) end b r left
-    made = subst (λ (n : ℕ). Fails who errnum (f .header) n b r left) at given
+  module _ {r : Stepped} {left : List ℕ} {n : ℕ} (is : n ≡ kept) (given : Fails who errnum (f .header) n b r left) where
+    made : Fails who errnum (f .header) kept b r left
+    made = subst (λ (k : ℕ). Fails who errnum (f .header) k b r left) is given
 
     flags : {t : Bool} → noResponse (heldIn b .header .flags) ≡ t → noResponse (f .header .flags) ≡ t
     flags e = ap (λ (h : Header). noResponse (h .flags)) (header-told b f 1 l) ∙ e
@@ -224,8 +223,8 @@ module _ (b : List ℕ) (f : Frame) (l : Lies b f 1) (who : Broker) (errnum : �
     told : {t : Bool} → noResponse (heldIn b .header .flags) ≡ t → r ≡ cond t (Silenced errnum) (Replied errnum)
     told e = made .told ∙ ap (λ (t : Bool). cond t (Silenced errnum) (Replied errnum)) (flags e)
 
-    leaves : {t : Bool} → noResponse (heldIn b .header .flags) ≡ t → left ≡ cond t b (replyIn who errnum (f .header) end b)
-    leaves e = made .leaves ∙ ap (λ (t : Bool). cond t b (replyIn who errnum (f .header) end b)) (flags e)
+    leaves : {t : Bool} → noResponse (heldIn b .header .flags) ≡ t → left ≡ cond t b (replyIn who errnum (f .header) kept b)
+    leaves e = made .leaves ∙ ap (λ (t : Bool). cond t b (replyIn who errnum (f .header) kept b)) (flags e)
 
     pub fail-made : Makes (answered (failed who errnum (heldIn b))) b r left
     fail-made =

@@ -49,7 +49,11 @@ fn request(
             let identity = identities::identity_of(identities, b.rank);
             sending::forward(buffer, f.routes, f.taken - FRONT, identity, next)
         }
-        Way::Fail(errnum) => sending::fail(buffer, end, b, errnum, f.header),
+        Way::Fail(errnum) => {
+            // the topic ends in a zero byte that is not shown
+            let kept = end - FRONT + 1;
+            sending::fail(buffer, kept, b, errnum, f.header)
+        }
     }
 }
 

@@ -1,7 +1,7 @@
 -- What a broker makes in the buffer that holds a request, by where the frame's parts are said to lie: of any numbers and any bytes. Only for the
 -- proofs of the step: no promise of a call speaks of it, and that it is the paper's step is proved (broker/proofs/Lying.antt). Assumes nothing.
 use mathlib.Core.Path.{_≡_}
-use Prim.Native.Nat.{ℕ, _+_, _-_}
+use Prim.Native.Nat.{ℕ, _+_}
 use mathlib.Core.Bool.{cond, _||_}
 use mathlib.Core.List.{List}
 use lib.Dec.{leb, ltb}
@@ -40,10 +40,11 @@ pub record Forwards (routes size : ℕ) (identity : List ℕ) (next : ℕ) (buff
 
 -- ---- an error reply, or silence
 
--- the body's front up to the zero byte behind a topic that ends there, and the reply's header
+-- the first so many bytes of the body, and the reply's header behind them; a buffer without room for that stays as it is, and the buffer of a request
+-- that was read has room, since the reply is no longer (broker/proofs/Buffers.antt: reply-left)
 abbrev pub replyIn : Broker → ℕ → Header → ℕ → List ℕ → List ℕ
-replyIn b errnum header end buffer = cond (leb 8 end) (withHeader (replyHeader (b .userid) (b .rolemask) errnum header) (end - 8 + 1) buffer) buffer
+replyIn b errnum header kept buffer = withHeader (replyHeader (b .userid) (b .rolemask) errnum header) kept buffer
 
-pub record Fails (b : Broker) (errnum : ℕ) (header : Header) (end : ℕ) (buffer : List ℕ) (r : Stepped) (left : List ℕ) : Type 0 where
+pub record Fails (b : Broker) (errnum : ℕ) (header : Header) (kept : ℕ) (buffer : List ℕ) (r : Stepped) (left : List ℕ) : Type 0 where
   pub told : r ≡ cond (noResponse (header .flags)) (Silenced errnum) (Replied errnum)
-  pub leaves : left ≡ cond (noResponse (header .flags)) buffer (replyIn b errnum header end buffer)
+  pub leaves : left ≡ cond (noResponse (header .flags)) buffer (replyIn b errnum header kept buffer)

@@ -39,19 +39,14 @@ pub fn forward(buffer: &mut [u8], routes: usize, size: usize, identity: &[u8], n
     Stepped::Forwarded(next)
 }
 
-// Answers a request with an error, or is silent where it wants no response: the reply is the front of the request's body up to its topic, which ends
-// at `end`, and a header.
-pub fn fail(buffer: &mut [u8], end: usize, b: Broker, errnum: u32, header: Header) -> Stepped
-    ensures { λ r. ⌜ Fails b errnum header end (now (buffer .entry)) r (now (buffer .exit)) ⌝ }
+// Answers a request with an error, or is silent where it wants no response: the reply keeps so many bytes of the request's body, its routes and its
+// topic, and has a header of its own behind them.
+pub fn fail(buffer: &mut [u8], kept: usize, b: Broker, errnum: u32, header: Header) -> Stepped
+    ensures { λ r. ⌜ Fails b errnum header kept (now (buffer .entry)) r (now (buffer .exit)) ⌝ }
 {
     if header_flags::no_response(header.flags) {
         return Stepped::Silenced(errnum);
     }
-    // no topic ends in front of the body
-    if end >= FRONT {
-        // the topic ends in a zero byte that is not shown
-        let kept = end - FRONT + 1;
-        rewrite::put_header(buffer, kept, routing::reply_header(b, errnum, header));
-    }
+    rewrite::put_header(buffer, kept, routing::reply_header(b, errnum, header));
     Stepped::Replied(errnum)
 }

@@ -4,6 +4,7 @@ use borrow.Author.Needs.{needs}
 use native.Mathlib.Omega.{arith}
 use mathlib.Core.Path.{_≡_, refl, sym, ap, _∙_}
 use Prim.Native.Nat.{ℕ, _*_, _≤_}
+use mathlib.Core.Logic.{inl}
 use mathlib.Core.List.{List}
 use lib.ListN.{length, take, drop, length-take}
 use Rattle.message.specs.Answer.{Answer, andThen}
@@ -15,7 +16,7 @@ use Rattle.routing.specs.Messages.{pushed}
 use Rattle.routing.specs.Routed.{Tables, Outcome, tablesOf, forwardedIf, requested}
 use Rattle.broker.specs.Step.{roomFor}
 use Rattle.broker.specs.Working.{heldIn, Lies}
-use Rattle.broker.proofs.Lying.{makes, makes-as, taken-told, topic-inside, topic-low, way-told, forward-made, fail-made, fails-anyhow}
+use Rattle.broker.proofs.Lying.{makes, makes-as, taken-told, topic-inside, topic-low, topic-behind, way-told, forward-made, fail-made, fails-anyhow}
 use Rattle.broker.proofs.request.Statement.{statement}
 use Rattle.broker.proofs.request.Tie as tie
 
@@ -90,6 +91,14 @@ forward-requires c κs = search needs
 enum-known-way-3 : tie.Need-enum-known-way-3
 enum-known-way-3 c = search needs
 
+sub-kept : tie.Need-sub-kept
+sub-kept c = let s = start (c .before .before .before) in
+    omega (arith, topic-behind (b s) (f s) 1 (lies s) (inl refl))
+
+add-kept : tie.Need-add-kept
+add-kept c = let s = start (c .before .before .before) in
+    omega (arith, topic-low (b s) (f s) 1 (lies s))
+
 fail-requires : tie.Need-fail-requires
 fail-requires c κs = search needs
 
@@ -140,6 +149,8 @@ request-spec =
     sub-forward
     forward-requires
     enum-known-way-3
+    sub-kept
+    add-kept
     fail-requires
     same-length
     returns

@@ -3,10 +3,9 @@
 use borrow.Author.Needs.{needs}
 use native.Mathlib.Omega.{arith}
 use mathlib.Core.Path.{sym, ap, _∙_}
-use Prim.Native.Nat.{_+_, _-_}
 use Rattle.message.specs.declared.Header.{Header}
 use Rattle.rewrite.specs.Renewed.{withHeader}
-use Rattle.sending.proofs.Failing.{fails-silent, fails-replied, fails-nowhere}
+use Rattle.sending.proofs.Failing.{fails-silent, fails-replied}
 use Rattle.sending.proofs.fail.Statement.{statement}
 use Rattle.sending.proofs.fail.Tie as tie
 
@@ -15,9 +14,6 @@ no-response-requires c κs = search needs
 
 returns : tie.Need-returns
 returns c = fails-silent (sym (c .before .no-response .ensures) ∙ c .if1 .taken)
-
-add-kept : tie.Need-add-kept
-add-kept c = search needs
 
 reply-header-requires : tie.Need-reply-header-requires
 reply-header-requires c κs = search needs
@@ -31,17 +27,12 @@ same-length c = search needs
 returns-2 : tie.Need-returns-2
 returns-2 c = let put = c .before .before in
     let reply = put .before in
-    let inside = reply .before in
-    let loud = inside .before .before in
+    let loud = reply .before .before in
     let s = loud .before .before .before in
     fails-replied
     (sym (loud .before .no-response .ensures) ∙ loud .if1 .left)
-    (omega (arith, inside .before .if2 .taken))
-    (put .put-header .ensures ∙ ap (λ (h : Header). withHeader h (s .args .end - 8 + 1) (s .args .buffer .now)) (reply .reply-header .ensures))
-
-returns-3 : tie.Need-returns-3
-returns-3 c = let loud = c .before in
-    fails-nowhere (sym (loud .before .no-response .ensures) ∙ loud .if1 .left) (omega (arith, c .if2 .left))
+    (omega arith)
+    (put .put-header .ensures ∙ ap (λ (h : Header). withHeader h (s .args .kept) (s .args .buffer .now)) (reply .reply-header .ensures))
 
 pub fail-spec : {M : Type 1} → statement M
 fail-spec =
@@ -49,9 +40,7 @@ fail-spec =
     (tie.spec
     no-response-requires
     returns
-    add-kept
     reply-header-requires
     put-header-requires
     same-length
-    returns-2
-    returns-3)
+    returns-2)
