@@ -12,13 +12,13 @@ export TMPDIR := $(shell tools/tmpdir)
 # What the archive is made of. The program and the must-fail edits are not in it.
 RATTLE := $(wildcard crates.txt) $(shell find crates -path crates/examples -prune -o -name must-fail -prune \
             -o \( -name '*.rt' -o -name '*.antt' \) -print 2>/dev/null)
-.PHONY: help run test bench archive host dist fmt deps clean
+.PHONY: help run test bench archive host dist fmt deps bench-deps clean
 .DELETE_ON_ERROR:
 
 help:
 	@echo 'make run      prove the library, show its examples, and write, dump and walk a frame from C'
 	@echo 'make test     the whole gate: every proof, must-fail edit and test'
-	@echo 'make bench    the library beside the second program, as ratios'
+	@echo 'make bench    the library beside the second program and other JSON parsers, as ratios'
 	@echo 'make archive  the library for C: $(ARCHIVE)'
 	@echo 'make host     the C host programs: $(HOST_DIR)/flux_frame and flux_floor'
 	@echo 'make install  archive, header, pkg-config file, host programs and man pages, to PREFIX (/usr/local)'
@@ -46,8 +46,9 @@ run: deps
 test: deps
 	@tools/gate
 
-bench: deps archive
-	@cd tests/second && CARGO_TARGET_DIR='$(CURDIR)/target/cargo' cargo run --release --offline --bin bench
+bench: deps bench-deps archive
+	@cd tests/second && CARGO_TARGET_DIR='$(CURDIR)/target/cargo' \
+	    cargo run --release --offline --features others --bin bench
 
 archive: $(ARCHIVE)
 
@@ -85,6 +86,14 @@ fmt:
 	    echo 'make fmt: no clang-format here, so the C files stay as they are'; \
 	fi
 
+# Installs the Debian packages that are missing, for the rules below.
+INSTALL_MISSING = [ -z "$$missing" ] || { \
+	    echo "make: installing$$missing" >&2; \
+	    root=''; [ "$$(id -u)" -eq 0 ] || root=sudo; \
+	    { $$root apt-get update && $$root apt-get install -y $$missing; } >&2 || \
+	        { echo "make: cannot install$$missing: do it by hand" >&2; exit 1; }; \
+	}
+
 # Says and does nothing where all is there. What it says goes to standard error, so that the gate's
 # own lines stay alone on standard output. It looks for gcc and cc (Rust links with cc) and not for
 # $(CC): another compiler, or a mistyped one, is no reason to install packages.
@@ -94,12 +103,15 @@ deps:
 	{ command -v gcc && command -v cc; } >/dev/null || missing="$$missing gcc libc6-dev"; \
 	command -v cargo >/dev/null || missing="$$missing cargo"; \
 	command -v rustc >/dev/null || missing="$$missing rustc"; \
-	[ -z "$$missing" ] || { \
-	    echo "make: installing$$missing" >&2; \
-	    root=''; [ "$$(id -u)" -eq 0 ] || root=sudo; \
-	    { $$root apt-get update && $$root apt-get install -y $$missing; } >&2 || \
-	        { echo "make: cannot install$$missing: do it by hand" >&2; exit 1; }; \
-	}
+	$(INSTALL_MISSING)
+
+# jansson and simdjson, which the measurement alone needs: the gate does without them.
+bench-deps: deps
+	@missing=''; \
+	{ command -v g++ && command -v c++; } >/dev/null || missing="$$missing g++"; \
+	[ -e /usr/include/jansson.h ] || missing="$$missing libjansson-dev"; \
+	[ -e /usr/include/simdjson.h ] || missing="$$missing libsimdjson-dev"; \
+	$(INSTALL_MISSING)
 
 clean:
 	rm -rf target

@@ -8,6 +8,7 @@
 #include "dump_capture.h"
 #include "dump_explain.h"
 #include "dump_split.h"
+#include "dump_verdict.h"
 #include "lampreycoil.h"
 
 /* The header's fields. */
@@ -25,6 +26,7 @@ struct dump {
     struct frame frame;
     uint32_t refusal;
     uint8_t record[LAMPREYCOIL_READ_RECORD]; /* where it was accepted */
+    struct verdict verdict;                  /* where it has a payload, too */
     struct split split;                      /* here and below: where it was refused */
     char reason[REASON_ROOM];
     int all;    /* show all bytes of the payload */
@@ -53,6 +55,14 @@ struct fields fields_at(const uint8_t *header);
 /* The places of an accepted frame's parts that the record does not name. */
 size_t delimiter_start(const struct dump *dump);
 size_t header_start(const struct dump *dump);
+
+/* Whether an accepted frame has a payload, which may be empty, and where that is. */
+int has_payload(const struct dump *dump);
+const uint8_t *payload_bytes(const struct dump *dump);
+size_t payload_length(const struct dump *dump);
+
+/* What is in a payload, for a person, behind the line that tells its length. */
+void show_payload(const struct dump *dump);
 
 /* One frame, whole or refused: for a person, and for a machine. */
 void show_text(const struct dump *dump);

@@ -32,6 +32,21 @@ size_t header_start(const struct dump *dump)
     return dumped(dump, LAMPREYCOIL_READ_TOOK) - HEADER;
 }
 
+int has_payload(const struct dump *dump)
+{
+    return (dumped(dump, LAMPREYCOIL_READ_FLAGS) & LAMPREYCOIL_PAYLOAD) != 0;
+}
+
+const uint8_t *payload_bytes(const struct dump *dump)
+{
+    return dump->frame.bytes + dumped(dump, LAMPREYCOIL_READ_PAYLOAD_START);
+}
+
+size_t payload_length(const struct dump *dump)
+{
+    return dumped(dump, LAMPREYCOIL_READ_PAYLOAD_LENGTH);
+}
+
 enum stop stop_of(const struct dump *dump)
 {
     const struct frame *frame = &dump->frame;
@@ -52,7 +67,9 @@ static int look_at_next(struct capture *capture, struct dump *dump)
     dump->refusal =
         lampreycoil_read(frame->bytes, frame->length, dump->record, sizeof dump->record);
     if (dump->refusal == LAMPREYCOIL_OK)
-        return 0;
+        return has_payload(dump)
+                   ? judge_payload(payload_bytes(dump), payload_length(dump), &dump->verdict)
+                   : 0;
     if (frame->length >= FRONT)
         split_frame(frame->bytes, frame->length, &dump->split);
     explain(dump->refusal, frame->bytes, frame->length, &dump->split, dump->reason);
@@ -61,10 +78,9 @@ static int look_at_next(struct capture *capture, struct dump *dump)
 
 static int write_payload(const struct dump *dump, const char *name)
 {
-    if ((dumped(dump, LAMPREYCOIL_READ_FLAGS) & LAMPREYCOIL_PAYLOAD) == 0)
+    if (!has_payload(dump))
         return trouble("the frame has no payload to write to %s", output_name(name));
-    return write_all(name, dump->frame.bytes + dumped(dump, LAMPREYCOIL_READ_PAYLOAD_START),
-                     dumped(dump, LAMPREYCOIL_READ_PAYLOAD_LENGTH));
+    return write_all(name, payload_bytes(dump), payload_length(dump));
 }
 
 /* The payload goes first: where there is none, nothing is written. */

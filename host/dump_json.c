@@ -3,6 +3,7 @@
 #include <string.h>
 
 #include "dump.h"
+#include "dump_layout.h"
 #include "json.h"
 #include "names.h"
 
@@ -91,7 +92,40 @@ static void put_routes(const struct dump *dump)
     json_close(']');
 }
 
-/* A part of an accepted frame; the topic's also as text. */
+/* The value and the text; no value of which a reader of this object could choke. */
+static void put_json(const uint8_t *text, size_t length)
+{
+    json_name("json");
+    if (has_half_pair(text, length))
+        json_null();
+    else
+        json_value(text, length);
+    json_name("text");
+    json_indented(text, length);
+}
+
+/* Whether the payload is JSON: its value and its text, or where and why not. */
+static void put_verdict(const struct dump *dump)
+{
+    const struct verdict *verdict = &dump->verdict;
+
+    json_name("is_json");
+    if (verdict->kind == VERDICT_JSON) {
+        json_bool(1);
+        put_json(payload_bytes(dump), payload_length(dump) - 1);
+        return;
+    }
+    if (verdict->kind == VERDICT_NO) {
+        json_bool(0);
+    } else {
+        json_null();
+        put_number("refusal", LAMPREYCOIL_JSON_DEEP);
+    }
+    put_number("json_byte", verdict->byte);
+    put_text("json_because", verdict->reason);
+}
+
+/* A part of an accepted frame; the topic's also as text, the payload's also as JSON. */
 static void put_named(const struct dump *dump, const char *name, uint8_t flag, size_t start,
                       size_t length)
 {
@@ -105,6 +139,8 @@ static void put_named(const struct dump *dump, const char *name, uint8_t flag, s
     if (flag == LAMPREYCOIL_TOPIC) {
         json_name("text");
         json_bytes(dump->frame.bytes + start, length);
+    } else if (flag == LAMPREYCOIL_PAYLOAD) {
+        put_verdict(dump);
     }
     json_close('}');
 }

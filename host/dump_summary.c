@@ -5,14 +5,15 @@
 #include "names.h"
 #include "one_line.h"
 
-static void print_payload(const struct dump *dump, uint8_t flags)
+static void print_payload(const struct dump *dump)
 {
-    uint32_t length = dumped(dump, LAMPREYCOIL_READ_PAYLOAD_LENGTH);
+    size_t length = payload_length(dump);
 
-    if ((flags & LAMPREYCOIL_PAYLOAD) == 0)
+    if (!has_payload(dump))
         printf(", no payload");
     else
-        printf(", payload %lu byte%s", (unsigned long)length, plural(length));
+        printf(", payload %zu byte%s, %s", length, plural(length),
+               verdict_words(dump->verdict.kind));
 }
 
 void show_summary(const struct dump *dump)
@@ -28,7 +29,7 @@ void show_summary(const struct dump *dump)
                            fields.second);
     /* A control message cannot have one. */
     if (fields.type != LAMPREYCOIL_CONTROL)
-        print_payload(dump, fields.flags);
+        print_payload(dump);
     if (routes > 0)
         printf(", %lu route%s", (unsigned long)routes, plural(routes));
     print_marks(fields.flags);

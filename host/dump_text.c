@@ -5,8 +5,8 @@
 #include "names.h"
 #include "quoted.h"
 
-/* How much of a payload is shown, how much of a refused frame's part, and bytes in a row. */
-enum { PAYLOAD_SHOWN = 64, PART_SHOWN = 40, ROW = 16 };
+/* How much of a refused frame's part is shown. */
+enum { PART_SHOWN = 40 };
 
 /* The column of names, so that all values stand below each other. */
 #define NAME "%-14s"
@@ -99,37 +99,23 @@ static void print_topic(const struct dump *dump)
     printf(" (%zu byte%s), from byte %zu\n", length, plural(length), start);
 }
 
-static void print_row(const uint8_t *bytes, size_t at, size_t length)
-{
-    printf("  %04zX        ", at);
-    for (size_t i = 0; i < ROW; i++) {
-        if (i < length)
-            printf("%02X ", bytes[at + i]);
-        else
-            printf("   ");
-    }
-    printf(" |");
-    for (size_t i = 0; i < length; i++)
-        putchar(printable(bytes[at + i]) ? bytes[at + i] : '.');
-    puts("|");
-}
-
 static void print_payload(const struct dump *dump)
 {
-    size_t start = dumped(dump, LAMPREYCOIL_READ_PAYLOAD_START);
-    size_t length = dumped(dump, LAMPREYCOIL_READ_PAYLOAD_LENGTH);
-    size_t shown = dump->all || length < PAYLOAD_SHOWN ? length : PAYLOAD_SHOWN;
+    const struct verdict *verdict = &dump->verdict;
+    size_t length = payload_length(dump);
 
-    if ((dumped(dump, LAMPREYCOIL_READ_FLAGS) & LAMPREYCOIL_PAYLOAD) == 0) {
-        printf(NAME "none\n", "payload");
+    printf(NAME, "payload");
+    if (!has_payload(dump)) {
+        puts("none");
         return;
     }
-    print_place("payload", length, start);
-    for (size_t at = 0; at < shown; at += ROW)
-        print_row(dump->frame.bytes + start, at, shown - at < ROW ? shown - at : ROW);
-    if (shown < length)
-        printf("  %-12s%zu byte%s more (--all shows all)\n", "", length - shown,
-               plural(length - shown));
+    printf("%zu byte%s, from byte %lu, %s", length, plural(length),
+           (unsigned long)dumped(dump, LAMPREYCOIL_READ_PAYLOAD_START),
+           verdict_words(verdict->kind));
+    if (verdict->kind != VERDICT_JSON)
+        printf(": %s", verdict->reason);
+    putchar('\n');
+    show_payload(dump);
 }
 
 /* Which frame it is. The number is cut nowhere, however long, and a space always follows it. */

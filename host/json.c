@@ -3,6 +3,8 @@
 #include <stdio.h>
 #include <string.h>
 
+#include "dump_characters.h"
+#include "dump_layout.h"
 #include "quoted.h"
 
 /* Whether the next value or name has one in front of it, from which a comma parts it. */
@@ -92,6 +94,31 @@ void json_bytes(const uint8_t *bytes, size_t length)
     }
     begin();
     put_string(bytes, length);
+}
+
+void json_value(const uint8_t *text, size_t length)
+{
+    begin();
+    lay_out_tight(text, length, print_ascii);
+}
+
+/* A character within a string. */
+static void put_character(uint32_t character)
+{
+    if (character == '\n')
+        fputs("\\n", stdout);
+    else if (character == '"' || character == '\\')
+        printf("\\%c", (int)character);
+    else
+        print_ascii(character);
+}
+
+void json_indented(const uint8_t *text, size_t length)
+{
+    begin();
+    putchar('"');
+    lay_out_indented(text, length, put_character);
+    putchar('"');
 }
 
 void json_hex(const uint8_t *bytes, size_t length)

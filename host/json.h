@@ -23,6 +23,14 @@ void json_text(const char *text);
 /* As text where all bytes are printable ASCII, otherwise null: JSON has no strings of bytes. */
 void json_bytes(const uint8_t *bytes, size_t length);
 
+/*
+ * A JSON text that the library has said yes to: as a value, with no white space between its tokens;
+ * and indented, as a string. In both a character that is not printable ASCII is an escape, and so
+ * the same character.
+ */
+void json_value(const uint8_t *text, size_t length);
+void json_indented(const uint8_t *text, size_t length);
+
 /* In hexadecimal, as a string. */
 void json_hex(const uint8_t *bytes, size_t length);
 

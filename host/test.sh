@@ -1,10 +1,11 @@
 #!/usr/bin/env bash
 # Tests the host programs. flux_frame: the bytes of paper 01, each refusal that it can meet, files and
-# wrong usage; host/test/dump.sh has more of dump, and host/test/capture.sh its captures of several frames.
-# flux_floor: host/test/floor.sh. The header: host/test/header.sh. Then the list of a stream, the step and
-# the walk through it, the examples of README.md, and the stack that each call takes. The programs are
-# FLUX_FRAME and FLUX_FLOOR, or else what `make host` builds; the archive is ARCHIVE, or else the one of
-# `make archive`. The last line is 'N passed, M failed'.
+# wrong usage; host/test/dump.sh has more of dump, host/test/capture.sh its captures of several frames, and
+# host/test/json.sh its payloads that are JSON or are not. flux_floor: host/test/floor.sh. The header:
+# host/test/header.sh. Then the list of a stream, the check of JSON, the step and the walk through it, the
+# examples of README.md, and the stack that each call takes. The programs are FLUX_FRAME and FLUX_FLOOR, or
+# else what `make host` builds; the archive is ARCHIVE, or else the one of `make archive`. The last line is
+# 'N passed, M failed'.
 set -u
 cd "$(dirname "$0")/.." || exit 2
 
@@ -130,6 +131,9 @@ n8='a route not of the form, or above 64'
 n9='topic not of the form'
 n10="request nodeid 4294967294; event's unused field not zero"
 
+# What dump tells of a byte at which a payload is not JSON.
+stands='cannot stand there'
+
 # What the programs tell is the header's version.
 version=$(sed -n 's/^.define LAMPREYCOIL_VERSION "\(.*\)"$/\1/p' include/lampreycoil.h)
 
@@ -178,7 +182,7 @@ run write --type request --topic log --matchtag 1 --payload "$room/most"
 report $? 'log with 32,736 bytes of payload is written'
 cp "$room/out" "$room/most.frame"
 run dump "$room/most.frame"
-[ "$status" -eq 0 ] && grep -qx 'payload       32736 bytes, from byte 19' "$room/out" && grep -qx ' *32672 bytes more (--all shows all)' "$room/out"
+[ "$status" -eq 0 ] && grep -qxF "payload       32736 bytes, from byte 19, no JSON: byte 0 of it, 78, $stands" "$room/out" && grep -qx ' *32672 bytes more (--all shows all)' "$room/out"
 report $? 'log with 32,736 bytes of payload is read'
 refuses 'log with 32,737 bytes of payload is 3' 3 "$n3" --type request --topic log --matchtag 1 --payload "$room/over"
 
@@ -213,8 +217,9 @@ routes        2 (top of the stack first)
   1           $one, from byte 47
 delimiter     0 bytes, from byte 85
 topic         \"kvs.\\\"get\" (8 bytes), from byte 86
-payload       2 bytes, from byte 96
+payload       2 bytes, from byte 96, no JSON: byte 0 of it, 68, $stands
   0000        68 69                                            |hi|
+              ^^                                                ^
 header        20 bytes, from byte 99"
 unhex "$log" >"$room/log"
 run dump - <"$room/log"
@@ -232,11 +237,11 @@ sequence      5
 unused        0
 routes        0
 topic         "up\xFF" (3 bytes), from byte 9
-payload       0 bytes, from byte 14
+payload       0 bytes, from byte 14, no JSON: it is empty
 header        20 bytes, from byte 15'
 printf hi | "$FLUX_FRAME" write --type event --topic up --payload - -o "$room/piped"
 run dump "$room/piped"
-[ "$status" -eq 0 ] && grep -qx 'payload       2 bytes, from byte 13' "$room/out"
+[ "$status" -eq 0 ] && grep -qxF "payload       2 bytes, from byte 13, no JSON: byte 0 of it, 68, $stands" "$room/out"
 report $? 'a payload from standard input'
 
 # ---- refusals of the writer
@@ -284,6 +289,9 @@ dump_refuses "an event's unused field is 10" 10 "$n10" "$start 00 00 00 18 02 41
 
 # shellcheck source=host/test/capture.sh
 . host/test/capture.sh
+
+# shellcheck source=host/test/json.sh
+. host/test/json.sh
 
 # ---- usage
 
@@ -333,12 +341,13 @@ awk '/^```c$/ { code = 1; next } /^```$/ { code = 0 } code' README.md >"$room/re
 # shellcheck source=host/test/header.sh
 . host/test/header.sh
 
-# ---- the list of a stream, the step, the examples of README.md, the walk, and the stack
+# ---- the list of a stream, the check of JSON, the step, the examples of README.md, the walk, and the stack
 
 "${CC:-gcc}" -std=c99 -Wall -Wextra -Werror -Iinclude -c -o "$room/readme.o" "$room/readme.c" >"$room/out" 2>"$room/err"
 status=$?
 report "$status" 'the examples of README.md compile'
 program read_stream
+program check_json
 program step
 program stream
 program walk

@@ -1,7 +1,7 @@
 /*
  * lampreycoil.h: the C calls of Lampreycoil, which reads and writes framed Flux messages (RFC 3),
- * lists the frames of a stream, checks the tables of the brokers that pass them on, makes one
- * broker's step, and plays a whole walk.
+ * lists the frames of a stream, says whether a payload is JSON, checks the tables of the brokers
+ * that pass them on, makes one broker's step, and plays a whole walk.
  * The functions are in the archive liblampreycoil.a. Usable from C99 and from C++. Files that are
  * named below are in the sources; an install has FORMAT.md in share/doc/lampreycoil.
  *
@@ -22,9 +22,11 @@
  * - A call's results are a record: a row of 4-byte big-endian numbers, which it writes to the
  *   front of a slice lent for it. lampreycoil_number() reads one of them. A record slice that is
  *   too short is refused with 11 before anything else; a longer one keeps its tail as it was.
- * - A refusal writes nothing, to any slice. lampreycoil_walk alone differs: see there.
+ * - A refusal writes nothing, to any slice. Two calls differ, lampreycoil_walk and, for refusal 26,
+ *   lampreycoil_check_json: see there.
  * - Nothing is allocated. A call takes less than LAMPREYCOIL_STACK_MAX bytes of stack, whatever it
- *   is given; this is measured (host/test.sh) and not proved.
+ *   is given, and lampreycoil_check_json less than 4,096 (it took 2,207 at 32 levels);
+ *   this is measured (host/test.sh) and not proved.
  *
  * What a message is
  *
@@ -47,7 +49,8 @@
  * - A topic is 1 to 255 bytes, any but zero; it need not be text. In a frame a zero byte follows
  *   it. The calls take and show it without that byte. Its service is all before the first period,
  *   or all of it where there is none.
- * - A payload is any bytes, and may be empty; its flag tells an empty one from none.
+ * - A payload is any bytes, and may be empty; its flag tells an empty one from none. Whether it is
+ *   JSON no call asks but lampreycoil_check_json.
  * - The header is 20 bytes: 8E, 01, type, flags, then userid, rolemask, first field and second
  *   field (4 bytes each, big endian). A request's first field is not 4294967294, and an event's
  *   second field is 0; otherwise these four may be any numbers.
@@ -131,7 +134,9 @@ enum lampreycoil_refusal {
     /* step or walk given an event or control */
     LAMPREYCOIL_NOT_ROUTED = 18,
     /* a response's top route is a broker that is no neighbour, itself included */
-    LAMPREYCOIL_NO_NEIGHBOUR = 19
+    LAMPREYCOIL_NO_NEIGHBOUR = 19,
+    /* a payload whose values nest deeper than 32 */
+    LAMPREYCOIL_JSON_DEEP = 26
 };
 
 /* A message's type, with the names of its two fields. */
@@ -188,6 +193,7 @@ enum lampreycoil_size {
     LAMPREYCOIL_STREAM_MAX = 1048576, /* bytes of a stream that are looked at */
     LAMPREYCOIL_ENTRY_SIZE = 8,       /* an entry in a stream's list: start and length */
     LAMPREYCOIL_LIST_MAX = 289256,    /* a list of this size is never too short */
+    LAMPREYCOIL_JSON_DEPTH_MAX = 32,  /* levels of a payload's JSON, its outer object being 1 */
     LAMPREYCOIL_STACK_MAX = 16384     /* stack that a call takes */
 };
 
@@ -196,6 +202,7 @@ enum lampreycoil_record_size {
     LAMPREYCOIL_READ_RECORD = 52,
     LAMPREYCOIL_WRITE_RECORD = 4,
     LAMPREYCOIL_STREAM_RECORD = 12,
+    LAMPREYCOIL_JSON_RECORD = 8,
     LAMPREYCOIL_CHECK_TREE_RECORD = 4,
     LAMPREYCOIL_STEP_RECORD = 16,
     LAMPREYCOIL_WALK_RECORD = 24
@@ -242,6 +249,21 @@ enum lampreycoil_stream_index {
     LAMPREYCOIL_STREAM_ENTRIES = 0, /* whole frames listed, LAMPREYCOIL_ENTRY_SIZE bytes each */
     LAMPREYCOIL_STREAM_REFUSAL = 1, /* what stopped it: enum lampreycoil_refusal, never 0 */
     LAMPREYCOIL_STREAM_STOP = 2     /* where the frame starts at which it stopped */
+};
+
+/*
+ * What lampreycoil_check_json says of a payload. Neither is 0, so a record that nobody filled says
+ * neither; lampreycoil_is_json() asks for the yes.
+ */
+enum lampreycoil_json_answer {
+    LAMPREYCOIL_JSON_YES = 1, /* it is JSON */
+    LAMPREYCOIL_JSON_NO = 2   /* it is not */
+};
+
+/* The numbers of lampreycoil_check_json's record, by index. */
+enum lampreycoil_json_index {
+    LAMPREYCOIL_JSON_ANSWER = 0, /* enum lampreycoil_json_answer; 0 with refusal 26 */
+    LAMPREYCOIL_JSON_BYTE = 1    /* the place of a no, or of the level too many; 0 for a yes */
 };
 
 /* What a broker did with a message, and what its daemon does now. */
@@ -320,6 +342,46 @@ uint32_t lampreycoil_read(const uint8_t *bytes, size_t bytes_length, uint8_t *re
 LAMPREYCOIL_CHECKED
 uint32_t lampreycoil_read_stream(const uint8_t *bytes, size_t bytes_length, uint8_t *list,
                                  size_t list_length, uint8_t *record, size_t record_length);
+
+/*
+ * Says whether a payload is JSON, and if not, where it stops being so. Answer and byte go to
+ * record, which takes LAMPREYCOIL_JSON_RECORD bytes. payload is what lampreycoil_read shows of it,
+ * all of its bytes; they may also come from elsewhere, and be of any number.
+ *
+ * A payload is JSON if it is one object of RFC 7159 and then one zero byte, with nothing behind
+ * that. White space (20, 09, 0A, 0D) may stand around the object; a byte order mark may not. Text,
+ * the names of members too, is valid UTF-8 by RFC 3629. Two members may have one name, and a name
+ * may be empty. An escape of a surrogate needs no partner. \u0000, DEL, noncharacters and numbers
+ * of any size and length pass: they are not looked at more closely. Values nest at most
+ * LAMPREYCOIL_JSON_DEPTH_MAX deep; the outer object is 1, and each object or array inside is 1 more
+ * than what it stands in.
+ *
+ * The call returns
+ * - 0 with the answer LAMPREYCOIL_JSON_YES and byte 0: it is JSON.
+ * - 0 with the answer LAMPREYCOIL_JSON_NO and a byte: it is not. 0 alone is no yes: ask
+ *   lampreycoil_is_json().
+ * - 26 with the answer 0 and a byte: there a level more opens than may be. What is behind that byte
+ *   is not looked at, so this is neither a yes nor a no. The record is written although it is a
+ *   refusal.
+ * - 11 where the record is too short, before anything else; then nothing is written.
+ *
+ * The byte counts from the payload's front. That of a no is the first that cannot stand where it
+ * does: the bytes in front of it begin some payload that is JSON, and with it they begin none. If
+ * there is no such byte the payload ends too early, and the byte is its length. One above
+ * 4294967295 is told as 4294967295.
+ *
+ *   payload (\0: a zero byte)    returns   answer   byte
+ *   {"a":[1,2]}\0                      0        1      0
+ *   {"a":1}                            0        2      7   no zero byte: its length
+ *   {"a":01}\0                         0        2      6   no digit may follow a leading zero
+ *   {"a":1.}\0                         0        2      7   a digit has to come: the brace
+ *   {"a":1}\0x                         0        2      8   a byte behind the zero byte
+ *   [1]\0                              0        2      0   no object
+ *   {"a":[[ .. 32 times [             26        0     36   level 33
+ */
+LAMPREYCOIL_CHECKED
+uint32_t lampreycoil_check_json(const uint8_t *payload, size_t payload_length, uint8_t *record,
+                                size_t record_length);
 
 /*
  * Writes a message as a frame to the front of out, and the frame's length to record, which takes
@@ -507,6 +569,31 @@ static inline struct lampreycoil_place lampreycoil_entry(const uint8_t *list, si
 }
 
 /*
+ * Whether lampreycoil_check_json said yes: true if it returned 0 and its record has the answer
+ * LAMPREYCOIL_JSON_YES and byte 0, and false for all else, such as a no, a payload that nests too
+ * deep, and a record of zeros. returned is what the call returned, and record what it was lent;
+ * where that is a refusal, as after a record that was too short, record is not looked at. In one:
+ *
+ *   if (lampreycoil_is_json(lampreycoil_check_json(p, length, row, sizeof row), row))
+ */
+LAMPREYCOIL_CHECKED
+static inline int lampreycoil_is_json(uint32_t returned, const uint8_t *record)
+{
+    return returned == LAMPREYCOIL_OK &&
+           lampreycoil_number(record, LAMPREYCOIL_JSON_ANSWER) == LAMPREYCOIL_JSON_YES &&
+           lampreycoil_number(record, LAMPREYCOIL_JSON_BYTE) == 0;
+}
+
+/*
+ * The byte in a record that lampreycoil_check_json filled: where a payload stops being JSON, or
+ * where it opens a level too many. Of a yes it is 0, and of refusal 11 there is none.
+ */
+static inline uint32_t lampreycoil_json_byte(const uint8_t *record)
+{
+    return lampreycoil_number(record, LAMPREYCOIL_JSON_BYTE);
+}
+
+/*
  * A message. To write one, set all of it to zero, then what there is. A message that was read can
  * be written again, with other routes, parts or fields. A part that is not there has the length 0,
  * and its pointer means nothing; the flags tell an empty payload from none.
@@ -641,6 +728,8 @@ static inline const char *lampreycoil_refusal_words(uint32_t refusal)
         return "step or walk given an event or control";
     case LAMPREYCOIL_NO_NEIGHBOUR:
         return "a response's top route is a broker that is no neighbour, itself included";
+    case LAMPREYCOIL_JSON_DEEP:
+        return "a payload whose values nest deeper than 32";
     default:
         return "no number of a refusal";
     }

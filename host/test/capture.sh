@@ -34,8 +34,8 @@ junk="is refused, 2: $n2 (77 68 61 74 in place of FF EE 00 12)"
 cat "$room/control" "$room/log" "$room/response" "$room/event" >"$room/four"
 control_line='frame 0          29 bytes, from byte 0         control   control type 2, status 3'
 log_line='frame 1          35 bytes, from byte 29        request   "log", nodeid any, matchtag 1, no payload'
-response_line='frame 2         119 bytes, from byte 64        response  "kvs.\"get", errnum 38 ENOSYS, matchtag 7, payload 2 bytes, 2 routes, noresponse, upstream, private, streaming'
-event_line='frame 3          35 bytes, from byte 183       event     "up\xFF", sequence 5, payload 0 bytes'
+response_line='frame 2         119 bytes, from byte 64        response  "kvs.\"get", errnum 38 ENOSYS, matchtag 7, payload 2 bytes, no JSON, 2 routes, noresponse, upstream, private, streaming'
+event_line='frame 3          35 bytes, from byte 183       event     "up\xFF", sequence 5, payload 0 bytes, no JSON'
 two_frames="frame 0       29 bytes, from byte 0 of the capture
 $control_shown
 

@@ -92,6 +92,24 @@ static void take_streams(uint8_t *other)
             LAMPREYCOIL_OUTPUT_SHORT);
 }
 
+/* The answer, and 100 for each byte of its place; 1000 and the refusal. */
+static uint32_t check_json(const uint8_t *bytes, uint8_t *row, size_t row_length)
+{
+    uint32_t refusal = lampreycoil_check_json(bytes, 0, row, row_length);
+
+    if (refusal != LAMPREYCOIL_OK)
+        return 1000 + refusal;
+    return 100 * lampreycoil_json_byte(row) + lampreycoil_number(row, LAMPREYCOIL_JSON_ANSWER);
+}
+
+static void take_json(uint8_t *other)
+{
+    answers("an empty payload is no JSON", check_json(NULL, record, sizeof record),
+            check_json(other, record, sizeof record), LAMPREYCOIL_JSON_NO);
+    answers("no record of a check of JSON", check_json(NULL, NULL, 0), check_json(other, other, 0),
+            1000 + LAMPREYCOIL_OUTPUT_SHORT);
+}
+
 static uint32_t check_tree(const uint8_t *t, size_t length, uint8_t *d, size_t d_length,
                            uint8_t *row, size_t row_length)
 {
@@ -177,6 +195,7 @@ int main(void)
     take_reads(&one);
     take_writes(&one);
     take_streams(&one);
+    take_json(&one);
     take_checks(&one);
     take_plays(&one);
     report(one == FILL, "nothing is written to an empty slice");

@@ -44,9 +44,10 @@ if "${CC:-gcc}" $watched -o "$room/watched" "$room/watched.c" 2>"$room/err" && "
     program empty "${CC:-gcc}" -std=c99 $watched
     program helpers "${CC:-gcc}" -std=c99 $watched
     program read_stream "${CC:-gcc}" -std=c99 $watched
+    program check_json "${CC:-gcc}" -std=c99 $watched
     program stream "${CC:-gcc}" -std=c99 $watched
 else
-    echo 'no sanitizers here: host/test/empty.c, helpers.c, read_stream.c and stream.c run without them alone'
+    echo 'no sanitizers here: host/test/empty.c, helpers.c, read_stream.c, check_json.c and stream.c run without them alone'
 fi
 
 # An answer that nobody looks at is a warning: of each call, and of what is made of the calls.
@@ -62,6 +63,8 @@ ignored() { # CALL ARGUMENTS
 ignored lampreycoil_read 'b, 0, b, 0'
 ignored lampreycoil_read_stream 'b, 0, b, 0, b, 0'
 ignored lampreycoil_write '1, 0, 0, 0, 0, 0, b, 0, b, 0, b, 0, b, 0, b, 0'
+ignored lampreycoil_check_json 'b, 0, b, 0'
+ignored lampreycoil_is_json '0, b'
 ignored lampreycoil_check_tree 'b, 0, b, 0, b, 0'
 ignored lampreycoil_check_services 'b, 0, b, 0'
 ignored lampreycoil_check_identities 'b, 0, b, 0'

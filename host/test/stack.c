@@ -21,6 +21,7 @@ enum {
     LONG_BODY = 32730, /* the longest that still grows by a route */
     LINKS = 32,        /* the most between two ranks */
     WALK_BODY = 31552, /* the longest that grows by a route at each of them */
+    JSON_STACK = 4096, /* the limit of check_json, which the header's words have */
     SHORTEST = LAMPREYCOIL_FRAME_MIN,
     MOST = LAMPREYCOIL_LIST_MAX / LAMPREYCOIL_ENTRY_SIZE, /* frames in a list */
     CHAINS = 4096,
@@ -177,6 +178,18 @@ static void make_stream(const uint8_t *one, size_t length)
         memcpy(stream + at, one, length < sizeof stream - at ? length : sizeof stream - at);
 }
 
+/* A payload that is to be JSON; 100 and the answer, or 1000, the answer and the refusal. */
+static uint8_t json[1 << 20];
+static size_t json_length;
+
+static uint32_t check_json(void)
+{
+    uint32_t refusal = lampreycoil_check_json(json, json_length, record, sizeof record);
+    uint32_t answer = lampreycoil_number(record, LAMPREYCOIL_JSON_ANSWER);
+
+    return refusal ? 1000 + 100 * answer + refusal : 100 + answer;
+}
+
 static uint32_t check_tree(void)
 {
     return lampreycoil_check_tree(tree, sizeof tree, buffer, sizeof buffer, record, sizeof record);
@@ -241,17 +254,22 @@ static size_t measure(uint32_t (*what)(void))
     return (size_t)(top - (stack + low));
 }
 
-static void takes(const char *label, uint32_t (*what)(void), uint32_t expected)
+static void takes_below(size_t limit, const char *label, uint32_t (*what)(void), uint32_t expected)
 {
     size_t empty = measure(nothing);
     size_t bytes = measure(what);
-    int good = outcome == expected && bytes > empty && bytes < LAMPREYCOIL_STACK_MAX &&
-               LAMPREYCOIL_STACK_MAX <= 64 * 1024;
+    int good = outcome == expected && bytes > empty && bytes < limit;
 
     printf("%s: stack of %s: %zu bytes", good ? "passed" : "FAILED", label, bytes);
     if (outcome != expected)
         printf(", and it told %u", (unsigned)outcome);
     printf("\n");
+}
+
+static void takes(const char *label, uint32_t (*what)(void), uint32_t expected)
+{
+    takes_below(LAMPREYCOIL_STACK_MAX <= 64 * 1024 ? LAMPREYCOIL_STACK_MAX : 0, label, what,
+                expected);
 }
 
 /* A step or a walk of one message, and what it tells. */
@@ -341,6 +359,64 @@ static void take_streams(void)
     takes("read_stream, a wrong start", read_stream, 100 + 2);
 }
 
+/* So many of these pieces of text, one behind another, at the end of the payload. */
+static void add(const char *piece, size_t times)
+{
+    for (; times > 0; times--) {
+        memcpy(json + json_length, piece, strlen(piece));
+        json_length += strlen(piece);
+    }
+}
+
+/* So many levels, each opened and closed so, inside an object; all kinds of values are innermost.
+ */
+static void make_json(const char *opened, const char *closed, size_t levels)
+{
+    json_length = 0;
+    add("{\"\":", 1);
+    add(opened, levels - 2);
+    add("{\"a\":-1.5e+10,\"\\u00e9\xC3\xA9\":\"\\n\\u00e9\xC3\xA9\xF0\x9F\x98\x80\"", 1);
+    add(",\"b\":true,\"b\":false,\"\":null,\"c\":0}", 1);
+    add(closed, levels - 2);
+    add("}", 1);
+    json[json_length++] = 0;
+}
+
+static void take_levels(const char *label, const char *opened, const char *closed)
+{
+    char text[100];
+
+    make_json(opened, closed, LAMPREYCOIL_JSON_DEPTH_MAX);
+    snprintf(text, sizeof text, "check_json, 32 levels, %s", label);
+    takes_below(JSON_STACK, text, check_json, 101);
+    make_json(opened, closed, LAMPREYCOIL_JSON_DEPTH_MAX + 1);
+    snprintf(text, sizeof text, "check_json, 33 levels, %s", label);
+    takes_below(JSON_STACK, text, check_json, 1026);
+}
+
+static void take_json(void)
+{
+    take_levels("objects", "{\"a\":", "}");
+    take_levels("each its object's second member", "{\"a\":0,\"b\":", "}");
+    take_levels("each its object's first member", "{\"a\":", ",\"b\":0}");
+    take_levels("arrays", "[", "]");
+    take_levels("each its array's second value", "[0,", "]");
+    json_length = 0;
+    add("{\"a\":", 1);
+    add("9", sizeof json - json_length - 2);
+    add("}", 1);
+    json[json_length++] = 0;
+    takes_below(JSON_STACK, "check_json, a long number", check_json, 101);
+    json_length = 0;
+    add("{\"", 1);
+    add("\xF0\x9F\x98\x80", 200000);
+    add("\":0}x", 1);
+    takes_below(JSON_STACK, "check_json, a long name and a wrong end", check_json, 102);
+    memset(json, ' ', sizeof json);
+    json_length = sizeof json;
+    takes_below(JSON_STACK, "check_json, white space alone", check_json, 102);
+}
+
 int main(void)
 {
     stack_t own;
@@ -371,6 +447,7 @@ int main(void)
     takes("read", read_frame, 0);
     takes("write", write_frame, 0);
     take_streams();
+    take_json();
     takes("check_tree", check_tree, 0);
     take_tables(services, identities, "full tables");
     take_tables(hostile_services, hostile_identities, "hostile tables");

@@ -1,6 +1,6 @@
 /*
- * Tests take_frames and write_log_request, the examples of README.md, whose code stands in
- * readme.c: a stream that comes in by pieces of each length gives the same frames. Prints a line
+ * Tests take_frames, write_log_request and json_text, the examples of README.md, whose code stands
+ * in readme.c: a stream that comes in by pieces of each length gives the same frames. Prints a line
  * for each test, "passed" or "FAILED".
  */
 #include "floor.h"
@@ -137,6 +137,40 @@ static void take_streams(void)
     in_pieces("a body that is too long ends it", whole, 3, LAMPREYCOIL_BODY_LONG);
 }
 
+/* ---- a payload, as it comes in a frame */
+
+static const char *text_of(const char *payload, size_t length)
+{
+    static uint8_t frame[ROOM];
+    struct lampreycoil_message m = {0}, seen;
+    size_t took = 0;
+
+    m.type = LAMPREYCOIL_TYPE_EVENT;
+    m.flags = LAMPREYCOIL_FLAG_TOPIC;
+    m.topic = (const uint8_t *)"x";
+    m.topic_length = 1;
+    if (payload != NULL) {
+        m.flags |= LAMPREYCOIL_FLAG_PAYLOAD;
+        m.payload = (const uint8_t *)payload;
+        m.payload_length = length;
+    }
+    if (lampreycoil_write_message(&m, frame, sizeof frame, &took) != LAMPREYCOIL_OK ||
+        lampreycoil_read_message(frame, took, &seen, &took) != LAMPREYCOIL_OK)
+        return "FAILED";
+    return json_text(&seen);
+}
+
+static void take_payloads(void)
+{
+    static const char json[] = "{\"a\":1}";
+    const char *text = text_of(json, sizeof json);
+
+    report(text != NULL && strcmp(text, json) == 0, "json_text of JSON");
+    report(text_of(json, sizeof json - 1) == NULL, "json_text of JSON without its zero byte");
+    report(text_of("{\"a\":01}", sizeof "{\"a\":01}") == NULL, "json_text of no JSON");
+    report(text_of("", 0) == NULL && text_of(NULL, 0) == NULL, "json_text of nothing");
+}
+
 int main(void)
 {
     /* The request for "log" with matchtag 1, whole. */
@@ -152,5 +186,6 @@ int main(void)
            "write_log_request");
     take_streams();
     take_many();
+    take_payloads();
     return 0;
 }

@@ -6,3 +6,4 @@ pub mod TreeCalls
 pub mod StepCalls
 pub mod WalkCalls
 pub mod StreamCalls
+pub mod JsonCalls

@@ -5,6 +5,7 @@ use routing::Broker;
 ghost use Rattle.octets.specs.Number.{Bytes};
 ghost use Rattle.calls.specs.Calls.{headerOf};
 ghost use Rattle.claims.specs.Frames.{RecordHoldsMessage, AcceptedIsWrittenBack, WrittenIsReadBack};
+ghost use Rattle.claims.specs.Json.{JsonIsTheGrammar};
 ghost use Rattle.claims.specs.Streams.{StreamIsTheInput};
 ghost use Rattle.claims.specs.Trees.{TreeIsChecked};
 ghost use Rattle.claims.specs.Ways.{EveryWay};
@@ -59,6 +60,11 @@ pub fn stream_is_the_input(bytes: &[u8])
 {
     are_bytes(bytes);
 }
+
+// The JSON check says yes of the payloads that the grammar allows, and tells the grammar's places.
+pub fn json_is_the_grammar(payload: &[u8])
+    ensures { λ _. ⌜ JsonIsTheGrammar (now (payload .entry)) ⌝ }
+{}
 
 // The tree check accepts the trees that the paper's sentence accepts, and writes their depths.
 pub fn tree_is_checked(tree: &[u8])

@@ -3,6 +3,7 @@ pub mod Routes
 pub mod Records
 pub mod Frames
 pub mod Streams
+pub mod Json
 pub mod Trees
 pub mod Ways
 pub mod Steps

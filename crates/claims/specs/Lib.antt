@@ -4,6 +4,7 @@
 pub mod Records
 pub mod Frames
 pub mod Streams
+pub mod Json
 pub mod Trees
 pub mod Ways
 pub mod Steps

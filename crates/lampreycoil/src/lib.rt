@@ -5,6 +5,7 @@ ghost use Rattle.message.specs.Writing.{givenMessage};
 ghost use Rattle.services.specs.Services;
 ghost use Rattle.identities.specs.Identities;
 ghost use Rattle.routing.specs.Routed.{tablesOf};
+ghost use Rattle.calls.specs.JsonCalls.{ChecksJson};
 ghost use Rattle.calls.specs.Calls.{returned, Reads, headerOf, Writes, ReadsStream, ChecksTree, hostBroker, Steps, Plays};
 
 // Reads the frame at the front of bytes, and lists where its parts lie.
@@ -108,4 +109,12 @@ pub extern "C" fn lampreycoil_walk(
     ensures { λ r. ⌜ Plays (tablesOf (now (tree .entry)) (now (services .entry)) (now (identities .entry))) (hostBroker rank 1) (now (buffer .entry)) (now (row .entry)) r (now (buffer .exit)) (now (row .exit)) ⌝ }
 {
     route_calls::walks::walk(tree, services, identities, rank, buffer, row)
+}
+
+// Says whether a payload is JSON, and lists the answer and the byte that tells against it.
+#[no_mangle]
+pub extern "C" fn lampreycoil_check_json(payload: &[u8], row: &mut [u8]) -> u32
+    ensures { λ r. ⌜ ChecksJson (now (payload .entry)) (now (row .entry)) r (now (row .exit)) ⌝ }
+{
+    json_calls::check_json(payload, row)
 }

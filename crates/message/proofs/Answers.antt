@@ -6,7 +6,7 @@ use Prim.Native.Nat.{_<_, _≤_}
 use native.Mathlib.Omega.{arith}
 use Rattle.octets.proofs.Truth.{true-false}
 use Rattle.message.specs.declared.Refusal.{Refusal}
-use Rattle.message.specs.declared.Refusal.the-variants.{ShortInput, WrongStart, LongBody, WrongSize, ManyParts, WrongHeader, WrongParts, WrongRoute, WrongTopic, WrongField, ShortOutput, NoForwarding, WrongTree, WrongServices, WrongIdentities, WrongRank, NotRouted, NoNeighbour}
+use Rattle.message.specs.declared.Refusal.the-variants.{ShortInput, WrongStart, LongBody, WrongSize, ManyParts, WrongHeader, WrongParts, WrongRoute, WrongTopic, WrongField, ShortOutput, NoForwarding, WrongTree, WrongServices, WrongIdentities, WrongRank, NotRouted, NoNeighbour, TooDeep}
 use Rattle.message.specs.Refusals.{numberOf}
 use Rattle.message.specs.Answer.{Answer, refused, answered, refuseIf, andThen}
 
@@ -31,6 +31,7 @@ number-range WrongIdentities = (omega arith, omega arith)
 number-range WrongRank = (omega arith, omega arith)
 number-range NotRouted = (omega arith, omega arith)
 number-range NoNeighbour = (omega arith, omega arith)
+number-range TooDeep = (omega arith, omega arith)
 
 -- 0 is no refusal's number
 pub some-number : (r : Refusal) → numberOf r ≡ 0 → ⊥

@@ -1,7 +1,7 @@
 -- The paper's numbers: "Numbers for a no". Assumes nothing.
 use Prim.Native.Nat.{ℕ}
 use Rattle.message.specs.declared.Refusal.{Refusal}
-use Rattle.message.specs.declared.Refusal.the-variants.{ShortInput, WrongStart, LongBody, WrongSize, ManyParts, WrongHeader, WrongParts, WrongRoute, WrongTopic, WrongField, ShortOutput, NoForwarding, WrongTree, WrongServices, WrongIdentities, WrongRank, NotRouted, NoNeighbour}
+use Rattle.message.specs.declared.Refusal.the-variants.{ShortInput, WrongStart, LongBody, WrongSize, ManyParts, WrongHeader, WrongParts, WrongRoute, WrongTopic, WrongField, ShortOutput, NoForwarding, WrongTree, WrongServices, WrongIdentities, WrongRank, NotRouted, NoNeighbour, TooDeep}
 
 abbrev pub numberOf : Refusal → ℕ
 -- "fewer than 8 bytes, or fewer than 8 plus the body length"
@@ -38,3 +38,5 @@ numberOf WrongRank = 17
 numberOf NotRouted = 18
 -- "a response's top route is a broker that is no neighbour, itself included"
 numberOf NoNeighbour = 19
+-- "at most 32 deep with the outer object as 1; deeper is 26" (paper 02, ticket 2)
+numberOf TooDeep = 26

@@ -40,6 +40,7 @@ pub enum Refusal {
     WrongRank,
     NotRouted,
     NoNeighbour,
+    TooDeep,
 }
 
 // The header's fields. `kind` is the paper's type: 1 request, 2 response, 4 event, 8 control.
@@ -75,5 +76,6 @@ pub fn number(r: Refusal) -> u32
         Refusal::WrongRank => 17,
         Refusal::NotRouted => 18,
         Refusal::NoNeighbour => 19,
+        Refusal::TooDeep => 26,
     }
 }

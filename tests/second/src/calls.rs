@@ -5,6 +5,7 @@ use std::slice::{from_raw_parts, from_raw_parts_mut};
 
 use crate::floor::{Floor, Tables};
 use crate::frame::{Header, Refusal};
+use crate::json::{check_json, Verdict};
 use crate::read::Reading;
 use crate::step::{step, Answer, Stepped};
 use crate::stream::read_stream;
@@ -18,6 +19,7 @@ pub const WRITE_RECORD_LEN: usize = 4;
 pub const TREE_RECORD_LEN: usize = 4;
 pub const STEP_RECORD_LEN: usize = 16;
 pub const WALK_RECORD_LEN: usize = 24;
+pub const JSON_RECORD_LEN: usize = 8;
 
 #[inline]
 pub fn read_call(bytes: &[u8], record: &mut [u8]) -> u32 {
@@ -100,7 +102,7 @@ pub fn step_call(
     }
 }
 
-/// The one call whose refusal is told in its record too.
+/// Its refusals are told in its record too, with the broker that had them.
 pub fn walk_call(tables: Tables, entry: u32, buffer: &mut [u8], record: &mut [u8]) -> u32 {
     let Some(record) = record.get_mut(..WALK_RECORD_LEN) else {
         return Refusal::OutputTooShort as u32;
@@ -124,6 +126,21 @@ pub fn walk_call(tables: Tables, entry: u32, buffer: &mut [u8], record: &mut [u8
             refusal as u32
         }
     }
+}
+
+/// A refusal only where nobody can say: that it is no JSON is an answer.
+pub fn check_json_call(payload: &[u8], record: &mut [u8]) -> u32 {
+    let Some(record) = record.get_mut(..JSON_RECORD_LEN) else {
+        return Refusal::OutputTooShort as u32;
+    };
+    let (refusal, answer, byte) = match check_json(payload) {
+        Verdict::Json => (0, 1, 0),
+        Verdict::NotJson(byte) => (0, 2, byte),
+        Verdict::TooDeep(byte) => (Refusal::TooDeep as u32, 0, byte),
+    };
+    let byte = u32::try_from(byte).unwrap_or(u32::MAX);
+    put_numbers(record, &[answer, byte]);
+    refusal
 }
 
 /// The step's record.
@@ -346,4 +363,19 @@ pub unsafe extern "C" fn second_walk(
     };
     let buffer = from_raw_parts_mut(buffer, buffer_len);
     walk_call(tables, rank, buffer, from_raw_parts_mut(record, record_len))
+}
+
+/// # Safety
+/// Each pointer with its length is a slice that lives through the call and overlaps no other.
+#[inline(never)]
+pub unsafe extern "C" fn second_check_json(
+    payload: *const u8,
+    payload_len: usize,
+    record: *mut u8,
+    record_len: usize,
+) -> u32 {
+    check_json_call(
+        from_raw_parts(payload, payload_len),
+        from_raw_parts_mut(record, record_len),
+    )
 }

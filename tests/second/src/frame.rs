@@ -57,6 +57,7 @@ pub enum Refusal {
     WrongRank = 17,
     NotRouted = 18,
     NoNeighbour = 19,
+    TooDeep = 26,
 }
 
 /// The header's fields. What `first` and `second` mean depends on the type.

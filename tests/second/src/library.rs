@@ -94,3 +94,12 @@ extern "C" {
         record_len: usize,
     ) -> u32;
 }
+
+extern "C" {
+    pub fn lampreycoil_check_json(
+        payload: *const u8,
+        payload_len: usize,
+        record: *mut u8,
+        record_len: usize,
+    ) -> u32;
+}

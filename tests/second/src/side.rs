@@ -39,6 +39,7 @@ pub struct Side {
     check_identities: TableCall,
     step: StepCall,
     walk: WalkCall,
+    check_json: ReadCall,
 }
 
 pub const LIBRARY: Side = Side {
@@ -51,6 +52,7 @@ pub const LIBRARY: Side = Side {
     check_identities: library::lampreycoil_check_identities,
     step: library::lampreycoil_step,
     walk: library::lampreycoil_walk,
+    check_json: library::lampreycoil_check_json,
 };
 
 pub const SECOND: Side = Side {
@@ -63,6 +65,7 @@ pub const SECOND: Side = Side {
     check_identities: calls::second_check_identities,
     step: calls::second_step,
     walk: calls::second_walk,
+    check_json: calls::second_check_json,
 };
 
 impl Side {
@@ -190,6 +193,17 @@ impl Side {
                 rank,
                 buffer.as_mut_ptr(),
                 buffer.len(),
+                record.as_mut_ptr(),
+                record.len(),
+            )
+        }
+    }
+    pub fn check_json(&self, payload: &[u8], record: &mut [u8]) -> u32 {
+        // Safe: both slices live through the call, and record is lent to it alone.
+        unsafe {
+            (self.check_json)(
+                payload.as_ptr(),
+                payload.len(),
                 record.as_mut_ptr(),
                 record.len(),
             )

@@ -3,13 +3,17 @@
 //!
 //!     bench [--services FILE] [--identities FILE] [PART...]
 //!
-//! The parts are frames, streams, tables, steps and walks; without any, all are measured. The
+//! The parts are frames, streams, tables, steps, walks and json; without any, all are measured. The
 //! files hold tables of 1,024 records that were made to be slow, as for instance all in one chain
 //! of a hash.
 
 mod buffers;
 mod floors;
 mod frames;
+mod json;
+mod json_inputs;
+#[cfg(feature = "others")]
+mod others;
 mod steps;
 mod streams;
 mod tables;
@@ -31,6 +35,12 @@ fn main() {
     println!("which both took turns, and that of the least times, which are the ones shown.");
     println!();
     print_head();
+    measure(&wanted, given.as_ref());
+    measure_own(&wanted, given.as_ref());
+}
+
+/// The library against the others.
+fn measure(wanted: &impl Fn(&str) -> bool, given: Option<&OwnedTables>) {
     if wanted("frames") {
         frames::measure();
     }
@@ -38,25 +48,38 @@ fn main() {
         streams::measure();
     }
     if wanted("steps") {
-        steps::measure(given.as_ref());
+        steps::measure(given);
     }
     if wanted("walks") {
         walks::measure();
     }
     if wanted("tables") {
-        tables::measure(given.as_ref());
+        tables::measure(given);
     }
-    if ["streams", "tables", "walks"].into_iter().any(wanted) {
+    if wanted("json") {
+        json::measure();
+    }
+}
+
+/// The library against itself.
+fn measure_own(wanted: &impl Fn(&str) -> bool, given: Option<&OwnedTables>) {
+    if ["streams", "tables", "walks", "json"]
+        .into_iter()
+        .any(wanted)
+    {
         print_own_head();
     }
     if wanted("streams") {
         streams::measure_own();
     }
     if wanted("tables") {
-        tables::measure_own(given.as_ref());
+        tables::measure_own(given);
     }
     if wanted("walks") {
         walks::measure_own();
+    }
+    if wanted("json") {
+        json::measure_own();
     }
 }
 

@@ -26,6 +26,9 @@ pub fn run(tester: &mut Tester) {
     if let Some(mut memory) = given(tester, Repeated::to_be_written(ABOVE, pattern())) {
         crate::long_steps::run(tester, &mut memory);
     }
+    if let Some(mut memory) = given(tester, Repeated::new(ABOVE, vec![b'a'; PATTERN_LEN])) {
+        crate::long_json::far_bytes(tester, &mut memory);
+    }
     tester.end_group("");
 }
 
@@ -55,6 +58,7 @@ fn run_in(tester: &mut Tester, memory: &mut Repeated) {
     unchanged(tester, memory, "write");
     long_output(tester, memory);
     crate::long_streams::run(tester, memory);
+    crate::long_json::run(tester, memory);
     tables_above(tester, memory.bytes());
     unchanged(tester, memory, "all");
 }

@@ -10,6 +10,16 @@ mod arena;
 mod crash;
 mod draft;
 mod faults;
+mod json_bytes;
+mod json_calls;
+mod json_depth;
+mod json_documents;
+mod json_places;
+mod json_rules;
+mod json_short;
+mod json_sizes;
+mod json_text;
+mod long_json;
 mod long_lengths;
 mod long_steps;
 mod long_streams;
@@ -20,6 +30,7 @@ mod paper_floor;
 mod reader_bounds;
 mod reader_order;
 mod seeded;
+mod seeded_json;
 mod seeded_steps;
 mod seeded_strays;
 mod seeded_streams;
@@ -72,6 +83,7 @@ fn groups() -> Vec<Group> {
         table_groups(),
         step_groups(),
         walk_groups(),
+        json_groups(),
     ];
     all.into_iter().flatten().collect()
 }
@@ -126,6 +138,20 @@ fn walk_groups() -> Vec<Group> {
         group("walk-limits", 0, |tester, _| walk_limits::run(tester)),
         group("walks", 5, seeded_walks::walks),
         group("stray-walks", 1, seeded_strays::strays),
+    ]
+}
+
+fn json_groups() -> Vec<Group> {
+    vec![
+        group("json-rules", 0, |tester, _| json_rules::run(tester)),
+        group("json-bytes", 0, |tester, _| json_bytes::run(tester)),
+        group("json-text", 0, |tester, _| json_text::run(tester)),
+        group("json-depth", 0, |tester, _| json_depth::run(tester)),
+        group("json-numbers", 0, |tester, _| json_short::numbers(tester)),
+        group("json-short", 0, |tester, _| json_short::run(tester)),
+        group("json-places", 0, |tester, _| json_places::run(tester)),
+        group("json-sizes", 0, |tester, _| json_sizes::run(tester)),
+        group("json", 3, seeded_json::documents),
     ]
 }
 

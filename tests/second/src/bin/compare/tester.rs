@@ -91,6 +91,8 @@ struct Tally {
     failed: u64,
     /// Library's answers by their number.
     answers: [u64; 32],
+    /// Those among them that say that a payload is JSON.
+    yes: u64,
 }
 
 pub struct Tester {
@@ -192,6 +194,11 @@ impl Tester {
         self.case_failed
     }
 
+    /// Whether the next failure is shown whole.
+    pub fn shows(&self) -> bool {
+        self.shown < SHOWN
+    }
+
     /// A property beside the agreement of the two.
     pub fn require(&mut self, holds: bool, what: impl FnOnce() -> String) {
         if !holds {
@@ -288,6 +295,14 @@ impl Tester {
     /// Counts an answer of the library that was not got by `judge`.
     pub fn count(&mut self, refusal: u32) {
         self.tally.answers[refusal.min(31) as usize] += 1;
+    }
+
+    pub fn count_yes(&mut self) {
+        self.tally.yes += 1;
+    }
+
+    pub fn yes(&self) -> u64 {
+        self.tally.yes
     }
 
     /// The first number of a record, 0 if it is too short to hold one.

@@ -1,0 +1,2 @@
+pub mod Nesting
+pub mod Outer

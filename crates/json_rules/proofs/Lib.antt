@@ -1,0 +1,11 @@
+pub mod Reach
+pub mod Parts
+pub mod After
+pub mod Spaces
+pub mod Tokens
+pub mod Values
+pub mod Back
+pub mod Finish
+pub mod Verdicts
+pub mod Levels
+pub mod Places

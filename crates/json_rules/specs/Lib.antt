@@ -1,0 +1,1 @@
+-- Nothing: the definitions are json_grammar's and json_scan's.

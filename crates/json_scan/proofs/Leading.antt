@@ -1,0 +1,109 @@
+-- Bytes at the front that pass a test: where they end, and what comes of them if they leave the reading where it stands. Assumes nothing.
+use mathlib.Core.Path.{_≡_, refl, sym, ap, subst, _∙_}
+use mathlib.Core.Bool.{Bool, true, false, cond}
+use mathlib.Core.List.{List, [], _∷_}
+use Prim.Native.Nat.{ℕ, zero, suc, _+_, _<_, _≤_}
+use mathlib.Core.Logic.{⊎-elim}
+use native.Mathlib.Omega.{arith}
+use native.Mathlib.Nat.{le-of-suc-le-suc}
+use borrow.Author.Tests.{ltb-true, ltb-false}
+use lib.Dec.{ltb}
+use Rattle.octets.proofs.Truth.{outcome, clash}
+use lib.ListN.{length, drop, getD, drop-of-length-le, length-drop}
+use lib.Seq.{drop-drop, getD-drop}
+use Rattle.json_scan.specs.Scan.{Kind, State, to, stepOf, goOn, scan}
+use Rattle.json_scan.specs.Reads.{leading}
+use Rattle.json_scan.proofs.Scanning.{drop-at, go-on}
+
+-- where the bytes that pass end, if they begin at a place
+abbrev pub endOf : (ℕ → Bool) → List ℕ → ℕ → ℕ
+endOf test bytes at = at + leading test (drop at bytes)
+
+-- the byte there passes
+pub end-more : (test : ℕ → Bool) (bytes : List ℕ) (at : ℕ) → at < length bytes → test (getD bytes at 0) ≡ true → endOf test bytes at ≡ endOf test bytes (at + 1)
+unfolding leading
+end-more test bytes at l e =
+    let step : leading test (drop at bytes) ≡ suc (leading test (drop (at + 1) bytes)) =
+    ap (leading test) (drop-at bytes at l) ∙ ap (λ (t : Bool). cond t (suc (leading test (drop (at + 1) bytes))) 0) e in
+    omega (arith, step)
+
+-- it does not, or there is none
+pub end-here : (test : ℕ → Bool) (bytes : List ℕ) (at : ℕ) → at < length bytes → test (getD bytes at 0) ≡ false → endOf test bytes at ≡ at
+unfolding leading
+end-here test bytes at l e =
+    let stop : leading test (drop at bytes) ≡ 0 =
+    ap (leading test) (drop-at bytes at l) ∙ ap (λ (t : Bool). cond t (suc (leading test (drop (at + 1) bytes))) 0) e in
+    omega (arith, stop)
+
+pub end-over : (test : ℕ → Bool) (bytes : List ℕ) (at : ℕ) → length bytes ≤ at → endOf test bytes at ≡ at
+unfolding leading
+end-over test bytes at l =
+    let stop : leading test (drop at bytes) ≡ 0 = ap (leading test) (drop-of-length-le bytes l) in
+    omega (arith, stop)
+
+-- ---- behind them
+
+stops : (test : ℕ → Bool) (xs : List ℕ) → leading test xs < length xs → test (getD xs (leading test xs) 0) ≡ false
+unfolding leading
+stops test [] l = absurd (omega arith)
+stops test (x ∷ xs) l = go (λ m. stops test xs m) (test x) refl l
+  where
+    go :
+        (leading test xs < length xs → test (getD xs (leading test xs) 0) ≡ false) → (t : Bool) → test x ≡ t →
+        cond t (suc (leading test xs)) 0 < length (x ∷ xs) → test (getD (x ∷ xs) (cond t (suc (leading test xs)) 0) 0) ≡ false
+    go again true e l = again (le-of-suc-le-suc l)
+    go again false e l = e
+
+pub end-stops : (test : ℕ → Bool) (bytes : List ℕ) (at : ℕ) → endOf test bytes at < length bytes → test (getD bytes (endOf test bytes at) 0) ≡ false
+end-stops test bytes at l =
+    ap test (sym (getD-drop at bytes (leading test (drop at bytes)) 0))
+    ∙ stops test (drop at bytes) (omega (arith, length-drop at bytes))
+
+-- if such a byte leaves the reading where it stands, then all of them do
+passes :
+    (most : ℕ) (state : State) (around : List Kind) (test : ℕ → Bool) → ((c : ℕ) → test c ≡ true → stepOf state around c ≡ to state around) → length around ≤ most →
+    (at : ℕ) (xs : List ℕ) → scan most state around at xs ≡ scan most state around (at + leading test xs) (drop (leading test xs) xs)
+unfolding scan leading
+passes most state around test stays room at [] = ap (λ (i : ℕ). scan most state around i []) (omega arith)
+passes most state around test stays room at (x ∷ xs) = go (passes most state around test stays room (at + 1) xs) (test x) refl
+  where
+    go :
+        scan most state around (at + 1) xs ≡ scan most state around (at + 1 + leading test xs) (drop (leading test xs) xs) → (t : Bool) → test x ≡ t →
+        scan most state around at (x ∷ xs) ≡ scan most state around (at + cond t (suc (leading test xs)) 0) (drop (cond t (suc (leading test xs)) 0) (x ∷ xs))
+    go again true e =
+        ap (goOn most at (λ state₂ open₂. scan most state₂ open₂ (at + 1) xs)) (stays x e)
+        ∙ go-on most at (λ state₂ open₂. scan most state₂ open₂ (at + 1) xs) state around room
+        ∙ again
+        ∙ ap (λ (i : ℕ). scan most state around i (drop (leading test xs) xs)) (omega arith)
+    go again false e = ap (λ (i : ℕ). scan most state around i (x ∷ xs)) (omega arith)
+
+pub scan-passes :
+    (most : ℕ) (state : State) (around : List Kind) (test : ℕ → Bool) (bytes : List ℕ) (at : ℕ) → ((c : ℕ) → test c ≡ true → stepOf state around c ≡ to state around) →
+    length around ≤ most → scan most state around at (drop at bytes) ≡ scan most state around (endOf test bytes at) (drop (endOf test bytes at) bytes)
+scan-passes most state around test bytes at stays room =
+    passes most state around test stays room at (drop at bytes)
+    ∙ ap (scan most state around (endOf test bytes at)) (drop-drop (leading test (drop at bytes)) at bytes)
+
+-- ---- so many of them, and then the others
+
+pub leading-more : (test : ℕ → Bool) (xs : List ℕ) (n : ℕ) → n ≤ leading test xs → n < length xs → test (getD xs n 0) ≡ true → n + 1 ≤ leading test xs
+leading-more test xs n l m e = ⊎-elim (λ t. omega (arith, ltb-true n (leading test xs) t)) (λ t. absurd (here (omega (arith, l, ltb-false n (leading test xs) t)))) (outcome (ltb n (leading test xs)))
+  where
+    here : leading test xs ≡ n → ⊥
+    here same = clash (test (getD xs n 0)) e (subst (λ (k : ℕ). test (getD xs k 0) ≡ false) same (stops test xs (omega (arith, same, m))))
+
+pub leading-past : (test : ℕ → Bool) (xs : List ℕ) (n : ℕ) → n ≤ leading test xs → leading test xs ≡ n + leading test (drop n xs)
+unfolding leading
+leading-past test xs zero l = omega arith
+leading-past test [] (suc n) l = absurd (omega (arith, l))
+leading-past test (x ∷ xs) (suc n) l = go (λ m. leading-past test xs n m) (test x) l
+  where
+    go : (n ≤ leading test xs → leading test xs ≡ n + leading test (drop n xs)) → (t : Bool) → suc n ≤ cond t (suc (leading test xs)) 0 → cond t (suc (leading test xs)) 0 ≡ suc n + leading test (drop n xs)
+    go again true m = let e = again (le-of-suc-le-suc m) in omega (arith, e)
+    go again false m = absurd (omega (arith, m))
+
+pub end-past : (test : ℕ → Bool) (bytes : List ℕ) (at n : ℕ) → n ≤ leading test (drop at bytes) → endOf test bytes at ≡ endOf test bytes (at + n)
+end-past test bytes at n l =
+    let e = leading-past test (drop at bytes) n l in
+    let d : leading test (drop n (drop at bytes)) ≡ leading test (drop (at + n) bytes) = ap (leading test) (drop-drop n at bytes) in
+    omega (arith, e, d)

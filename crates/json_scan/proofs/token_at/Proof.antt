@@ -1,0 +1,27 @@
+-- `json_scan::token_at` meets its contract.
+-- Assumes nothing.
+use borrow.Author.Needs.{needs}
+use native.Mathlib.Omega.{arith}
+use Rattle.json_scan.proofs.White.{white-above}
+use Rattle.json_scan.proofs.token_at.Statement.{statement}
+use Rattle.json_scan.proofs.token_at.Tie as tie
+
+byte-at-requires : tie.Need-byte-at-requires
+byte-at-requires c κs = search needs
+
+returns : tie.Need-returns
+returns c = let b = c .before in
+    record { end = white-above (b .before .before .args .bytes .now) (b .before .before .args .at) (omega (arith, b .byte-at .ensures)); there = b .byte-at .ensures }
+
+white-end-requires : tie.Need-white-end-requires
+white-end-requires c κs = search needs
+
+byte-at-requires-2 : tie.Need-byte-at-requires-2
+byte-at-requires-2 c κs = search needs
+
+returns-2 : tie.Need-returns-2
+returns-2 c = search needs
+
+pub token-at-spec : {M : Type 1} → statement M
+token-at-spec =
+    tie.close (tie.spec byte-at-requires returns white-end-requires byte-at-requires-2 returns-2)

@@ -1,0 +1,1 @@
+-- Nothing: what this crate's promises cite is json_scan's.
