@@ -15,11 +15,30 @@ use Rattle.json_grammar.specs.Places.{Begins, NoAt, DeepAt}
 use Rattle.json_scan.specs.declared.Verdict.{Verdict}
 use Rattle.json_scan.specs.declared.Verdict.the-variants.{Json, NotJson, TooDeep}
 use Rattle.json_scan.specs.Scan.{Kind, outer, State, between, ended, nowhere, to, stepOf, isEnded, deepest, scan, judged}
+use Rattle.json_rules.specs.Allowed.{Allowed}
 use Rattle.json_rules.proofs.Reach.{goes, reach, reach-on, reach-append, nowhere-else, same-state}
 use Rattle.json_rules.proofs.Back.{reached-payload}
 use Rattle.json_rules.proofs.Finish.{finish}
 use Rattle.json_rules.proofs.Verdicts.{Says, Stops, Deepens, scan-says, reached-scan}
 use Rattle.json_rules.proofs.Levels.{one-level, reach-wider}
+
+-- ---- a yes
+
+abbrev IsYes : Verdict → Type 0
+IsYes Json = Unit {0}
+IsYes (NotJson place) = ⊥
+IsYes (TooDeep place) = ⊥
+
+yes-is : (v : Verdict) → v ≡ Json → IsYes v
+yes-is v e = subst IsYes (sym e) tt
+
+by-scan : (most : ℕ) (payload : List ℕ) (v : Verdict) → Says most (between outer) [] 0 payload v → v ≡ Json → payloadTo most payload
+by-scan most payload Json s e = reached-payload most payload (s .left) (s .ends)
+by-scan most payload (NotJson place) s e = absurd (yes-is (NotJson place) e)
+by-scan most payload (TooDeep place) s e = absurd (yes-is (TooDeep place) e)
+
+pub allowed : Allowed
+allowed most payload = by-scan most payload (scan most (between outer) [] 0 payload) (scan-says most payload (between outer) [] 0 (omega arith))
 
 -- ---- beginnings
 
@@ -118,7 +137,7 @@ module _ (payload-reached : (depth : ℕ) (payload : List ℕ) → payloadTo dep
   Told (TooDeep place) = DeepAt payload place
 
   told : (v : Verdict) → Says mostDeep (between outer) [] 0 payload v → Told v
-  told Json s = reached-payload mostDeep payload (s .left) (s .ends)
+  told Json s = by-scan mostDeep payload Json s refl
   told (NotJson place) s = not-place place (subst (Stops mostDeep (between outer) [] payload) (omega (arith, s .1 .0)) (s .1 .1))
   told (TooDeep place) s = deep-place place (subst (Deepens mostDeep (between outer) [] payload) (omega (arith, s .1 .0)) (s .1 .1))
 

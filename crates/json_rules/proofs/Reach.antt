@@ -64,6 +64,3 @@ nowhere-else e = let z : _≡_ {A = ℕ} 0 1 = cc in omega arith
 
 pub same-state : {state state₁ : State} {around around₁ : List Kind} → to state around ≡ to state₁ around₁ → state ≡ state₁
 same-state e = cc
-
-pub same-around : {state state₁ : State} {around around₁ : List Kind} → to state around ≡ to state₁ around₁ → around ≡ around₁
-same-around e = cc

@@ -1,1 +1,2 @@
--- Nothing: the definitions are json_grammar's and json_scan's.
+-- What the laws of this crate come to. Whoever believes the claim on JSON need not read it.
+pub mod Allowed

@@ -1,14 +1,10 @@
 -- Bytes at the front that pass a test: where they end, and what comes of them if they leave the reading where it stands. Assumes nothing.
-use mathlib.Core.Path.{_≡_, refl, sym, ap, subst, _∙_}
+use mathlib.Core.Path.{_≡_, refl, sym, ap, _∙_}
 use mathlib.Core.Bool.{Bool, true, false, cond}
 use mathlib.Core.List.{List, [], _∷_}
 use Prim.Native.Nat.{ℕ, zero, suc, _+_, _<_, _≤_}
-use mathlib.Core.Logic.{⊎-elim}
 use native.Mathlib.Omega.{arith}
 use native.Mathlib.Nat.{le-of-suc-le-suc}
-use borrow.Author.Tests.{ltb-true, ltb-false}
-use lib.Dec.{ltb}
-use Rattle.octets.proofs.Truth.{outcome, clash}
 use lib.ListN.{length, drop, getD, drop-of-length-le, length-drop}
 use lib.Seq.{drop-drop, getD-drop}
 use Rattle.json_scan.specs.Scan.{Kind, State, to, stepOf, goOn, scan}
@@ -85,12 +81,6 @@ scan-passes most state around test bytes at stays room =
     ∙ ap (scan most state around (endOf test bytes at)) (drop-drop (leading test (drop at bytes)) at bytes)
 
 -- ---- so many of them, and then the others
-
-pub leading-more : (test : ℕ → Bool) (xs : List ℕ) (n : ℕ) → n ≤ leading test xs → n < length xs → test (getD xs n 0) ≡ true → n + 1 ≤ leading test xs
-leading-more test xs n l m e = ⊎-elim (λ t. omega (arith, ltb-true n (leading test xs) t)) (λ t. absurd (here (omega (arith, l, ltb-false n (leading test xs) t)))) (outcome (ltb n (leading test xs)))
-  where
-    here : leading test xs ≡ n → ⊥
-    here same = clash (test (getD xs n 0)) e (subst (λ (k : ℕ). test (getD xs k 0) ≡ false) same (stops test xs (omega (arith, same, m))))
 
 pub leading-past : (test : ℕ → Bool) (xs : List ℕ) (n : ℕ) → n ≤ leading test xs → leading test xs ≡ n + leading test (drop n xs)
 unfolding leading

@@ -70,10 +70,7 @@ pub reads-then :
     {bytes : List ℕ} {room at j : ℕ} {state middle next : State} {r : Came} → Reads bytes room at state middle (Behind j) → Reads bytes room j middle next r → Reads bytes room at state next r
 reads-then one two = record { same = λ around. one .same around ∙ two .same around; onward = omega (arith, one .onward, two .onward) }
 
--- a reader that came behind what it read
-pub reads-behind : {bytes : List ℕ} {room at j : ℕ} {state next : State} {r : Came} → r ≡ Behind j → Reads bytes room at state next r → Reads bytes room at state next (Behind j)
-reads-behind {bytes} {room} {at} {j} {state} {next} e = subst (Reads bytes room at state next) e
-
+-- a reader that came behind what it read took something
 pub takes-from : {at : ℕ} (i : ℕ) (r : Came) → at < i → i ≤ placeOf r → Takes at r
 takes-from i (Behind j) l m = omega arith
 takes-from i (Stopped j) l m = tt

@@ -61,7 +61,7 @@ resumed bytes next (Behind i) = next i (drop i bytes)
 resumed bytes next (Stopped i) = NotJson i
 resumed bytes next (Deeper i) = TooDeep i
 
--- in bytes, from a place on where it stood in one state: behind what was read it stands in the other. What is around around it stays, and so many levels
+-- in bytes, from a place on where it stood in one state: behind what was read it stands in the other. What is open around it stays, and so many levels
 -- more may be opened.
 pub record Reads (bytes : List ℕ) (room at : ℕ) (state next : State) (r : Came) : Type 0 where
   pub same : (around : List Kind) → scan (length around + room) state around at (drop at bytes) ≡ resumed bytes (scan (length around + room) next around) r

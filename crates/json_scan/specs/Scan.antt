@@ -1,4 +1,4 @@
--- What a payload comes to, read one byte after another: where the reading stands, and what is around around it. The definition of the check's promise; that
+-- What a payload comes to, read one byte after another: where the reading stands, and what is open around it. The definition of the check's promise; that
 -- its yes is RFC 7159's and its places are the grammar's is claimed in claims/specs/Json.antt. Assumes nothing.
 use mathlib.Core.Bool.{Bool, true, false, cond, _&&_, _||_}
 use mathlib.Core.List.{List, [], _∷_}
@@ -67,7 +67,7 @@ tailsOf c =
 
 -- ---- where a reading stands
 
--- what is around
+-- what is open
 pub data Kind : Type 0 where
   inObject : Kind
   inArray : Kind

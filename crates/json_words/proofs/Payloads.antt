@@ -7,6 +7,8 @@ use Rattle.json_grammar.specs.Language.{byte, _then_}
 use Rattle.json_grammar.specs.Json.{ws, valueTo, object, payloadTo}
 use Rattle.json_scan.specs.Scan.{outer, between, ended, to}
 use Rattle.json_rules.proofs.Reach.{reach}
+use Rattle.json_rules.proofs.Verdicts.{reached-scan}
+use Rattle.json_words.specs.Taken.{Taken}
 use Rattle.json_words.proofs.Goes.{Any, Goes, goes-byte, goes-then}
 use Rattle.json_words.proofs.White.{goes-white}
 use Rattle.json_words.proofs.Begins.{value-due, outer-begins, zero-ends}
@@ -26,3 +28,6 @@ unfolding payloadTo reach
 payload-reached zero payload w = absurd (w .second .first)
 payload-reached (suc depth) payload w =
     ap (reach (suc depth) (between outer) []) (sym (append-nil payload)) ∙ goes-payload depth .go payload [] w (record {})
+
+pub taken : Taken
+taken depth payload w = reached-scan depth payload (between outer) [] [] 0 (payload-reached depth payload w)
