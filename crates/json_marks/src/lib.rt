@@ -5,7 +5,7 @@ use json_scan::token_at;
 use json_text::text_end;
 ghost use Prim.Native.Nat.{_+_};
 ghost use Rattle.json_scan.specs.Scan.{between, name, value};
-ghost use Rattle.json_scan.specs.Reads.{Takes, tokenBy, ReadsToken};
+ghost use Rattle.json_scan.specs.Reads.{Takes, tokenBy, Keeps, ReadsToken};
 ghost use Rattle.json_marks.specs.Marks.{Marks};
 
 // Behind a value within an object or an array: behind the comma, behind the closing byte, or at a byte that is neither.
@@ -19,6 +19,7 @@ pub enum Next {
 pub fn name_end(bytes: &[u8], at: usize, place: &mut usize) -> usize
     ensures read { λ r. ⌜ ReadsToken (now (bytes .entry)) at (between name) (between value) (tokenBy r (now (place .exit))) ⌝ }
     ensures takes { λ r. ⌜ Takes (at + 1) (tokenBy r (now (place .exit))) ⌝ }
+    ensures keeps { λ r. ⌜ Keeps r (now (place .entry)) (now (place .exit)) ⌝ }
 {
     let first = token_at(bytes, at);
     let from = first.at;

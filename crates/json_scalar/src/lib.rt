@@ -9,7 +9,7 @@ ghost use Prim.Native.Nat.{_+_, _<_};
 ghost use lib.Dec.{eqb};
 ghost use lib.ListN.{getD};
 ghost use Rattle.json_scan.specs.Scan.{isDigit};
-ghost use Rattle.json_scan.specs.Reads.{Takes, came, tokenBy, ReadsRest};
+ghost use Rattle.json_scan.specs.Reads.{Takes, came, tokenBy, Keeps, ReadsRest};
 ghost use Rattle.json_scalar.specs.Scalars.{spelling, ReadsScalar};
 
 // These bytes, one after another.
@@ -74,7 +74,8 @@ fn scalar_read(bytes: &[u8], at: usize) -> Reached
 
 // The same, told as a number.
 pub fn scalar_end(bytes: &[u8], at: usize, place: &mut usize) -> usize
-    ensures { λ r. ⌜ ReadsScalar (now (bytes .entry)) at (tokenBy r (now (place .exit))) ⌝ }
+    ensures read { λ r. ⌜ ReadsScalar (now (bytes .entry)) at (tokenBy r (now (place .exit))) ⌝ }
+    ensures keeps { λ r. ⌜ Keeps r (now (place .entry)) (now (place .exit)) ⌝ }
 {
     settle(scalar_read(bytes, at), place)
 }

@@ -7,7 +7,7 @@ use borrow.Author.Tests.{eq-eqb, ne-eqb}
 use Rattle.json_scan.specs.declared.Reached.{Reached}
 use Rattle.json_scan.specs.declared.Reached.the-variants as told
 use Rattle.json_scan.specs.Scan.{State}
-use Rattle.json_scan.specs.Reads.{Behind, Stopped, Deeper, Takes, came, settledAs, placeLeft, tokenBy, valueBy, Reads}
+use Rattle.json_scan.specs.Reads.{Behind, Stopped, Deeper, Takes, came, settledAs, placeLeft, tokenBy, valueBy, Keeps, Reads}
 use Rattle.json_scan.proofs.Reading.{reads-failed}
 
 -- ---- a token
@@ -26,6 +26,11 @@ pub record Settles (reached : Reached) (r place : ℕ) : Type 0 where
   pub place₀ : ℕ
   pub told : r ≡ settledAs reached
   pub stops : place ≡ placeLeft reached place₀
+
+-- where it did not stop, the place is as it was
+pub kept-by : (reached : Reached) (r place : ℕ) (s : Settles reached r place) → Keeps r (s .place₀) place
+kept-by (told.Behind i) r place s f = s .stops
+kept-by (told.Stopped i) r place s f = absurd (f (s .told))
 
 -- it says how far the reader came
 back : (reached : Reached) (place : ℕ) → Takes 0 (came reached) → tokenBy (settledAs reached) (placeLeft reached place) ≡ came reached

@@ -55,6 +55,10 @@ tokenBy r place = cond (eqb r 0) (Stopped place) (Behind r)
 unfoldable pub valueBy : ℕ → ℕ → Came
 valueBy r place = cond (eqb r 1) (Deeper place) (tokenBy r place)
 
+-- a lent place is written only where it stopped
+abbrev pub Keeps : ℕ → ℕ → ℕ → Type 0
+Keeps r before after = (r ≡ 0 → ⊥) → after ≡ before
+
 -- what the whole comes to, if behind the token it is read on so
 abbrev pub resumed : List ℕ → (ℕ → List ℕ → Verdict) → Came → Verdict
 resumed bytes next (Behind i) = next i (drop i bytes)

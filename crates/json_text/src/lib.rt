@@ -6,7 +6,7 @@ use json_scan::settle;
 ghost use mathlib.Core.Path.{_≡_};
 ghost use lib.ListN.{replicate};
 ghost use Rattle.json_scan.specs.Scan.{isHex, isEscape, hex, between, text, escape};
-ghost use Rattle.json_scan.specs.Reads.{came, tokenBy, ReadsRest, ReadsText};
+ghost use Rattle.json_scan.specs.Reads.{came, tokenBy, Keeps, ReadsRest, ReadsText};
 
 fn is_hex(c: u8) -> bool
     ensures { λ r. ⌜ r ≡ isHex c ⌝ }
@@ -67,7 +67,8 @@ fn escape_end(bytes: &[u8], at: usize) -> Reached
 
 // What stands between the quotation marks, and the closing one.
 pub fn text_end(bytes: &[u8], at: usize, place: &mut usize) -> usize
-    ensures { λ r. ⌜ ReadsText (now (bytes .entry)) at text between (tokenBy r (now (place .exit))) ⌝ }
+    ensures read { λ r. ⌜ ReadsText (now (bytes .entry)) at text between (tokenBy r (now (place .exit))) ⌝ }
+    ensures keeps { λ r. ⌜ Keeps r (now (place .entry)) (now (place .exit)) ⌝ }
 {
     let mut i = at;
     loop {

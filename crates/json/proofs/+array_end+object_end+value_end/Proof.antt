@@ -463,7 +463,7 @@ object-end-value-end-requires : (t : ℕ) → object-end-lts.Need-value-end-requ
 ) (object-end-at t) object-end.Post object-end-Inv-loop object-end-μ-loop
 object-end-value-end-requires t c κs = let tok = c .before .token-at2 .ensures in
     let n = c .before .before .before .name-end in
-    let far = takes-placed (n .result) _ (omega arith) (n .ensures .1) in
+    let far = takes-placed (n .result) _ (omega arith) (n .ensures .1 .0) in
     (omega (arith, c .before .before .before .before .before .before .before .before .before .before .before .pre .0), (omega (arith, c .before .before .before .before .before .loop .inv .onward, far, token-further tok), record { there = tok .there; dark = token-dark tok }))
 
 object-end-returns-4 : (t : ℕ) → object-end-lts.Need-returns-4 (
@@ -645,7 +645,7 @@ value-end-returns : (t : ℕ) → value-end-lts.Need-returns (
   scalar-end-reads.Learnt,
 ) (value-end-at t) value-end.Post
 value-end-returns t c = reads-far _ _ (c .before .before .before .before .pre .1 .0)
-    (reads-more (text behind) (inside (c .before .before .before .before .args .bytes .now) (c .before .before .before .before .args .at) (λ z. omega (arith, c .before .before .before .before .pre .1 .1 .there, z))) (λ around. begins-text around _ (omega (arith, c .before .before .before .before .pre .1 .1 .there))) (c .text-end .ensures behind (c .before .before .before .before .args .room)))
+    (reads-more (text behind) (inside (c .before .before .before .before .args .bytes .now) (c .before .before .before .before .args .at) (λ z. omega (arith, c .before .before .before .before .pre .1 .1 .there, z))) (λ around. begins-text around _ (omega (arith, c .before .before .before .before .pre .1 .1 .there))) (c .text-end .ensures .0 behind (c .before .before .before .before .args .room)))
 
 value-end-object-end-requires : (t : ℕ) → value-end-lts.Need-object-end-requires (
   text-end-reads.Asked,
@@ -719,7 +719,7 @@ value-end-returns-4 : (t : ℕ) → value-end-lts.Need-returns-4 (
 ) (value-end-at t) value-end.Post
 value-end-returns-4 t c = let stands = c .before .before .before .before .before .before .pre .1 .1 in
     reads-far _ _ (c .before .before .before .before .before .before .pre .1 .0)
-    (c .scalar-end .ensures (λ l. record { dark = ap isWhite (sym (stands .there)) ∙ stands .dark l; no-string = λ e. omega (arith, stands .there, e); no-object = λ e. omega (arith, stands .there, e); no-array = λ e. omega (arith, stands .there, e) }) (c .before .before .before .before .before .before .args .room))
+    (c .scalar-end .ensures .0 (λ l. record { dark = ap isWhite (sym (stands .there)) ∙ stands .dark l; no-string = λ e. omega (arith, stands .there, e); no-object = λ e. omega (arith, stands .there, e); no-array = λ e. omega (arith, stands .there, e) }) (c .before .before .before .before .before .before .args .room))
 
 pub +array-end+object-end+value-end-spec : {M : Type 1} → statement M
 +array-end+object-end+value-end-spec =

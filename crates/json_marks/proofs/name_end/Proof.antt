@@ -17,7 +17,7 @@ use Rattle.json_marks.proofs.name_end.Tie as tie
 named :
     (c : tie.After-text-end) → let args = c .before .before .before .before .before .before .args in
     (room : ℕ) → Reads (args .bytes .now) room (args .at) (between name) (between colon) (tokenBy (c .text-end .result) (c .text-end .last .1 .1 .0))
-named c room = token-on (c .before .before .before .before .token-at .ensures) (text colon) (λ e. omega arith) (λ around. name-begins around _ (omega arith)) (c .text-end .ensures colon room)
+named c room = token-on (c .before .before .before .before .token-at .ensures) (text colon) (λ e. omega arith) (λ around. name-begins around _ (omega arith)) (c .text-end .ensures .0 colon room)
 
 -- behind a whole one, at the mark that comes next
 module _ (c : tie.After-token-at2) where
@@ -31,7 +31,7 @@ module _ (c : tie.After-token-at2) where
   further : let args = n .before .before .before .before .before .before .args in args .at < n .text-end .result
   further =
       let first = token-further (n .before .before .before .before .token-at .ensures) in
-      let on = reads-placed (n .text-end .result) _ (omega arith) (n .text-end .ensures colon 0) .onward in
+      let on = reads-placed (n .text-end .result) _ (omega arith) (n .text-end .ensures .0 colon 0) .onward in
       omega (arith, first, on)
 
 token-at-requires : tie.Need-token-at-requires
@@ -43,7 +43,7 @@ settle-requires c κs = search needs
 returns : tie.Need-returns
 returns c = let t = c .before .before .before .before in (
   λ room. reads-stopped _ _ _ (c .settle .ensures .0) (c .settle .ensures .1) (token-stuck (t .token-at .ensures) (λ dark around. no-name around _ dark (λ e. omega arith))),
-  takes-none _ _ _ (c .settle .ensures .0),
+  (takes-none _ _ _ (c .settle .ensures .0), λ f. absurd (f (c .settle .ensures .0))),
 )
 
 add-text-end : tie.Need-add-text-end
@@ -54,7 +54,7 @@ text-end-requires : tie.Need-text-end-requires
 text-end-requires c κs = search needs
 
 returns-2 : tie.Need-returns-2
-returns-2 c = (λ room. reads-zero (c .before .text-end .result) _ (omega arith) (named (c .before) room), takes-none _ _ _ refl)
+returns-2 c = (λ room. reads-zero (c .before .text-end .result) _ (omega arith) (named (c .before) room), (takes-none _ _ _ refl, λ f. absurd (f refl)))
 
 token-at-requires-2 : tie.Need-token-at-requires-2
 token-at-requires-2 c κs = search needs
@@ -65,7 +65,7 @@ settle-requires-2 c κs = search needs
 returns-3 : tie.Need-returns-3
 returns-3 c = let t = c .before .before .before .before in (
   λ room. reads-stopped _ _ _ (c .settle2 .ensures .0) (c .settle2 .ensures .1) (reads-then (told t room) (token-stuck (t .token-at2 .ensures) (λ dark around. no-colon around _ dark (λ e. omega arith)))),
-  takes-none _ _ _ (c .settle2 .ensures .0),
+  (takes-none _ _ _ (c .settle2 .ensures .0), λ f. absurd (f (c .settle2 .ensures .0))),
 )
 
 add-result : tie.Need-add-result
@@ -75,7 +75,7 @@ add-result c = let l = token-there (c .before .before .token-at2 .ensures) (λ e
 returns-4 : tie.Need-returns-4
 returns-4 c = let t = c .before .before in (
   λ room. reads-place _ _ (omega arith) (reads-then (told t room) (token-on (t .token-at2 .ensures) _ (λ e. omega arith) (λ around. colon-stands around _ (omega arith)) reads-none)),
-  takes-place _ _ (omega (arith, further t, token-further (t .token-at2 .ensures))),
+  (takes-place _ _ (omega (arith, further t, token-further (t .token-at2 .ensures))), λ f. n t .text-end .ensures .1 (λ e. omega (arith, e))),
 )
 
 pub name-end-spec : {M : Type 1} → statement M

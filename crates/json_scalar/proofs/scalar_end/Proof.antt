@@ -4,7 +4,7 @@ use borrow.Author.Needs.{needs}
 use native.Mathlib.Omega.{arith}
 use Rattle.json_scan.specs.Reads.{came}
 use Rattle.json_scan.proofs.Reading.{takes-more}
-use Rattle.json_scan.proofs.Settled.{reads-settled}
+use Rattle.json_scan.proofs.Settled.{Settles, kept-by, reads-settled}
 use Rattle.json_scalar.proofs.scalar_end.Statement.{statement}
 use Rattle.json_scalar.proofs.scalar_end.Tie as tie
 
@@ -16,8 +16,11 @@ settle-requires c κs = search needs
 
 returns : tie.Need-returns
 returns c = let read = c .before .before in
-    λ bare room. reads-settled (read .scalar-read .result) _ _ (takes-more _ (came (read .scalar-read .result)) (omega arith) (read .scalar-read .ensures .1))
-    (record { place₀ = read .before .before .args .place .now; told = c .settle .ensures .0; stops = c .settle .ensures .1 }) (read .scalar-read .ensures .0 bare room)
+    let reached = read .scalar-read .result in
+    let told : Settles reached (c .settle .result) (c .settle .last .1 .0) = record { place₀ = read .before .before .args .place .now; told = c .settle .ensures .0; stops = c .settle .ensures .1 } in (
+      λ bare room. reads-settled reached _ _ (takes-more _ (came reached) (omega arith) (read .scalar-read .ensures .1)) told (read .scalar-read .ensures .0 bare room),
+      kept-by reached _ _ told,
+    )
 
 pub scalar-end-spec : {M : Type 1} → statement M
 scalar-end-spec = tie.close (tie.spec scalar-read-requires settle-requires returns)
