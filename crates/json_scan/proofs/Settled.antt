@@ -37,7 +37,7 @@ back : (reached : Reached) (place : ℕ) → Takes 0 (came reached) → tokenBy 
 back (told.Behind i) place l = token-place i place l
 back (told.Stopped i) place l = token-stop 0 i refl
 
-settled : (reached : Reached) (r place : ℕ) → Takes 0 (came reached) → Settles reached r place → came reached ≡ tokenBy r place
+pub settled : (reached : Reached) (r place : ℕ) → Takes 0 (came reached) → Settles reached r place → came reached ≡ tokenBy r place
 settled reached r place l s =
     sym (back reached (s .place₀) l)
     ∙ ap (λ (n : ℕ). tokenBy n (placeLeft reached (s .place₀))) (sym (s .told))

@@ -719,7 +719,7 @@ value-end-returns-4 : (t : ℕ) → value-end-lts.Need-returns-4 (
 ) (value-end-at t) value-end.Post
 value-end-returns-4 t c = let stands = c .before .before .before .before .before .before .pre .1 .1 in
     reads-far _ _ (c .before .before .before .before .before .before .pre .1 .0)
-    (c .scalar-end .ensures .0 (λ l. record { dark = ap isWhite (sym (stands .there)) ∙ stands .dark l; no-string = λ e. omega (arith, stands .there, e); no-object = λ e. omega (arith, stands .there, e); no-array = λ e. omega (arith, stands .there, e) }) (c .before .before .before .before .before .before .args .room))
+    (c .scalar-end .ensures .0 .reads (λ l. record { dark = ap isWhite (sym (stands .there)) ∙ stands .dark l; no-string = λ e. omega (arith, stands .there, e); no-object = λ e. omega (arith, stands .there, e); no-array = λ e. omega (arith, stands .there, e) }) (c .before .before .before .before .before .before .args .room))
 
 pub +array-end+object-end+value-end-spec : {M : Type 1} → statement M
 +array-end+object-end+value-end-spec =
