@@ -78,7 +78,7 @@ static uint32_t stir(uint32_t hash, const uint8_t *at)
     return hash * 2135587861u + word(at) * 1540483477u + word(at + 4);
 }
 
-/* The chain that a record belongs to in the library (crates/distinct, `hash`). */
+/* The chain that a record belongs to in the library (crates/table_distinct, `hash`). */
 static uint32_t chain_of(const uint8_t *at, size_t width)
 {
     uint32_t hash = 0;

@@ -1,8 +1,8 @@
 // The floor of paper 01: its tables, a step and a walk on them, and a picture of it.
 use crate::print;
-use onward::Walked;
-use routing::Broker;
-use sending::Stepped;
+use step_routing::Broker;
+use step_routing::Stepped;
+use walk::Walked;
 
 // "Parents none,0,0,1,1,2,2."
 const TREE: [u8; 28] = *b"\xFF\xFF\xFF\xFF\0\0\0\0\0\0\0\0\0\0\0\x01\0\0\0\x01\0\0\0\x02\0\0\0\x02";
@@ -43,7 +43,7 @@ fn broker_of(rank: u32, client: bool) -> Broker {
 }
 
 pub(crate) fn step(rank: u32, client: bool, buffer: &mut [u8]) -> Stepped {
-    floor_step::step(
+    step::step(
         &TREE,
         &SERVICES,
         &IDENTITIES,

@@ -1,8 +1,8 @@
 // Runs the bytes that paper 01 gives to be reproduced, and prints them.
-use body::Reading;
-use draft::Written;
-use message::Header;
-use places::Stretch;
+use frame_layout::Reading;
+use frame_layout::Stretch;
+use frame_message::Header;
+use frame_message::Written;
 
 mod floor;
 mod print;
@@ -24,7 +24,7 @@ fn log_request(flags: u8) -> Header {
 // Prints what a frame is read as.
 fn show_reading(before: &[u8], frame: &[u8]) {
     print::text(before);
-    print::reading(reader::read(frame));
+    print::reading(frame_read::read(frame));
 }
 
 // Prints a frame of n bytes, and what it is read as.
@@ -39,7 +39,7 @@ fn show_frame(out: &[u8], n: usize) {
 // Writes a message, prints its frame, and reads it again.
 fn show_message(header: Header, topic: &[u8]) {
     let mut out = [0u8; 64];
-    match writer::write(header, b"", topic, b"", &mut out) {
+    match frame_write::write(header, b"", topic, b"", &mut out) {
         Written::Refused(r) => print::refused(r),
         Written::Frame(n) => show_frame(&out, n),
     }
@@ -47,7 +47,7 @@ fn show_message(header: Header, topic: &[u8]) {
 
 // Writes the request for "log" with a payload.
 fn write_log(payload: &[u8], out: &mut [u8]) -> Written {
-    writer::write(log_request(11), b"", b"log", payload, out)
+    frame_write::write(log_request(11), b"", b"log", payload, out)
 }
 
 // Writes that request, and says how long the frame is.
@@ -71,7 +71,7 @@ fn print_size(frame: &[u8], topic: Stretch, end: usize) {
 
 // Reads a frame and prints its payload's size. Says where the payload starts.
 fn read_size(frame: &[u8]) -> usize {
-    match reader::read(frame) {
+    match frame_read::read(frame) {
         Reading::Refused(_) => 0,
         Reading::Accepted(f) => {
             let payload = f.payload;

@@ -1,11 +1,11 @@
 // Printing: bytes in hexadecimal, numbers, and what the reader answered.
-use body::Reading;
-use draft::Written;
+use frame_layout::Layout;
+use frame_layout::Reading;
+use frame_layout::Stretch;
+use frame_message::Header;
+use frame_message::Written;
 use libc::STDOUT_FILENO;
-use message::Header;
-use message::Refusal;
-use places::Frame;
-use places::Stretch;
+use refusal::Refusal;
 
 pub(crate) fn text(s: &[u8]) {
     io::write_all(STDOUT_FILENO, s);
@@ -37,7 +37,7 @@ pub(crate) fn bytes(s: &[u8]) {
 
 pub(crate) fn refused(r: Refusal) {
     text(b"refused, ");
-    number(message::number(r) as usize);
+    number(refusal::number(r) as usize);
     text(b"\n");
 }
 
@@ -73,7 +73,7 @@ fn stretches(topic: Stretch, payload: Stretch) {
     field(b", payload of ", payload.len);
 }
 
-fn frame(f: Frame) {
+fn frame(f: Layout) {
     header(f.header);
     field(b"\n             routes ", f.routes);
     stretches(f.topic, f.payload);

@@ -2,13 +2,13 @@
 use crate::floor;
 use crate::print;
 use crate::words;
-use body::Reading;
-use message::Header;
-use message::Refusal;
-use onward::Walked;
-use places::FRONT;
-use places::Stretch;
-use sending::Stepped;
+use frame_layout::Reading;
+use frame_layout::Stretch;
+use frame_message::FRONT;
+use frame_message::Header;
+use refusal::Refusal;
+use step_routing::Stepped;
+use walk::Walked;
 
 // "any"
 const ANY: u32 = 4294967295;
@@ -51,7 +51,7 @@ fn go(entry: u32, picture: &mut [u8], buffer: &mut [u8]) -> Walked {
         }
     }
     Walked {
-        step: Stepped::Refused(Refusal::NoForwarding),
+        step: Stepped::Refused(Refusal::ForwardLong),
         rank,
         links,
     }
@@ -59,7 +59,7 @@ fn go(entry: u32, picture: &mut [u8], buffer: &mut [u8]) -> Walked {
 
 // The numbers of a walk's end, as a C program gets them.
 fn put_end(out: &mut [u8], w: Walked) {
-    octets::put_row(out, &answers::walk_row(w, 0));
+    bytes_number::put_row(out, &call_step_record::walk_row(w, 0));
 }
 
 // Whether two walks ended with the same answer, at the same rank, after as many links.
@@ -68,14 +68,14 @@ fn is_same(a: Walked, b: Walked) -> bool {
     let mut y = [0u8; 24];
     put_end(&mut x, a);
     put_end(&mut y, b);
-    records::same(&x, &y)
+    table_records::same(&x, &y)
 }
 
 // Says how the steps ended, and whether the walk call ended otherwise or left other bytes.
 fn tell(stepped: Walked, walked: Walked, buffer: &[u8], copy: &[u8]) {
     words::end(stepped);
     if is_same(stepped, walked) {
-        if records::same(buffer, copy) {
+        if table_records::same(buffer, copy) {
             return;
         }
     }
@@ -83,7 +83,7 @@ fn tell(stepped: Walked, walked: Walked, buffer: &[u8], copy: &[u8]) {
 }
 
 fn walk_copy(entry: u32, buffer: &[u8], copy: &mut [u8]) -> Walked {
-    copying::copy(buffer, copy);
+    bytes_copy::copy(buffer, copy);
     floor::walk(entry, copy)
 }
 
@@ -101,7 +101,7 @@ fn front_of(topic: Stretch) -> usize {
     let start = topic.start;
     let len = topic.len;
     if FRONT <= start {
-        if start <= message::MOST_BODY {
+        if start <= frame_message::MOST_BODY {
             if len <= 255 {
                 return start - FRONT + len + 1;
             }
@@ -111,7 +111,7 @@ fn front_of(topic: Stretch) -> usize {
 }
 
 fn front_in(frame: &[u8]) -> usize {
-    match reader::read(frame) {
+    match frame_read::read(frame) {
         Reading::Refused(_) => 0,
         Reading::Accepted(f) => front_of(f.topic),
     }
@@ -120,7 +120,7 @@ fn front_in(frame: &[u8]) -> usize {
 // Makes a response of the request at rest, with its routes, topic and matchtag.
 fn respond(buffer: &mut [u8]) {
     let front = front_in(buffer);
-    rewrite::put_header(buffer, front, header(2, PLAIN, 0));
+    frame_rewrite::put_header(buffer, front, header(2, PLAIN, 0));
 }
 
 // What goes home from where a request ended: the error reply, or a response that is made there.
@@ -150,7 +150,7 @@ fn draw(entry: u32, buffer: &mut [u8]) {
 fn show(number: u32, entry: u32, nodeid: u32, flags: u8, topic: &[u8]) {
     words::request(number, entry, nodeid, flags, topic);
     let mut buffer = [0u8; 32776];
-    writer::write(header(1, flags, nodeid), b"", topic, b"", &mut buffer);
+    frame_write::write(header(1, flags, nodeid), b"", topic, b"", &mut buffer);
     draw(entry, &mut buffer);
 }
 

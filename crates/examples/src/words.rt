@@ -1,8 +1,8 @@
 // What is asked, and what a walk came to, in words.
 use crate::floor;
 use crate::print;
-use onward::Walked;
-use sending::Stepped;
+use step_routing::Stepped;
+use walk::Walked;
 
 fn target(nodeid: u32) {
     if nodeid == 4294967295 {
@@ -13,10 +13,10 @@ fn target(nodeid: u32) {
 }
 
 fn wishes(flags: u8) {
-    if header_flags::is_upstream(flags) {
+    if frame_flags::is_upstream(flags) {
         print::text(b", upstream");
     }
-    if header_flags::no_response(flags) {
+    if frame_flags::no_response(flags) {
         print::text(b", no response wanted");
     }
 }

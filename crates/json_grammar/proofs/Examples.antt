@@ -1,4 +1,4 @@
--- Words that the rules allow, and words that they do not: what the RFCs say of each can be read off. Assumes nothing.
+-- Words that the rules allow, and words that they do not: what the RFCs say of each can be read off.
 use mathlib.Core.Path.{_≡_, refl, ap, _∙_}
 use mathlib.Core.List.{List, [], _∷_, _++_}
 use mathlib.Core.Logic.{inl, inr}

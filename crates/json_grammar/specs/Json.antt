@@ -1,5 +1,5 @@
 -- RFC 7159, sections 2 to 7, rule by rule and over bytes, with the depth as an argument; and the payload, "white space, an object, white space and a zero
--- byte". It names no cursor and no code. Assumes nothing.
+-- byte". It names no cursor and no code.
 use mathlib.Core.List.{[], _∷_}
 use Prim.Native.Nat.{ℕ, zero, suc}
 use Rattle.json_grammar.specs.Language.{Language, byte, range, spelled, _then_, _or_, perhaps, times, many, some}

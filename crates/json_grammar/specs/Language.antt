@@ -1,4 +1,4 @@
--- Runs of bytes, and how ABNF (RFC 5234) puts rules together. Assumes nothing.
+-- Runs of bytes, and how ABNF (RFC 5234) puts rules together.
 use mathlib.Core.Path.{_≡_}
 use mathlib.Core.Logic.{_⊎_}
 use mathlib.Core.List.{List, [], _∷_, _++_}

@@ -1,5 +1,5 @@
 -- Where a payload stops being JSON: "the first byte at which no continuation is allowed, or the length if it stops early; 26 gives the opening byte"
--- (paper 02, ticket 2). Stated by the grammar alone. Assumes nothing.
+-- (paper 02, ticket 2). Stated by the grammar alone.
 use mathlib.Core.Path.{_≡_}
 use mathlib.Core.List.{List, _++_}
 use Prim.Native.Nat.{ℕ, suc, _<_, _≤_}

@@ -1,4 +1,4 @@
--- "1*DIGIT": digits, at least one. Assumes nothing.
+-- "1*DIGIT": digits, at least one.
 use mathlib.Core.Path.{_≡_, refl, sym, subst}
 use mathlib.Core.Bool.{Bool, true, false, cond}
 use mathlib.Core.List.{List}
@@ -8,28 +8,28 @@ use native.Mathlib.Omega.{arith}
 use borrow.Author.Tests.{eqb-true, eqb-false, ltb-true, ltb-false}
 use lib.Dec.{eqb, ltb}
 use lib.ListN.{length, getD}
-use Rattle.octets.proofs.Truth.{outcome}
-use Rattle.json_scan.specs.Scan.{isDigit, Kind, behind, minus, leadingZero, whole, State, between, number, nowhere, to, stepOf, isEnded}
-use Rattle.json_scan.specs.Reads.{Came, Behind, Stopped, Reads}
+use Rattle.bytes_number.proofs.Truth.{outcome}
+use Rattle.json_scan.specs.Scan.{isDigit, Kind, behind, minus, leadingZero, whole, State, between, number, nowhere, to, moveOf, isEnded}
+use Rattle.json_scan.specs.WorkingReads.{Came, Behind, Stopped, ReadsOn}
 use Rattle.json_scan.proofs.Leading.{endOf, end-more, end-here, end-over, end-stops}
 use Rattle.json_scan.proofs.Reading.{reads-none, reads-more, reads-wrong, reads-over, reads-then, reads-passes, reads-alike}
 use Rattle.json_number.proofs.Steps.{minus-zero, minus-digit, whole-digit, whole-over}
 
 -- what a digit does to a state, and any other byte
 abbrev pub OnDigit : State → State → Type 0
-OnDigit state next = (around : List Kind) (c : ℕ) → isDigit c ≡ true → stepOf state around c ≡ to next around
+OnDigit state next = (around : List Kind) (c : ℕ) → isDigit c ≡ true → moveOf state around c ≡ to next around
 
 abbrev pub OffDigit : State → Type 0
-OffDigit state = (around : List Kind) (c : ℕ) → isDigit c ≡ false → stepOf state around c ≡ nowhere
+OffDigit state = (around : List Kind) (c : ℕ) → isDigit c ≡ false → moveOf state around c ≡ nowhere
 
 -- any number of them
 pub digits-any :
-    {bytes : List ℕ} {room at : ℕ} {inside : State} → OnDigit inside inside → Reads bytes room at inside inside (Behind (endOf isDigit bytes at))
+    {bytes : List ℕ} {room at : ℕ} {inside : State} → OnDigit inside inside → ReadsOn bytes room at inside inside (Behind (endOf isDigit bytes at))
 digits-any stays = reads-passes isDigit stays reads-none
 
 -- none where one is due
 pub digits-none :
-    {bytes : List ℕ} {room : ℕ} (at : ℕ) {state next : State} → OffDigit state → isEnded state ≡ false → endOf isDigit bytes at ≡ at → Reads bytes room at state next (Stopped at)
+    {bytes : List ℕ} {room : ℕ} (at : ℕ) {state next : State} → OffDigit state → isEnded state ≡ false → endOf isDigit bytes at ≡ at → ReadsOn bytes room at state next (Stopped at)
 digits-none {bytes} at off going none =
     ⊎-elim
     (λ t. let l = ltb-true at (length bytes) t in
@@ -47,22 +47,22 @@ first-digit bytes at some = ⊎-elim (λ t. here (ltb-true at (length bytes) t))
 
 pub digits-some :
     {bytes : List ℕ} {room : ℕ} (at : ℕ) {state inside : State} → OnDigit state inside → OnDigit inside inside → (endOf isDigit bytes at ≡ at → ⊥) →
-    Reads bytes room at state inside (Behind (endOf isDigit bytes at))
+    ReadsOn bytes room at state inside (Behind (endOf isDigit bytes at))
 digits-some {bytes} {room} at {state} {inside} on stays some =
     let first = first-digit bytes at some in
-    subst (λ (j : ℕ). Reads bytes room at state inside (Behind j)) (sym (end-more isDigit bytes at (first .0) (first .1)))
+    subst (λ (j : ℕ). ReadsOn bytes room at state inside (Behind j)) (sym (end-more isDigit bytes at (first .0) (first .1)))
     (reads-more inside (first .0) (λ around. on around _ (first .1)) (digits-any stays))
 
 -- ---- int: a zero alone, or a digit and any number of them
 
 pub int-reads :
     {bytes : List ℕ} {room : ℕ} {r : Came} (at : ℕ) → at < length bytes → isDigit (getD bytes at 0) ≡ true →
-    Reads bytes room (cond (eqb (getD bytes at 0) 48) (at + 1) (endOf isDigit bytes (at + 1))) (number leadingZero) (between behind) r → Reads bytes room at (number minus) (between behind) r
+    ReadsOn bytes room (cond (eqb (getD bytes at 0) 48) (at + 1) (endOf isDigit bytes (at + 1))) (number leadingZero) (between behind) r → ReadsOn bytes room at (number minus) (between behind) r
 int-reads {bytes} {room} {r} at l digit = go (eqb (getD bytes at 0) 48) refl
   where
     go :
-        (t : Bool) → eqb (getD bytes at 0) 48 ≡ t → Reads bytes room (cond t (at + 1) (endOf isDigit bytes (at + 1))) (number leadingZero) (between behind) r →
-        Reads bytes room at (number minus) (between behind) r
+        (t : Bool) → eqb (getD bytes at 0) 48 ≡ t → ReadsOn bytes room (cond t (at + 1) (endOf isDigit bytes (at + 1))) (number leadingZero) (between behind) r →
+        ReadsOn bytes room at (number minus) (between behind) r
     go true e rest = reads-more (number leadingZero) l (λ around. minus-zero around _ (eqb-true (getD bytes at 0) 48 e)) rest
     go false e rest =
         reads-more (number whole) l (λ around. minus-digit around _ (eqb-false (getD bytes at 0) 48 e) digit)

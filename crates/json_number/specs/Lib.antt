@@ -1,2 +1,2 @@
--- Only for the readers of this crate: nothing here has to be believed.
-pub mod Figures
+-- What begins with Working serves the proofs alone: nothing there has to be believed.
+pub mod WorkingFigures

@@ -8,8 +8,8 @@ ghost use Prim.Native.Nat.{_+_, _<_};
 ghost use lib.Dec.{eqb};
 ghost use lib.ListN.{drop};
 ghost use Rattle.json_scan.specs.Scan.{isDigit, isE, isSign, between, number, behind, minus, leadingZero, exponent, sign};
-ghost use Rattle.json_scan.specs.Reads.{leading, Takes, came, ReadsToken};
-ghost use Rattle.json_number.specs.Figures.{ReadsScale};
+ghost use Rattle.json_scan.specs.WorkingReads.{leading, Takes, came, ReadsToken};
+ghost use Rattle.json_number.specs.WorkingFigures.{ReadsScale};
 
 fn is_e(c: u8) -> bool
     ensures { λ r. ⌜ r ≡ isE c ⌝ }

@@ -1,5 +1,5 @@
 -- The marks on a word, byte by byte: as long as bytes stand for themselves nothing is borrowed from those above them, and the first that does not is
--- marked, whatever is marked above it. Assumes nothing.
+-- marked, whatever is marked above it.
 use mathlib.Core.Path.{_≡_, refl, sym, ap, ap₂, subst, _∙_}
 use mathlib.Core.Bool.{Bool, true, false, cond, _&&_}
 use mathlib.Core.List.{List, [], _∷_}
@@ -12,12 +12,12 @@ use lib.Bits.{bitAnd, bitOr, bitXor, and-mod, or-mod, xor-mod, and-shr, or-shr, 
 use lib.Count.{trailingZeros}
 use lib.Dec.{eqb, leb}
 use lib.ListN.{length}
-use Rattle.octets.specs.Number.{Bytes}
-use Rattle.octets.proofs.Truth.{and-left, and-right}
+use Rattle.bytes_number.specs.Number.{Bytes}
+use Rattle.bytes_number.proofs.Truth.{and-left, and-right}
 use Rattle.json_scan.specs.Scan.{isWithin}
-use Rattle.json_scan.specs.Reads.{leading}
-use Rattle.json_plain.specs.Plain.{isPlain}
-use Rattle.json_plain.specs.Words.{wordOf, lowest, Marks}
+use Rattle.json_scan.specs.WorkingReads.{leading}
+use Rattle.json_plain.specs.WorkingPlain.{isPlain}
+use Rattle.json_plain.specs.WorkingWords.{wordOf, lowestMark, Marks}
 use Rattle.json_plain.proofs.Words.{each, each-low, each-high, Less, less-low, less-high, byte-past, byte-here}
 
 -- the marks on a word by its three differences
@@ -139,6 +139,6 @@ marks-in (x ∷ xs) w p q r b is dp dq dr =
     go again false e = byte-here k _ (marks-low k w p q r dp dq dr ∙ other-marked (w % 256) (omega arith) e)
 
 pub marks-of : (w p q r : ℕ) → Less 32 8 w p → Found 34 8 w q → Found 92 8 w r → Marks w (gathered p q r (each 128 8))
-unfolding lowest
+unfolding lowestMark
 marks-of w p q r dp dq dr xs b l is =
     subst (λ (k : ℕ). Less 32 k w p → Found 34 k w q → Found 92 k w r → lowestIn k (gathered p q r (each 128 k)) ≡ leading isPlain xs) l (marks-in xs w p q r b is) dp dq dr

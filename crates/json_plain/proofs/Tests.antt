@@ -1,11 +1,11 @@
--- The test of a byte that stands for itself, as the code writes it. Assumes nothing.
+-- The test of a byte that stands for itself, as the code writes it.
 use mathlib.Core.Path.{_≡_, refl}
 use mathlib.Core.Bool.{Bool, true, false, _&&_}
 use Prim.Native.Nat.{ℕ}
 use native.Mathlib.Omega.{arith}
 use borrow.Author.Tests.{ltb-true, leb-true, lt-ltb, le-leb}
 use lib.Dec.{ltb, leb}
-use Rattle.octets.proofs.Truth.{same-test}
+use Rattle.bytes_number.proofs.Truth.{same-test}
 
 pub tests-joined : (p q x y : Bool) → (((p && q) && x) && y) ≡ (p && (q && (x && y)))
 tests-joined true true x y = refl

@@ -1,4 +1,4 @@
--- Words: the one at a place, a word less the same byte at each of its places, and the zeros below a number's lowest digit. Assumes nothing.
+-- Words: the one at a place, a word less the same byte at each of its places, and the zeros below a number's lowest digit.
 use mathlib.Core.Path.{_≡_, refl, sym, ap, ap₂, _∙_}
 use mathlib.Core.List.{List}
 use Prim.Native.Nat.{ℕ, zero, suc, _+_, _-_, _*_, _/_, _%_, _^_, _<_, _≤_, suc-le-suc}
@@ -10,7 +10,7 @@ use lib.Count.{trailingZeros, under}
 use lib.ListN.{length, take, drop, getD}
 use lib.Pow.{mod-pow-add, shr-shr}
 use lib.Seq.{drop-cons}
-use Rattle.json_plain.specs.Words.{wordOf}
+use Rattle.json_plain.specs.WorkingWords.{wordOf}
 
 -- ---- the word at a place
 

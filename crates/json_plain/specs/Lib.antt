@@ -1,3 +1,3 @@
--- Only for the readers of strings: nothing here has to be believed.
-pub mod Plain
-pub mod Words
+-- What begins with Working serves the proofs alone: nothing there has to be believed.
+pub mod WorkingPlain
+pub mod WorkingWords

@@ -2,9 +2,9 @@
 ghost use mathlib.Core.Path.{_≡_};
 ghost use Prim.Native.Nat.{_+_, _<_, _≤_};
 ghost use lib.ListN.{length, take, drop};
-ghost use Rattle.json_scan.specs.Reads.{leading};
-ghost use Rattle.json_plain.specs.Plain.{isPlain};
-ghost use Rattle.json_plain.specs.Words.{wordOf, lowest, Marks};
+ghost use Rattle.json_scan.specs.WorkingReads.{leading};
+ghost use Rattle.json_plain.specs.WorkingPlain.{isPlain};
+ghost use Rattle.json_plain.specs.WorkingWords.{wordOf, lowestMark, Marks};
 
 // Bytes of a word, and of two.
 const WORD: usize = 8;
@@ -54,7 +54,7 @@ fn marks(word: u64) -> u64
 
 // Which byte has the lowest mark.
 fn marked(marks: u64) -> usize
-    ensures { λ r. ⌜ (r ≡ lowest marks) × (r ≤ 8) ⌝ }
+    ensures { λ r. ⌜ (r ≡ lowestMark marks) × (r ≤ 8) ⌝ }
 {
     (u64::trailing_zeros(marks) / 8) as usize
 }

@@ -1,2 +1,2 @@
--- Only for the readers of values: nothing here has to be believed.
-pub mod Scalars
+-- What begins with Working serves the proofs alone: nothing there has to be believed.
+pub mod WorkingScalars

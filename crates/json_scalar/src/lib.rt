@@ -9,8 +9,8 @@ ghost use Prim.Native.Nat.{_+_, _<_};
 ghost use lib.Dec.{eqb};
 ghost use lib.ListN.{getD};
 ghost use Rattle.json_scan.specs.Scan.{isDigit};
-ghost use Rattle.json_scan.specs.Reads.{Takes, came, tokenBy, Keeps, ReadsRest};
-ghost use Rattle.json_scalar.specs.Scalars.{spelling, ReadsScalar};
+ghost use Rattle.json_scan.specs.WorkingReads.{Takes, came, tokenBy, Keeps, ReadsRest};
+ghost use Rattle.json_scalar.specs.WorkingScalars.{spelling, ReadsScalar};
 
 // These bytes, one after another.
 fn literal_end(bytes: &[u8], at: usize, word: &[u8]) -> Reached

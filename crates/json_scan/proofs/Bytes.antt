@@ -1,4 +1,4 @@
--- White space, byte by byte; and which bytes lie between two. Assumes nothing.
+-- White space, byte by byte; and which bytes lie between two.
 use mathlib.Core.Path.{_≡_, refl, sym, subst}
 use mathlib.Core.Bool.{Bool, true, false, _&&_}
 use mathlib.Core.Logic.{_⊎_, inl, inr, ⊎-elim}
@@ -6,7 +6,7 @@ use Prim.Native.Nat.{ℕ, _<_, _≤_}
 use native.Mathlib.Omega.{arith}
 use borrow.Author.Tests.{leb-true, le-leb, lt-leb, eqb-true, eqb-false, ne-eqb}
 use lib.Dec.{eqb, leb}
-use Rattle.octets.proofs.Truth.{outcome, clash, and-left, and-right}
+use Rattle.bytes_number.proofs.Truth.{outcome, clash, and-left, and-right}
 use Rattle.json_scan.specs.Scan.{isWhite, isWithin, isDigit}
 
 -- a byte is white space as soon as it is one of them

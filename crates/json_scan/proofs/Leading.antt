@@ -1,4 +1,4 @@
--- Bytes at the front that pass a test: where they end, and what comes of them if they leave the reading where it stands. Assumes nothing.
+-- Bytes at the front that pass a test: where they end, and what comes of them if they leave the reading where it stands.
 use mathlib.Core.Path.{_≡_, refl, sym, ap, _∙_}
 use mathlib.Core.Bool.{Bool, true, false, cond}
 use mathlib.Core.List.{List, [], _∷_}
@@ -7,8 +7,8 @@ use native.Mathlib.Omega.{arith}
 use native.Mathlib.Nat.{le-of-suc-le-suc}
 use lib.ListN.{length, drop, getD, drop-of-length-le, length-drop}
 use lib.Seq.{drop-drop, getD-drop}
-use Rattle.json_scan.specs.Scan.{Kind, State, to, stepOf, goOn, scan}
-use Rattle.json_scan.specs.Reads.{leading}
+use Rattle.json_scan.specs.Scan.{Kind, State, to, moveOf, goOn, scan}
+use Rattle.json_scan.specs.WorkingReads.{leading}
 use Rattle.json_scan.proofs.Scanning.{drop-at, go-on}
 
 -- where the bytes that pass end, if they begin at a place
@@ -57,7 +57,7 @@ end-stops test bytes at l =
 
 -- if such a byte leaves the reading where it stands, then all of them do
 passes :
-    (most : ℕ) (state : State) (around : List Kind) (test : ℕ → Bool) → ((c : ℕ) → test c ≡ true → stepOf state around c ≡ to state around) → length around ≤ most →
+    (most : ℕ) (state : State) (around : List Kind) (test : ℕ → Bool) → ((c : ℕ) → test c ≡ true → moveOf state around c ≡ to state around) → length around ≤ most →
     (at : ℕ) (xs : List ℕ) → scan most state around at xs ≡ scan most state around (at + leading test xs) (drop (leading test xs) xs)
 unfolding scan leading
 passes most state around test stays room at [] = ap (λ (i : ℕ). scan most state around i []) (omega arith)
@@ -74,7 +74,7 @@ passes most state around test stays room at (x ∷ xs) = go (passes most state a
     go again false e = ap (λ (i : ℕ). scan most state around i (x ∷ xs)) (omega arith)
 
 pub scan-passes :
-    (most : ℕ) (state : State) (around : List Kind) (test : ℕ → Bool) (bytes : List ℕ) (at : ℕ) → ((c : ℕ) → test c ≡ true → stepOf state around c ≡ to state around) →
+    (most : ℕ) (state : State) (around : List Kind) (test : ℕ → Bool) (bytes : List ℕ) (at : ℕ) → ((c : ℕ) → test c ≡ true → moveOf state around c ≡ to state around) →
     length around ≤ most → scan most state around at (drop at bytes) ≡ scan most state around (endOf test bytes at) (drop (endOf test bytes at) bytes)
 scan-passes most state around test bytes at stays room =
     passes most state around test stays room at (drop at bytes)

@@ -1,4 +1,4 @@
--- How a reader's promise is put together: a byte more in front, a place to stop, two readers one behind the other. Assumes nothing.
+-- How a reader's promise is put together: a byte more in front, a place to stop, two readers one behind the other.
 use mathlib.Core.Path.{_≡_, refl, sym, ap, subst, _∙_}
 use mathlib.Core.Bool.{Bool, true, false, cond}
 use mathlib.Core.List.{List}
@@ -8,21 +8,21 @@ use native.Mathlib.Omega.{arith}
 use borrow.Author.Tests.{ltb-true, ltb-false}
 use lib.Dec.{ltb}
 use lib.ListN.{length, drop, getD}
-use Rattle.octets.proofs.Truth.{outcome}
+use Rattle.bytes_number.proofs.Truth.{outcome}
 use Rattle.json_scan.specs.declared.Verdict.the-variants.{Json, NotJson}
-use Rattle.json_scan.specs.Scan.{Kind, State, nowhere, to, stepOf, isEnded, goOn, scan}
-use Rattle.json_scan.specs.Reads.{Came, Behind, Stopped, Deeper, placeOf, Takes, Reads}
+use Rattle.json_scan.specs.Scan.{Kind, State, nowhere, to, moveOf, isEnded, goOn, scan}
+use Rattle.json_scan.specs.WorkingReads.{Came, Behind, Stopped, Deeper, placeOf, Takes, ReadsOn}
 use Rattle.json_scan.proofs.Scanning.{scan-at, scan-over, go-on}
 use Rattle.json_scan.proofs.Leading.{endOf, scan-passes}
 
 -- nothing more is read
-pub reads-none : {bytes : List ℕ} {room at : ℕ} {state : State} → Reads bytes room at state state (Behind at)
+pub reads-none : {bytes : List ℕ} {room at : ℕ} {state : State} → ReadsOn bytes room at state state (Behind at)
 reads-none = record { same = λ around. refl; onward = omega arith }
 
 -- the byte leads on, and the rest is read from there
 pub reads-more :
     {bytes : List ℕ} {room at : ℕ} {state next : State} {r : Came} (state₁ : State) →
-    at < length bytes → ((around : List Kind) → stepOf state around (getD bytes at 0) ≡ to state₁ around) → Reads bytes room (at + 1) state₁ next r → Reads bytes room at state next r
+    at < length bytes → ((around : List Kind) → moveOf state around (getD bytes at 0) ≡ to state₁ around) → ReadsOn bytes room (at + 1) state₁ next r → ReadsOn bytes room at state next r
 reads-more {bytes} {room} {at} {state} {next} {r} state₁ l e rest =
     record {
       same = λ around.
@@ -36,19 +36,19 @@ reads-more {bytes} {room} {at} {state} {next} {r} state₁ l e rest =
 -- the same however the place behind it was come by
 pub reads-on :
     {bytes : List ℕ} {room at : ℕ} {state next : State} {r : Came} (state₁ : State) {n : ℕ} → n ≡ at + 1 →
-    at < length bytes → ((around : List Kind) → stepOf state around (getD bytes at 0) ≡ to state₁ around) → Reads bytes room n state₁ next r → Reads bytes room at state next r
-reads-on {bytes} {room} {next = next} {r = r} state₁ is l e rest = reads-more state₁ l e (subst (λ (n : ℕ). Reads bytes room n state₁ next r) is rest)
+    at < length bytes → ((around : List Kind) → moveOf state around (getD bytes at 0) ≡ to state₁ around) → ReadsOn bytes room n state₁ next r → ReadsOn bytes room at state next r
+reads-on {bytes} {room} {next = next} {r = r} state₁ is l e rest = reads-more state₁ l e (subst (λ (n : ℕ). ReadsOn bytes room n state₁ next r) is rest)
 
 -- the byte is the last one
 pub reads-last :
     {bytes : List ℕ} {room at : ℕ} {state next : State} →
-    at < length bytes → ((around : List Kind) → stepOf state around (getD bytes at 0) ≡ to next around) → Reads bytes room at state next (Behind (at + 1))
+    at < length bytes → ((around : List Kind) → moveOf state around (getD bytes at 0) ≡ to next around) → ReadsOn bytes room at state next (Behind (at + 1))
 reads-last {next = next} l e = reads-more next l e reads-none
 
 -- the byte leads nowhere
 pub reads-wrong :
     {bytes : List ℕ} {room at : ℕ} {state next : State} →
-    at < length bytes → ((around : List Kind) → stepOf state around (getD bytes at 0) ≡ nowhere) → Reads bytes room at state next (Stopped at)
+    at < length bytes → ((around : List Kind) → moveOf state around (getD bytes at 0) ≡ nowhere) → ReadsOn bytes room at state next (Stopped at)
 reads-wrong {bytes} {room} {at} {state} l e =
     record {
       same = λ around.
@@ -58,7 +58,7 @@ reads-wrong {bytes} {room} {at} {state} l e =
     }
 
 -- no byte is left
-pub reads-over : {bytes : List ℕ} {room at : ℕ} {state next : State} → length bytes ≤ at → isEnded state ≡ false → Reads bytes room at state next (Stopped at)
+pub reads-over : {bytes : List ℕ} {room at : ℕ} {state next : State} → length bytes ≤ at → isEnded state ≡ false → ReadsOn bytes room at state next (Stopped at)
 reads-over {bytes} {room} {at} {state} l e =
     record {
       same = λ around. scan-over (length around + room) state around bytes at l ∙ ap (λ (t : Bool). cond t Json (NotJson at)) e;
@@ -67,7 +67,7 @@ reads-over {bytes} {room} {at} {state} l e =
 
 -- one reader behind another
 pub reads-then :
-    {bytes : List ℕ} {room at j : ℕ} {state middle next : State} {r : Came} → Reads bytes room at state middle (Behind j) → Reads bytes room j middle next r → Reads bytes room at state next r
+    {bytes : List ℕ} {room at j : ℕ} {state middle next : State} {r : Came} → ReadsOn bytes room at state middle (Behind j) → ReadsOn bytes room j middle next r → ReadsOn bytes room at state next r
 reads-then one two = record { same = λ around. one .same around ∙ two .same around; onward = omega (arith, one .onward, two .onward) }
 
 -- a reader that came behind what it read took something
@@ -87,15 +87,15 @@ Fails (Behind i) = ⊥
 Fails (Stopped i) = Unit {0}
 Fails (Deeper i) = Unit {0}
 
-pub reads-failed : {bytes : List ℕ} {room at : ℕ} {state middle next : State} (r : Came) → Fails r → Reads bytes room at state middle r → Reads bytes room at state next r
+pub reads-failed : {bytes : List ℕ} {room at : ℕ} {state middle next : State} (r : Came) → Fails r → ReadsOn bytes room at state middle r → ReadsOn bytes room at state next r
 reads-failed (Behind j) fails one = absurd fails
 reads-failed (Stopped j) fails one = record { same = λ around. one .same around; onward = one .onward }
 reads-failed (Deeper j) fails one = record { same = λ around. one .same around; onward = one .onward }
 
 -- bytes at the front that leave the reading where it stands
 pub reads-passes :
-    {bytes : List ℕ} {room at : ℕ} {state next : State} {r : Came} (test : ℕ → Bool) → ((around : List Kind) (c : ℕ) → test c ≡ true → stepOf state around c ≡ to state around) →
-    Reads bytes room (endOf test bytes at) state next r → Reads bytes room at state next r
+    {bytes : List ℕ} {room at : ℕ} {state next : State} {r : Came} (test : ℕ → Bool) → ((around : List Kind) (c : ℕ) → test c ≡ true → moveOf state around c ≡ to state around) →
+    ReadsOn bytes room (endOf test bytes at) state next r → ReadsOn bytes room at state next r
 reads-passes {bytes} {room} {at} {state} test stays rest =
     record {
       same = λ around. scan-passes (length around + room) state around test bytes at (stays around) (omega arith) ∙ rest .same around;
@@ -105,7 +105,7 @@ reads-passes {bytes} {room} {at} {state} test stays rest =
 -- two states that the byte at the place leads alike, or that stop alike where there is none
 pub scan-alike :
     (bytes : List ℕ) (at most : ℕ) (state state₁ : State) (around : List Kind) → isEnded state ≡ isEnded state₁ →
-    (at < length bytes → stepOf state around (getD bytes at 0) ≡ stepOf state₁ around (getD bytes at 0)) → scan most state around at (drop at bytes) ≡ scan most state₁ around at (drop at bytes)
+    (at < length bytes → moveOf state around (getD bytes at 0) ≡ moveOf state₁ around (getD bytes at 0)) → scan most state around at (drop at bytes) ≡ scan most state₁ around at (drop at bytes)
 scan-alike bytes at most state state₁ around e f = ⊎-elim (λ t. here (ltb-true at (length bytes) t)) (λ t. over (ltb-false at (length bytes) t)) (outcome (ltb at (length bytes)))
   where
     here : at < length bytes → scan most state around at (drop at bytes) ≡ scan most state₁ around at (drop at bytes)
@@ -119,14 +119,14 @@ scan-alike bytes at most state state₁ around e f = ⊎-elim (λ t. here (ltb-t
 
 pub reads-alike :
     {bytes : List ℕ} {room at : ℕ} {state next : State} {r : Came} (state₁ : State) → isEnded state ≡ isEnded state₁ →
-    (at < length bytes → (around : List Kind) → stepOf state around (getD bytes at 0) ≡ stepOf state₁ around (getD bytes at 0)) →
-    Reads bytes room at state₁ next r → Reads bytes room at state next r
+    (at < length bytes → (around : List Kind) → moveOf state around (getD bytes at 0) ≡ moveOf state₁ around (getD bytes at 0)) →
+    ReadsOn bytes room at state₁ next r → ReadsOn bytes room at state next r
 reads-alike {bytes} {room} {at} {state} state₁ e f rest =
     record { same = λ around. scan-alike bytes at (length around + room) state state₁ around e (λ l. f l around) ∙ rest .same around; onward = rest .onward }
 
 -- the byte at the place leads nowhere, or there is none
 pub reads-stuck :
-    {bytes : List ℕ} {room at : ℕ} {state next : State} → isEnded state ≡ false → (at < length bytes → (around : List Kind) → stepOf state around (getD bytes at 0) ≡ nowhere) →
-    Reads bytes room at state next (Stopped at)
+    {bytes : List ℕ} {room at : ℕ} {state next : State} → isEnded state ≡ false → (at < length bytes → (around : List Kind) → moveOf state around (getD bytes at 0) ≡ nowhere) →
+    ReadsOn bytes room at state next (Stopped at)
 reads-stuck {bytes} {at = at} e f =
     ⊎-elim (λ t. let l = ltb-true at (length bytes) t in reads-wrong l (f l)) (λ t. reads-over (ltb-false at (length bytes) t) e) (outcome (ltb at (length bytes)))

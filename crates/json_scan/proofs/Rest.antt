@@ -1,30 +1,30 @@
--- The rest of a token, one byte after another: the bytes of a name, the hex digits of an escape, the tails of a character. Assumes nothing.
+-- The rest of a token, one byte after another: the bytes of a name, the hex digits of an escape, the tails of a character.
 use mathlib.Core.Path.{_≡_, refl, ap, subst, _∙_}
 use mathlib.Core.Bool.{Bool, true, false, cond}
 use mathlib.Core.List.{List, [], _∷_}
 use Prim.Native.Nat.{ℕ, zero, suc, _+_, _-_, _<_, _≤_}
 use native.Mathlib.Omega.{arith}
 use lib.ListN.{length, getD, replicate}
-use Rattle.json_scan.specs.Scan.{Class, holds, Kind, State, rest, nowhere, to, remaining, restStep, stepOf}
-use Rattle.json_scan.specs.Reads.{Behind, Stopped, Reads, ReadsRest}
+use Rattle.json_scan.specs.Scan.{Class, holds, Kind, State, rest, nowhere, to, remaining, restMove, moveOf}
+use Rattle.json_scan.specs.WorkingReads.{Behind, Stopped, ReadsOn, ReadsRest}
 use Rattle.json_scan.proofs.Reading.{reads-none, reads-last, reads-wrong, reads-over, reads-then, reads-stuck}
 use Rattle.json_scan.proofs.Scanning.{inside}
-use Rattle.octets.proofs.Truth.{clash}
+use Rattle.bytes_number.proofs.Truth.{clash}
 
 -- of what was still to come at a place, so much is still to come further on
 pub record Passed (bytes : List ℕ) (at : ℕ) (ks : List Class) (i : ℕ) (left : List Class) : Type 0 where
-  pub reads : (next : State) (room : ℕ) → Reads bytes room at (remaining ks next) (remaining left next) (Behind i)
+  pub reads : (next : State) (room : ℕ) → ReadsOn bytes room at (remaining ks next) (remaining left next) (Behind i)
 
 pub passed-none : {bytes : List ℕ} {at : ℕ} {ks : List Class} → Passed bytes at ks at ks
 passed-none = record { reads = λ next room. reads-none }
 
 -- the byte may come, or not
-rest-on : (k : Class) (ks : List Class) (next : State) (around : List Kind) (c : ℕ) → holds k c ≡ true → stepOf (rest k ks next) around c ≡ to (remaining ks next) around
-unfolding stepOf restStep
+rest-on : (k : Class) (ks : List Class) (next : State) (around : List Kind) (c : ℕ) → holds k c ≡ true → moveOf (rest k ks next) around c ≡ to (remaining ks next) around
+unfolding moveOf restMove
 rest-on k ks next around c e = ap (λ (t : Bool). cond t (to (remaining ks next) around) nowhere) e
 
-rest-off : (k : Class) (ks : List Class) (next : State) (around : List Kind) (c : ℕ) → holds k c ≡ false → stepOf (rest k ks next) around c ≡ nowhere
-unfolding stepOf restStep
+rest-off : (k : Class) (ks : List Class) (next : State) (around : List Kind) (c : ℕ) → holds k c ≡ false → moveOf (rest k ks next) around c ≡ nowhere
+unfolding moveOf restMove
 rest-off k ks next around c e = ap (λ (t : Bool). cond t (to (remaining ks next) around) nowhere) e
 
 pub passed-more :

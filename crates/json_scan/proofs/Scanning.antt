@@ -1,4 +1,4 @@
--- One byte more of a payload: it leads on, or the reading stops at its place. Assumes nothing.
+-- One byte more of a payload: it leads on, or the reading stops at its place.
 use mathlib.Core.Path.{_≡_, refl, ap, _∙_}
 use mathlib.Core.Bool.{Bool, cond}
 use mathlib.Core.List.{List, [], _∷_}
@@ -9,7 +9,7 @@ use borrow.Author.Tests.{lt-ltb, le-ltb}
 use lib.ListN.{length, drop, getD, drop-of-length-le}
 use Rattle.json_scan.specs.declared.Verdict.{Verdict}
 use Rattle.json_scan.specs.declared.Verdict.the-variants.{Json, NotJson, TooDeep}
-use Rattle.json_scan.specs.Scan.{Kind, State, to, stepOf, isEnded, goOn, scan}
+use Rattle.json_scan.specs.Scan.{Kind, State, to, moveOf, isEnded, goOn, scan}
 
 far : (i : ℕ) → suc (i + 1) ≡ suc i + 1
 far i = omega arith
@@ -28,7 +28,7 @@ inside (x ∷ xs) (suc i) f = suc-le-suc (inside xs i f)
 
 pub scan-at :
     (most : ℕ) (state : State) (around : List Kind) (bytes : List ℕ) (at : ℕ) → at < length bytes →
-    scan most state around at (drop at bytes) ≡ goOn most at (λ state₁ around₁. scan most state₁ around₁ (at + 1) (drop (at + 1) bytes)) (stepOf state around (getD bytes at 0))
+    scan most state around at (drop at bytes) ≡ goOn most at (λ state₁ around₁. scan most state₁ around₁ (at + 1) (drop (at + 1) bytes)) (moveOf state around (getD bytes at 0))
 unfolding scan
 scan-at most state around bytes at l = ap (scan most state around at) (drop-at bytes at l)
 

@@ -1,4 +1,4 @@
--- How far a reader came, as a number and the place that was left. Assumes nothing.
+-- How far a reader came, as a number and the place that was left.
 use mathlib.Core.Path.{_≡_, refl, sym, ap, subst, _∙_}
 use mathlib.Core.List.{List}
 use Prim.Native.Nat.{ℕ, _<_}
@@ -7,7 +7,7 @@ use borrow.Author.Tests.{eq-eqb, ne-eqb}
 use Rattle.json_scan.specs.declared.Reached.{Reached}
 use Rattle.json_scan.specs.declared.Reached.the-variants as told
 use Rattle.json_scan.specs.Scan.{State}
-use Rattle.json_scan.specs.Reads.{Behind, Stopped, Deeper, Takes, came, settledAs, placeLeft, tokenBy, valueBy, Keeps, Reads}
+use Rattle.json_scan.specs.WorkingReads.{Behind, Stopped, Deeper, Takes, came, settledAs, placeLeft, tokenBy, valueBy, Keeps, ReadsOn}
 use Rattle.json_scan.proofs.Reading.{reads-failed}
 
 -- ---- a token
@@ -44,25 +44,25 @@ settled reached r place l s =
     ∙ ap (λ (n : ℕ). tokenBy r n) (sym (s .stops))
 
 module _ {bytes : List ℕ} {room at : ℕ} {state next : State} where
-  pub reads-settled : (reached : Reached) (r place : ℕ) → Takes 0 (came reached) → Settles reached r place → Reads bytes room at state next (came reached) → Reads bytes room at state next (tokenBy r place)
-  reads-settled reached r place l s = subst (Reads bytes room at state next) (settled reached r place l s)
+  pub reads-settled : (reached : Reached) (r place : ℕ) → Takes 0 (came reached) → Settles reached r place → ReadsOn bytes room at state next (came reached) → ReadsOn bytes room at state next (tokenBy r place)
+  reads-settled reached r place l s = subst (ReadsOn bytes room at state next) (settled reached r place l s)
 
-  pub reads-place : (i place : ℕ) → 0 < i → Reads bytes room at state next (Behind i) → Reads bytes room at state next (tokenBy i place)
-  reads-place i place l = subst (Reads bytes room at state next) (sym (token-place i place l))
+  pub reads-place : (i place : ℕ) → 0 < i → ReadsOn bytes room at state next (Behind i) → ReadsOn bytes room at state next (tokenBy i place)
+  reads-place i place l = subst (ReadsOn bytes room at state next) (sym (token-place i place l))
 
-  pub reads-placed : (i place : ℕ) → 0 < i → Reads bytes room at state next (tokenBy i place) → Reads bytes room at state next (Behind i)
-  reads-placed i place l = subst (Reads bytes room at state next) (token-place i place l)
+  pub reads-placed : (i place : ℕ) → 0 < i → ReadsOn bytes room at state next (tokenBy i place) → ReadsOn bytes room at state next (Behind i)
+  reads-placed i place l = subst (ReadsOn bytes room at state next) (token-place i place l)
 
-  pub reads-stopped : (r place i : ℕ) → r ≡ 0 → place ≡ i → Reads bytes room at state next (Stopped i) → Reads bytes room at state next (tokenBy r place)
-  reads-stopped r place i e is = subst (Reads bytes room at state next) (ap Stopped (sym is) ∙ sym (token-stop r place e))
+  pub reads-stopped : (r place i : ℕ) → r ≡ 0 → place ≡ i → ReadsOn bytes room at state next (Stopped i) → ReadsOn bytes room at state next (tokenBy r place)
+  reads-stopped r place i e is = subst (ReadsOn bytes room at state next) (ap Stopped (sym is) ∙ sym (token-stop r place e))
 
-  pub token-stops : {middle : State} (r place : ℕ) → r ≡ 0 → Reads bytes room at state middle (tokenBy r place) → Reads bytes room at state next (Stopped place)
-  token-stops {middle} r place e one = reads-failed (Stopped place) tt (subst (Reads bytes room at state middle) (token-stop r place e) one)
+  pub token-stops : {middle : State} (r place : ℕ) → r ≡ 0 → ReadsOn bytes room at state middle (tokenBy r place) → ReadsOn bytes room at state next (Stopped place)
+  token-stops {middle} r place e one = reads-failed (Stopped place) tt (subst (ReadsOn bytes room at state middle) (token-stop r place e) one)
 
   -- a reader that failed: 0 is answered for all that was to come
-  pub reads-zero : {middle : State} (r place : ℕ) → r ≡ 0 → Reads bytes room at state middle (tokenBy r place) → Reads bytes room at state next (tokenBy 0 place)
+  pub reads-zero : {middle : State} (r place : ℕ) → r ≡ 0 → ReadsOn bytes room at state middle (tokenBy r place) → ReadsOn bytes room at state next (tokenBy 0 place)
   reads-zero r place e one =
-      subst (Reads bytes room at state next) (sym (token-stop 0 place refl)) (token-stops r place e one)
+      subst (ReadsOn bytes room at state next) (sym (token-stop 0 place refl)) (token-stops r place e one)
 
 -- it took something, or nothing that counts
 pub takes-place : {at : ℕ} (i place : ℕ) → at < i → Takes at (tokenBy i place)

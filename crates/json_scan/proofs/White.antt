@@ -1,4 +1,4 @@
--- White space in front of a token, and the first byte that is none. Assumes nothing.
+-- White space in front of a token, and the first byte that is none.
 use mathlib.Core.Path.{_≡_, sym, ap, subst, subst⁻¹, _∙_}
 use mathlib.Core.Bool.{Bool, true, false, cond}
 use mathlib.Core.List.{List}
@@ -8,30 +8,30 @@ use mathlib.Core.Logic.{⊎-elim}
 use borrow.Author.Tests.{ltb-true, ltb-false}
 use lib.Dec.{ltb}
 use lib.ListN.{length, drop, getD, List·getD-eq-default}
-use Rattle.octets.proofs.Truth.{outcome}
+use Rattle.bytes_number.proofs.Truth.{outcome}
 use Rattle.json_scan.specs.declared.Verdict.{Verdict}
 use Rattle.json_scan.specs.declared.Verdict.the-variants.{NotJson}
-use Rattle.json_scan.specs.Scan.{isWhite, Kind, Due, State, between, nowhere, to, tokenStep, betweenStep, stepOf, goOn, scan}
-use Rattle.json_scan.specs.Reads.{Came, Stopped, Reads, Begins}
+use Rattle.json_scan.specs.Scan.{isWhite, Kind, Due, State, between, nowhere, to, tokenMove, betweenMove, moveOf, goOn, scan}
+use Rattle.json_scan.specs.WorkingReads.{Came, Stopped, ReadsOn, TokenAt}
 use Rattle.json_scan.specs.declared.Token.{Token}
 use Rattle.json_scan.proofs.Leading.{endOf, end-here, end-stops, scan-passes}
 use Rattle.json_scan.proofs.Bytes.{white-none}
 use Rattle.json_scan.proofs.Scanning.{inside, scan-at, scan-over, go-on}
 use Rattle.json_scan.proofs.Reading.{reads-passes}
 
-white-stays : (due : Due) (around : List Kind) (c : ℕ) → isWhite c ≡ true → stepOf (between due) around c ≡ to (between due) around
-unfolding stepOf betweenStep
-white-stays due around c e = ap (λ (t : Bool). cond t (to (between due) around) (tokenStep due around c)) e
+white-stays : (due : Due) (around : List Kind) (c : ℕ) → isWhite c ≡ true → moveOf (between due) around c ≡ to (between due) around
+unfolding moveOf betweenMove
+white-stays due around c e = ap (λ (t : Bool). cond t (to (between due) around) (tokenMove due around c)) e
 
 -- a byte that is none begins a token
-pub token-begins : (due : Due) (around : List Kind) (c : ℕ) → isWhite c ≡ false → stepOf (between due) around c ≡ tokenStep due around c
-unfolding stepOf betweenStep
-token-begins due around c e = ap (λ (t : Bool). cond t (to (between due) around) (tokenStep due around c)) e
+pub token-begins : (due : Due) (around : List Kind) (c : ℕ) → isWhite c ≡ false → moveOf (between due) around c ≡ tokenMove due around c
+unfolding moveOf betweenMove
+token-begins due around c e = ap (λ (t : Bool). cond t (to (between due) around) (tokenMove due around c)) e
 
 -- where the white space ends that begins at a place
 pub reads-white :
-    {bytes : List ℕ} {room at i : ℕ} {due : Due} {next : State} {r : Came} → i ≡ endOf isWhite bytes at → Reads bytes room i (between due) next r → Reads bytes room at (between due) next r
-reads-white {bytes} {room} {due = due} {next = next} {r = r} end rest = reads-passes isWhite (white-stays due) (subst (λ (j : ℕ). Reads bytes room j (between due) next r) end rest)
+    {bytes : List ℕ} {room at i : ℕ} {due : Due} {next : State} {r : Came} → i ≡ endOf isWhite bytes at → ReadsOn bytes room i (between due) next r → ReadsOn bytes room at (between due) next r
+reads-white {bytes} {room} {due = due} {next = next} {r = r} end rest = reads-passes isWhite (white-stays due) (subst (λ (j : ℕ). ReadsOn bytes room j (between due) next r) end rest)
 
 module _ (bytes : List ℕ) (at i : ℕ) (end : i ≡ endOf isWhite bytes at) where
   pub white-further : at ≤ i
@@ -53,7 +53,7 @@ white-above bytes at l =
 
 -- ---- a place where a token may begin, with the byte there
 
-module _ {bytes : List ℕ} {from : ℕ} {t : Token} (b : Begins bytes from t) where
+module _ {bytes : List ℕ} {from : ℕ} {t : Token} (b : TokenAt bytes from t) where
   pub token-further : from ≤ t .at
   token-further = white-further bytes from (t .at) (b .end)
 
@@ -69,18 +69,18 @@ module _ {bytes : List ℕ} {from : ℕ} {t : Token} (b : Begins bytes from t) w
   -- the byte leads on
   pub scan-on :
       (most : ℕ) (due : Due) (around : List Kind) (state₁ : State) (around₁ : List Kind) → length around ≤ most → length around₁ ≤ most → t .at < length bytes →
-      stepOf (between due) around (t .byte) ≡ to state₁ around₁ → scan most (between due) around from (drop from bytes) ≡ scan most state₁ around₁ (t .at + 1) (drop (t .at + 1) bytes)
+      moveOf (between due) around (t .byte) ≡ to state₁ around₁ → scan most (between due) around from (drop from bytes) ≡ scan most state₁ around₁ (t .at + 1) (drop (t .at + 1) bytes)
   scan-on most due around state₁ around₁ l m h e =
       let next : State → List Kind → Verdict = λ state₂ around₂. scan most state₂ around₂ (t .at + 1) (drop (t .at + 1) bytes) in
       scan-white bytes from (t .at) (b .end) most due around l
       ∙ scan-at most (between due) around bytes (t .at) h
-      ∙ ap (λ (c : ℕ). goOn most (t .at) next (stepOf (between due) around c)) (sym (b .there))
+      ∙ ap (λ (c : ℕ). goOn most (t .at) next (moveOf (between due) around c)) (sym (b .there))
       ∙ ap (goOn most (t .at) next) e
       ∙ go-on most (t .at) next state₁ around₁ m
 
   -- it leads nowhere, or there is none
   pub scan-stuck :
-      (most : ℕ) (due : Due) (around : List Kind) → length around ≤ most → (isWhite (t .byte) ≡ false → stepOf (between due) around (t .byte) ≡ nowhere) →
+      (most : ℕ) (due : Due) (around : List Kind) → length around ≤ most → (isWhite (t .byte) ≡ false → moveOf (between due) around (t .byte) ≡ nowhere) →
       scan most (between due) around from (drop from bytes) ≡ NotJson (t .at)
   scan-stuck most due around l e =
       scan-white bytes from (t .at) (b .end) most due around l
@@ -89,17 +89,17 @@ module _ {bytes : List ℕ} {from : ℕ} {t : Token} (b : Begins bytes from t) w
       here : t .at < length bytes → scan most (between due) around (t .at) (drop (t .at) bytes) ≡ NotJson (t .at)
       here m =
           scan-at most (between due) around bytes (t .at) m
-          ∙ ap (goOn most (t .at) (λ state₂ around₂. scan most state₂ around₂ (t .at + 1) (drop (t .at + 1) bytes))) (ap (stepOf (between due) around) (sym (b .there)) ∙ e (token-dark m))
+          ∙ ap (goOn most (t .at) (λ state₂ around₂. scan most state₂ around₂ (t .at + 1) (drop (t .at + 1) bytes))) (ap (moveOf (between due) around) (sym (b .there)) ∙ e (token-dark m))
 
   -- the same of a reader: the rest is read from there
   pub token-on :
-      {room : ℕ} {due : Due} {next : State} {r : Came} (state₁ : State) → (t .byte ≡ 0 → ⊥) → ((around : List Kind) → stepOf (between due) around (t .byte) ≡ to state₁ around) →
-      Reads bytes room (t .at + 1) state₁ next r → Reads bytes room from (between due) next r
+      {room : ℕ} {due : Due} {next : State} {r : Came} (state₁ : State) → (t .byte ≡ 0 → ⊥) → ((around : List Kind) → moveOf (between due) around (t .byte) ≡ to state₁ around) →
+      ReadsOn bytes room (t .at + 1) state₁ next r → ReadsOn bytes room from (between due) next r
   token-on {room} {due} state₁ f e rest =
       record {
         same = λ around. scan-on (length around + room) due around state₁ around (omega arith) (omega arith) (token-there f) (e around) ∙ rest .same around;
         onward = omega (arith, token-further, rest .onward);
       }
 
-  pub token-stuck : {room : ℕ} {due : Due} {next : State} → (isWhite (t .byte) ≡ false → (around : List Kind) → stepOf (between due) around (t .byte) ≡ nowhere) → Reads bytes room from (between due) next (Stopped (t .at))
+  pub token-stuck : {room : ℕ} {due : Due} {next : State} → (isWhite (t .byte) ≡ false → (around : List Kind) → moveOf (between due) around (t .byte) ≡ nowhere) → ReadsOn bytes room from (between due) next (Stopped (t .at))
   token-stuck {room} {due} e = record { same = λ around. scan-stuck (length around + room) due around (omega arith) (λ dark. e dark around); onward = token-further }

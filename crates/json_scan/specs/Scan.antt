@@ -1,5 +1,5 @@
 -- What a payload comes to, read one byte after another: where the reading stands, and what is open around it. The definition of the check's promise; that
--- its yes is RFC 7159's and its places are the grammar's is claimed in claims/specs/Json.antt. Assumes nothing.
+-- its yes is RFC 7159's and its places are the grammar's is claimed in claim_json/specs/Json.antt.
 use mathlib.Core.Bool.{Bool, true, false, cond, _&&_, _||_}
 use mathlib.Core.List.{List, [], _∷_}
 use Prim.Native.Nat.{ℕ, _+_}
@@ -26,8 +26,8 @@ isE c = eqb c 101 || eqb c 69
 abbrev pub isSign : ℕ → Bool
 isSign c = eqb c 45 || eqb c 43
 
-unfoldable pub isHex : ℕ → Bool
-isHex c = isDigit c || isWithin 65 70 c || isWithin 97 102 c
+unfoldable pub isHexDigit : ℕ → Bool
+isHexDigit c = isDigit c || isWithin 65 70 c || isWithin 97 102 c
 
 -- an escape of one byte behind the backslash
 unfoldable pub isEscape : ℕ → Bool
@@ -46,7 +46,7 @@ pub data Class : Type 0 where
 
 unfoldable pub holds : Class → ℕ → Bool
 holds (exactly x) c = eqb c x
-holds hex c = isHex c
+holds hex c = isHexDigit c
 holds tail c = isWithin 128 191 c
 holds tailE0 c = isWithin 160 191 c
 holds tailED c = isWithin 128 159 c
@@ -110,12 +110,12 @@ pub data State : Type 0 where
   ended : State
 
 -- a byte leads on, with what is then around, or it leads nowhere
-pub data Step : Type 0 where
-  nowhere : Step
-  to : State → List Kind → Step
+pub data Move : Type 0 where
+  nowhere : Move
+  to : State → List Kind → Move
 
 -- the first byte of a value
-unfoldable pub valueStep : List Kind → ℕ → Step
+unfoldable pub valueStep : List Kind → ℕ → Move
 valueStep around c =
     cond (eqb c 34) (to (text behind) around)
     (cond (eqb c 123) (to (between firstName) (inObject ∷ around))
@@ -129,58 +129,58 @@ valueStep around c =
     nowhere))))))))
 
 -- the quotation mark of a name
-abbrev pub nameStep : List Kind → ℕ → Step
+abbrev pub nameStep : List Kind → ℕ → Move
 nameStep around c = cond (eqb c 34) (to (text colon) around) nowhere
 
 -- behind a value
-unfoldable pub behindStep : List Kind → ℕ → Step
+unfoldable pub behindStep : List Kind → ℕ → Move
 behindStep [] c = cond (eqb c 0) (to ended []) nowhere
 behindStep (inObject ∷ around) c = cond (eqb c 44) (to (between name) (inObject ∷ around)) (cond (eqb c 125) (to (between behind) around) nowhere)
 behindStep (inArray ∷ around) c = cond (eqb c 44) (to (between value) (inArray ∷ around)) (cond (eqb c 93) (to (between behind) around) nowhere)
 
 -- a byte that is no white space, where a token is due
-unfoldable pub tokenStep : Due → List Kind → ℕ → Step
-tokenStep outer around c = cond (eqb c 123) (to (between firstName) (inObject ∷ [])) nowhere
-tokenStep firstName around c = cond (eqb c 125) (behindStep around c) (nameStep around c)
-tokenStep firstValue around c = cond (eqb c 93) (behindStep around c) (valueStep around c)
-tokenStep name around c = nameStep around c
-tokenStep colon around c = cond (eqb c 58) (to (between value) around) nowhere
-tokenStep value around c = valueStep around c
-tokenStep behind around c = behindStep around c
+unfoldable pub tokenMove : Due → List Kind → ℕ → Move
+tokenMove outer around c = cond (eqb c 123) (to (between firstName) (inObject ∷ [])) nowhere
+tokenMove firstName around c = cond (eqb c 125) (behindStep around c) (nameStep around c)
+tokenMove firstValue around c = cond (eqb c 93) (behindStep around c) (valueStep around c)
+tokenMove name around c = nameStep around c
+tokenMove colon around c = cond (eqb c 58) (to (between value) around) nowhere
+tokenMove value around c = valueStep around c
+tokenMove behind around c = behindStep around c
 
-unfoldable pub betweenStep : Due → List Kind → ℕ → Step
-betweenStep due around c = cond (isWhite c) (to (between due) around) (tokenStep due around c)
+unfoldable pub betweenMove : Due → List Kind → ℕ → Move
+betweenMove due around c = cond (isWhite c) (to (between due) around) (tokenMove due around c)
 
 -- "A number's end is seen at the byte behind it"
-unfoldable pub numberStep : Figure → List Kind → ℕ → Step
-numberStep minus around c = cond (eqb c 48) (to (number leadingZero) around) (cond (isDigit c) (to (number whole) around) nowhere)
-numberStep leadingZero around c =
-    cond (eqb c 46) (to (number point) around) (cond (isE c) (to (number exponent) around) (betweenStep behind around c))
-numberStep whole around c =
+unfoldable pub numberMove : Figure → List Kind → ℕ → Move
+numberMove minus around c = cond (eqb c 48) (to (number leadingZero) around) (cond (isDigit c) (to (number whole) around) nowhere)
+numberMove leadingZero around c =
+    cond (eqb c 46) (to (number point) around) (cond (isE c) (to (number exponent) around) (betweenMove behind around c))
+numberMove whole around c =
     cond (isDigit c) (to (number whole) around)
-    (cond (eqb c 46) (to (number point) around) (cond (isE c) (to (number exponent) around) (betweenStep behind around c)))
-numberStep point around c = cond (isDigit c) (to (number fraction) around) nowhere
-numberStep fraction around c =
-    cond (isDigit c) (to (number fraction) around) (cond (isE c) (to (number exponent) around) (betweenStep behind around c))
-numberStep exponent around c = cond (isSign c) (to (number sign) around) (cond (isDigit c) (to (number power) around) nowhere)
-numberStep sign around c = cond (isDigit c) (to (number power) around) nowhere
-numberStep power around c = cond (isDigit c) (to (number power) around) (betweenStep behind around c)
+    (cond (eqb c 46) (to (number point) around) (cond (isE c) (to (number exponent) around) (betweenMove behind around c)))
+numberMove point around c = cond (isDigit c) (to (number fraction) around) nowhere
+numberMove fraction around c =
+    cond (isDigit c) (to (number fraction) around) (cond (isE c) (to (number exponent) around) (betweenMove behind around c))
+numberMove exponent around c = cond (isSign c) (to (number sign) around) (cond (isDigit c) (to (number power) around) nowhere)
+numberMove sign around c = cond (isDigit c) (to (number power) around) nowhere
+numberMove power around c = cond (isDigit c) (to (number power) around) (betweenMove behind around c)
 
 -- what is still to come behind a first byte, if that is one
-abbrev pub tailStep : List Class → State → List Kind → Step
-tailStep [] next around = nowhere
-tailStep (k ∷ ks) next around = to (rest k ks next) around
+abbrev pub tailMove : List Class → State → List Kind → Move
+tailMove [] next around = nowhere
+tailMove (k ∷ ks) next around = to (rest k ks next) around
 
-unfoldable pub textStep : Due → List Kind → ℕ → Step
-textStep due around c =
+unfoldable pub textMove : Due → List Kind → ℕ → Move
+textMove due around c =
     cond (eqb c 34) (to (between due) around)
     (cond (eqb c 92) (to (escape due) around)
     (cond (isWithin 32 127 c) (to (text due) around)
-    (tailStep (tailsOf c) (text due) around)))
+    (tailMove (tailsOf c) (text due) around)))
 
 -- "`\u` takes hex digits of either case"
-unfoldable pub escapeStep : Due → List Kind → ℕ → Step
-escapeStep due around c =
+unfoldable pub escapeMove : Due → List Kind → ℕ → Move
+escapeMove due around c =
     cond (isEscape c) (to (text due) around) (cond (eqb c 117) (to (rest hex (hex ∷ hex ∷ hex ∷ []) (text due)) around) nowhere)
 
 -- where it stands when these are still to come
@@ -188,17 +188,17 @@ abbrev pub remaining : List Class → State → State
 remaining [] next = next
 remaining (k ∷ ks) next = rest k ks next
 
-unfoldable pub restStep : Class → List Class → State → List Kind → ℕ → Step
-restStep k ks next around c = cond (holds k c) (to (remaining ks next) around) nowhere
+unfoldable pub restMove : Class → List Class → State → List Kind → ℕ → Move
+restMove k ks next around c = cond (holds k c) (to (remaining ks next) around) nowhere
 
 -- one byte
-unfoldable pub stepOf : State → List Kind → ℕ → Step
-stepOf (between due) around c = betweenStep due around c
-stepOf (number figure) around c = numberStep figure around c
-stepOf (text due) around c = textStep due around c
-stepOf (escape due) around c = escapeStep due around c
-stepOf (rest k ks next) around c = restStep k ks next around c
-stepOf ended around c = nowhere
+unfoldable pub moveOf : State → List Kind → ℕ → Move
+moveOf (between due) around c = betweenMove due around c
+moveOf (number figure) around c = numberMove figure around c
+moveOf (text due) around c = textMove due around c
+moveOf (escape due) around c = escapeMove due around c
+moveOf (rest k ks next) around c = restMove k ks next around c
+moveOf ended around c = nowhere
 
 -- ---- a whole payload
 
@@ -211,18 +211,18 @@ isEnded (rest k ks next) = false
 isEnded ended = true
 
 -- "deeper is 26, whatever follows"; a byte that leads nowhere is the place of a no
-abbrev pub goOn : ℕ → ℕ → (State → List Kind → Verdict) → Step → Verdict
+abbrev pub goOn : ℕ → ℕ → (State → List Kind → Verdict) → Move → Verdict
 goOn most at next nowhere = NotJson at
 goOn most at next (to state around) = cond (ltb most (length around)) (TooDeep at) (next state around)
 
 -- the bytes from a place on: "or the length if it stops early"
 unfoldable pub scan : ℕ → State → List Kind → ℕ → List ℕ → Verdict
 scan most state around at [] = cond (isEnded state) Json (NotJson at)
-scan most state around at (c ∷ cs) = goOn most at (λ state₁ open₁. scan most state₁ open₁ (at + 1) cs) (stepOf state around c)
+scan most state around at (c ∷ cs) = goOn most at (λ state₁ open₁. scan most state₁ open₁ (at + 1) cs) (moveOf state around c)
 
 -- a payload: "at most 32 deep with the outer object as 1"
-abbrev pub deepest : ℕ
-deepest = 32
+abbrev pub depthLimit : ℕ
+depthLimit = 32
 
-unfoldable pub judged : List ℕ → Verdict
-judged payload = scan deepest (between outer) [] 0 payload
+unfoldable pub verdictOf : List ℕ → Verdict
+verdictOf payload = scan depthLimit (between outer) [] 0 payload

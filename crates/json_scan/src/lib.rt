@@ -1,9 +1,10 @@
 // A payload read one byte after another: what it comes to, and how far a reader of one of its tokens came.
+use bytes_number::byte_at;
 ghost use mathlib.Core.Path.{_≡_};
 ghost use Prim.Native.Nat.{_+_};
-ghost use lib.ListN.{drop, getD};
+ghost use lib.ListN.{drop};
 ghost use Rattle.json_scan.specs.Scan.{isWhite, isDigit};
-ghost use Rattle.json_scan.specs.Reads.{leading, settledAs, placeLeft, Begins};
+ghost use Rattle.json_scan.specs.WorkingReads.{leading, settledAs, placeLeft, TokenAt};
 
 // Whether a payload is JSON; if not, the first byte at which no continuation is allowed, or the opening byte of the level that is one too deep.
 pub enum Verdict {
@@ -31,13 +32,6 @@ pub fn settle(reached: Reached, place: &mut usize) -> usize
             0
         }
     }
-}
-
-// The byte at a place, and behind the end a zero: neither goes on within an object.
-pub fn byte_at(bytes: &[u8], at: usize) -> u8
-    ensures { λ r. ⌜ r ≡ getD (now (bytes .entry)) at 0 ⌝ }
-{
-    if at < bytes.len() { bytes[at] } else { 0 }
 }
 
 fn is_white(c: u8) -> bool
@@ -94,7 +88,7 @@ pub struct Token {
 
 // The first place from `at` on that has no white space. Mostly that is `at` itself.
 pub fn token_at(bytes: &[u8], at: usize) -> Token
-    ensures { λ r. ⌜ Begins (now (bytes .entry)) at r ⌝ }
+    ensures { λ r. ⌜ TokenAt (now (bytes .entry)) at r ⌝ }
 {
     let byte = byte_at(bytes, at);
     if byte > b' ' {

@@ -1,19 +1,19 @@
 // The library that a C program links. Every call takes numbers and byte slices, returns 0 or the refusal's number, and lists its
 // answer as a row of four-byte numbers in a lent slice. include/lampreycoil.h declares them for C.
 ghost use mathlib.Core.Path.{_≡_};
-ghost use Rattle.message.specs.Writing.{givenMessage};
-ghost use Rattle.services.specs.Services;
-ghost use Rattle.identities.specs.Identities;
-ghost use Rattle.routing.specs.Routed.{tablesOf};
-ghost use Rattle.calls.specs.JsonCalls.{ChecksJson};
-ghost use Rattle.calls.specs.Calls.{returned, Reads, headerOf, Writes, ReadsStream, ChecksTree, hostBroker, Steps, Plays};
+ghost use Rattle.frame_message.specs.Writing.{givenMessage};
+ghost use Rattle.table_services.specs.Services;
+ghost use Rattle.table_identities.specs.Identities;
+ghost use Rattle.step_routing.specs.Routed.{tablesOf};
+ghost use Rattle.call_specs.specs.JsonCalls.{ChecksJson};
+ghost use Rattle.call_specs.specs.Calls.{returned, Reads, headerOf, Writes, ReadsStream, ChecksTree, hostBroker, Steps, Plays};
 
 // Reads the frame at the front of bytes, and lists where its parts lie.
 #[no_mangle]
 pub extern "C" fn lampreycoil_read(bytes: &[u8], row: &mut [u8]) -> u32
     ensures { λ r. ⌜ Reads (now (bytes .entry)) (now (row .entry)) r (now (row .exit)) ⌝ }
 {
-    frame_calls::read(bytes, row)
+    call_frame::read(bytes, row)
 }
 
 // Writes a message's frame to the front of out, and lists its length. The header's fields come one by one, in the header's order.
@@ -33,7 +33,7 @@ pub extern "C" fn lampreycoil_write(
 ) -> u32
     ensures { λ r. ⌜ Writes (givenMessage (headerOf kind flags userid rolemask first second) (now (routes .entry)) (now (topic .entry)) (now (payload .entry))) (now (out .entry)) (now (row .entry)) r (now (out .exit)) (now (row .exit)) ⌝ }
 {
-    frame_calls::write(
+    call_frame::write(
         kind,
         flags,
         userid,
@@ -53,7 +53,7 @@ pub extern "C" fn lampreycoil_write(
 pub extern "C" fn lampreycoil_read_stream(bytes: &[u8], list: &mut [u8], row: &mut [u8]) -> u32
     ensures { λ r. ⌜ ReadsStream (now (bytes .entry)) (now (list .entry)) (now (row .entry)) r (now (list .exit)) (now (row .exit)) ⌝ }
 {
-    stream_calls::read_stream(bytes, list, row)
+    call_stream::read_stream(bytes, list, row)
 }
 
 // Checks a tree, writes one depth byte a rank to the front of depths, and lists how many they are.
@@ -61,23 +61,23 @@ pub extern "C" fn lampreycoil_read_stream(bytes: &[u8], list: &mut [u8], row: &m
 pub extern "C" fn lampreycoil_check_tree(tree: &[u8], depths: &mut [u8], row: &mut [u8]) -> u32
     ensures { λ r. ⌜ ChecksTree (now (tree .entry)) (now (depths .entry)) (now (row .entry)) r (now (depths .exit)) (now (row .exit)) ⌝ }
 {
-    table_calls::check_tree(tree, depths, row)
+    call_table::check_tree(tree, depths, row)
 }
 
 // Checks the services of a tree.
 #[no_mangle]
 pub extern "C" fn lampreycoil_check_services(tree: &[u8], services: &[u8]) -> u32
-    ensures { λ r. ⌜ r ≡ returned (Services.checkOf (now (tree .entry)) (now (services .entry))) ⌝ }
+    ensures { λ r. ⌜ r ≡ returned (Services.servicesCheck (now (tree .entry)) (now (services .entry))) ⌝ }
 {
-    table_calls::check_services(tree, services)
+    call_table::check_services(tree, services)
 }
 
 // Checks the identities of a tree's ranks.
 #[no_mangle]
 pub extern "C" fn lampreycoil_check_identities(tree: &[u8], identities: &[u8]) -> u32
-    ensures { λ r. ⌜ r ≡ returned (Identities.checkOf (now (tree .entry)) (now (identities .entry))) ⌝ }
+    ensures { λ r. ⌜ r ≡ returned (Identities.identitiesCheck (now (tree .entry)) (now (identities .entry))) ⌝ }
 {
-    table_calls::check_identities(tree, identities)
+    call_table::check_identities(tree, identities)
 }
 
 // Makes one broker's step with the frame at the front of buffer, and lists what came of it.
@@ -93,7 +93,7 @@ pub extern "C" fn lampreycoil_step(
 ) -> u32
     ensures { λ r. ⌜ Steps (tablesOf (now (tree .entry)) (now (services .entry)) (now (identities .entry))) (hostBroker rank «from_client») (now (buffer .entry)) (now (row .entry)) r (now (buffer .exit)) (now (row .exit)) ⌝ }
 {
-    route_calls::steps::step(tree, services, identities, rank, from_client, buffer, row)
+    call_step::steps::step(tree, services, identities, rank, from_client, buffer, row)
 }
 
 // Plays a walk that begins at a rank with the frame at the front of buffer, and lists what it came to, a refusal too.
@@ -108,7 +108,7 @@ pub extern "C" fn lampreycoil_walk(
 ) -> u32
     ensures { λ r. ⌜ Plays (tablesOf (now (tree .entry)) (now (services .entry)) (now (identities .entry))) (hostBroker rank 1) (now (buffer .entry)) (now (row .entry)) r (now (buffer .exit)) (now (row .exit)) ⌝ }
 {
-    route_calls::walks::walk(tree, services, identities, rank, buffer, row)
+    call_step::walks::walk(tree, services, identities, rank, buffer, row)
 }
 
 // Says whether a payload is JSON, and lists the answer and the byte that tells against it.
@@ -116,5 +116,5 @@ pub extern "C" fn lampreycoil_walk(
 pub extern "C" fn lampreycoil_check_json(payload: &[u8], row: &mut [u8]) -> u32
     ensures { λ r. ⌜ ChecksJson (now (payload .entry)) (now (row .entry)) r (now (row .exit)) ⌝ }
 {
-    json_calls::check_json(payload, row)
+    call_json::check_json(payload, row)
 }

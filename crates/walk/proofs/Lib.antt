@@ -1,3 +1,4 @@
 -- The laws of the walk.
+pub mod Resting
 pub mod Walking
 pub mod Running

@@ -1,5 +1,4 @@
 -- A run of steps is a walk, and a walk is a run: 65 steps are enough for whatever the buffer holds.
--- Assumes nothing.
 use mathlib.Core.Path.{_≡_, refl, sym, ap, _∙_, subst, subst⁻¹}
 use mathlib.Core.Bool.{false}
 use mathlib.Core.Logic.{_⊎_, ⊎-elim}
@@ -7,22 +6,22 @@ use Prim.Native.Nat.{ℕ, zero, suc, _+_, _-_, _<_, _≤_}
 use mathlib.Core.List.{List, [], _∷_}
 use native.Mathlib.Omega.{arith}
 use lib.ListN.{length, getD, drop}
-use Rattle.octets.proofs.Truth.{true-false}
-use Rattle.octets.specs.Number.{Bytes}
-use Rattle.message.specs.Answer.{Answer, refused, answered}
-use Rattle.message.specs.Message.{Message}
-use Rattle.message.specs.Frame.{frameOf}
-use Rattle.message.specs.Reading.{readingOf, final}
-use Rattle.message.proofs.Answers.{answered-same}
-use Rattle.message.proofs.Forms.{routes-few}
-use Rattle.identities.specs.Identities.{identityAt}
-use Rattle.rewrite.specs.Renewed.{cleared}
-use Rattle.routing.specs.declared.Broker.{Broker}
-use Rattle.routing.specs.Routed.{Tables, Outcome, delivered, forwarded, replied, silenced, home}
-use Rattle.broker.specs.Step.{stepOf, leftBy}
-use Rattle.broker.proofs.Passing.{step-took}
-use Rattle.broker.proofs.Keeping.{Sound, sound-read, read-cleared, passes, pushed-few}
-use Rattle.broker.proofs.Forwarding.{PushedOn, PoppedOn, goes-on, on-sound}
+use Rattle.bytes_number.proofs.Truth.{true-false}
+use Rattle.bytes_number.specs.Number.{Bytes}
+use Rattle.refusal.specs.Answer.{Answer, refused, answered}
+use Rattle.frame_message.specs.Message.{Message}
+use Rattle.frame_message.specs.Frame.{frameOf}
+use Rattle.frame_message.specs.Reading.{readingOf, final}
+use Rattle.refusal.proofs.Answers.{answered-same}
+use Rattle.frame_message.proofs.Forms.{routes-few}
+use Rattle.table_identities.specs.Identities.{identityAt}
+use Rattle.frame_rewrite.specs.Renewed.{cleared}
+use Rattle.step_routing.specs.declared.Broker.{Broker}
+use Rattle.step_routing.specs.Routed.{Tables, Outcome, delivered, forwarded, replied, silenced, home}
+use Rattle.step_pass.specs.Step.{stepOf, leftBy}
+use Rattle.step_pass.proofs.Passing.{step-took}
+use Rattle.step_pass.proofs.Keeping.{Sound, sound-read, read-cleared, passes, pushed-few}
+use Rattle.step_pass.proofs.Forwarding.{PushedOn, PoppedOn, goes-on, on-sound}
 use Rattle.walk.specs.Walk.{Walk, onward, restsAt, afterStep, walkFrom}
 use Rattle.walk.specs.Runs.{isForward, Run, rests, goes, IsRun}
 use Rattle.walk.proofs.Walking.{walk-turn}

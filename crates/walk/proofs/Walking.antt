@@ -1,22 +1,21 @@
 -- A turn of the walk, and that a walk on valid tables is a step and passes behind it.
--- Assumes nothing.
 use mathlib.Core.Path.{_≡_, refl, ap, _∙_}
 use Prim.Native.Nat.{ℕ, zero, suc, _+_, _-_, _<_, _≤_}
 use mathlib.Core.List.{List}
 use native.Mathlib.Omega.{arith}
 use borrow.Author.Tests.{lt-ltb, le-ltb}
 use lib.ListN.{length}
-use Rattle.message.specs.declared.Refusal.the-variants.{ShortOutput}
-use Rattle.message.specs.Answer.{Answer, refused, answered}
-use Rattle.routing.specs.declared.Broker.{Broker}
-use Rattle.routing.specs.Routed.{Tables, Outcome, delivered, forwarded, replied, silenced, home}
-use Rattle.sending.specs.declared.Stepped.{Stepped}
-use Rattle.sending.specs.declared.Stepped.the-variants.{Forwarded}
-use Rattle.broker.specs.Step.{ValidTables, passOf, stepOf, leftAfter, toldAs}
-use Rattle.broker.proofs.Passing.{step-pass, step-took}
-use Rattle.onward.specs.Onward.{Walk, onward, restsAt, afterStep}
-use Rattle.onward.specs.Passes.{passesFrom}
-use Rattle.onward.proofs.Resting.{told-on}
+use Rattle.refusal.specs.declared.Refusal.the-variants.{OutputShort}
+use Rattle.refusal.specs.Answer.{Answer, refused, answered}
+use Rattle.step_routing.specs.declared.Broker.{Broker}
+use Rattle.step_routing.specs.Routed.{Tables, Outcome, delivered, forwarded, replied, silenced, home, ValidTables}
+use Rattle.step_routing.specs.declared.Stepped.{Stepped}
+use Rattle.step_routing.specs.declared.Stepped.the-variants.{Forwarded}
+use Rattle.step_pass.specs.Step.{passOf, stepOf, leftAfter, toldAs}
+use Rattle.step_pass.proofs.Passing.{step-pass, step-took}
+use Rattle.walk.specs.Onward.{Walk, onward, restsAt, afterStep}
+use Rattle.walk.specs.WorkingPasses.{passesFrom}
+use Rattle.walk.proofs.Resting.{told-on}
 use Rattle.walk.specs.Walk.{walkFrom, walkOf}
 
 -- ---- a turn of the walk
@@ -31,7 +30,7 @@ module _ (t : Tables) (who : Broker) (links : ℕ) (buffer : List ℕ) where
       less n = omega arith
 
 module _ (t : Tables) (who : Broker) (buffer : List ℕ) where
-  pub walk-short : length buffer < 32776 → walkOf t who buffer ≡ restsAt (refused ShortOutput) who 0 buffer
+  pub walk-short : length buffer < 32776 → walkOf t who buffer ≡ restsAt (refused OutputShort) who 0 buffer
   unfolding walkOf
   walk-short h = rw (lt-ltb (length buffer) 32776 h)
 

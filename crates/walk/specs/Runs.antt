@@ -1,16 +1,16 @@
 -- Steps called one after another, however many they are: "The brokers that a walk visits are the rank it begins at, then the rank that each answer 2 names,
--- in order. Each step gets its broker's rank and the buffer which the step before left". Assumes nothing.
+-- in order. Each step gets its broker's rank and the buffer which the step before left".
 use mathlib.Core.Path.{_≡_}
 use mathlib.Core.Bool.{Bool, true, false}
 use Prim.Native.Nat.{ℕ, _-_}
 use mathlib.Core.List.{List, [], _∷_}
 use lib.ListN.{length}
-use Rattle.message.specs.Answer.{Answer, refused, answered}
-use Rattle.message.specs.Message.{Message}
-use Rattle.message.specs.Reading.{final}
-use Rattle.routing.specs.declared.Broker.{Broker}
-use Rattle.routing.specs.Routed.{Tables, Outcome, delivered, forwarded, replied, silenced, home}
-use Rattle.broker.specs.Step.{stepOf, leftAfter, leftBy}
+use Rattle.refusal.specs.Answer.{Answer, refused, answered}
+use Rattle.frame_message.specs.Message.{Message}
+use Rattle.frame_message.specs.Reading.{final}
+use Rattle.step_routing.specs.declared.Broker.{Broker}
+use Rattle.step_routing.specs.Routed.{Tables, Outcome, delivered, forwarded, replied, silenced, home}
+use Rattle.step_pass.specs.Step.{stepOf, leftAfter, leftBy}
 use Rattle.walk.specs.Walk.{onward, Walk}
 
 -- answer 2

@@ -1,22 +1,22 @@
 -- "A walk repeats steps, the first as from a local client, the others not, until an answer other than 2 or a refusal. It reports that answer, the rank
 -- and the links crossed; its buffer is what the steps in turn leave." What comes of one step (`Walk`, `onward`, `restsAt`, `afterStep`, `Walks`) is
--- said in onward/specs/Onward.antt, and passed on here. Assumes nothing.
+-- said in walk/specs/Onward.antt, and passed on here.
 use Prim.Native.Nat.{ℕ, zero, suc}
 use mathlib.Core.Bool.{cond}
 use mathlib.Core.List.{List}
 use lib.Dec.{ltb}
 use lib.ListN.{length}
-use Rattle.message.specs.declared.Refusal.the-variants.{ShortOutput, NoForwarding}
-use Rattle.message.specs.Answer.{refused}
-use Rattle.routing.specs.declared.Broker.{Broker}
-use Rattle.routing.specs.Routed.{Tables}
-use Rattle.broker.specs.Step.{stepOf}
-pub use Rattle.onward.specs.Onward.{Walk, onward, restsAt, afterStep, Walks}
+use Rattle.refusal.specs.declared.Refusal.the-variants.{OutputShort, ForwardLong}
+use Rattle.refusal.specs.Answer.{refused}
+use Rattle.step_routing.specs.declared.Broker.{Broker}
+use Rattle.step_routing.specs.Routed.{Tables}
+use Rattle.step_pass.specs.Step.{stepOf}
+pub use Rattle.walk.specs.Onward.{Walk, onward, restsAt, afterStep, Walks}
 
 -- so many steps at the most, from a broker that has the buffer, with so many links behind it. A walk never comes to the end of its steps: the law
 -- `walk-settles` (proofs/Running.antt) says that 65 are enough for whatever the buffer holds.
 unfoldable pub walkFrom : ℕ → Tables → Broker → ℕ → List ℕ → Walk
-walkFrom zero t b links buffer = restsAt (refused NoForwarding) b links buffer
+walkFrom zero t b links buffer = restsAt (refused ForwardLong) b links buffer
 walkFrom (suc n) t b links buffer = afterStep (walkFrom n t) b links buffer (stepOf t b buffer)
 
 -- "A walk is refused first with 11 if its buffer is below 32,776 bytes."
@@ -29,4 +29,4 @@ mostSteps = 65
 
 -- the whole walk, begun by a broker that has the message from a local client
 unfoldable pub walkOf : Tables → Broker → List ℕ → Walk
-walkOf t b buffer = cond (ltb (length buffer) leastBuffer) (restsAt (refused ShortOutput) b 0 buffer) (walkFrom mostSteps t b 0 buffer)
+walkOf t b buffer = cond (ltb (length buffer) leastBuffer) (restsAt (refused OutputShort) b 0 buffer) (walkFrom mostSteps t b 0 buffer)

@@ -1,10 +1,18 @@
 // A walk through the tables: steps one after another, until a broker does something else with the message than forward it.
-use message::Refusal;
-use onward::Walked;
-use routing::Broker;
-use sending::Stepped;
-ghost use Rattle.routing.specs.Routed.{tablesOf};
+use refusal::Refusal;
+use step_routing::Broker;
+use step_routing::Stepped;
+ghost use Rattle.step_routing.specs.Routed.{tablesOf};
 ghost use Rattle.walk.specs.Walk.{walkOf, Walks};
+
+mod passes;
+
+// What a walk comes to: the last step's answer or refusal, the rank of the broker that made it, and the links crossed.
+pub struct Walked {
+    pub step: Stepped,
+    pub rank: u32,
+    pub links: u32,
+}
 
 // The least that a walk's buffer has: the longest frame.
 const LEAST: usize = 32776;
@@ -15,14 +23,14 @@ pub fn walk(tree: &[u8], services: &[u8], identities: &[u8], b: Broker, buffer: 
 {
     if buffer.len() < LEAST {
         return Walked {
-            step: Stepped::Refused(Refusal::ShortOutput),
+            step: Stepped::Refused(Refusal::OutputShort),
             rank: b.rank,
             links: 0,
         };
     }
-    let stepped = floor_step::step(tree, services, identities, b, buffer);
+    let stepped = step::step(tree, services, identities, b, buffer);
     if let Stepped::Forwarded(next) = stepped {
-        onward::go_on(tree, services, identities, next, b, buffer)
+        passes::go_on(tree, services, identities, next, b, buffer)
     } else {
         Walked {
             step: stepped,

@@ -1,5 +1,4 @@
 -- `examples::show_frame` is safe: the part that is printed has as many bytes as were asked for.
--- Assumes nothing.
 use native.Mathlib.Omega.{arith}
 use mathlib.Core.Path.{sym}
 use lib.Seq.{length-take-le}

@@ -1,5 +1,4 @@
 -- `json_number::exponent_end` meets its contract.
--- Assumes nothing.
 use mathlib.Core.Path.{refl, sym, _∙_}
 use native.Mathlib.Omega.{arith}
 use Rattle.json_scan.specs.Scan.{number, sign}

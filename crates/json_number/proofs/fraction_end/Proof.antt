@@ -1,12 +1,11 @@
 -- `json_number::fraction_end` meets its contract.
--- Assumes nothing.
 use mathlib.Core.Path.{_≡_, refl, subst⁻¹}
 use Prim.Native.Nat.{ℕ, _+_}
 use native.Mathlib.Omega.{arith}
 use lib.ListN.{getD}
-use Rattle.json_scan.specs.Reads.{Behind, Reads}
+use Rattle.json_scan.specs.WorkingReads.{Behind, ReadsOn}
 use Rattle.json_scan.proofs.Leading.{endOf, end-stops}
-use Rattle.json_number.specs.Figures.{MayEnd}
+use Rattle.json_number.specs.WorkingFigures.{MayEnd}
 use Rattle.json_scan.specs.Scan.{isDigit, between, number, behind, leadingZero, point, fraction}
 use Rattle.json_scan.proofs.Reading.{reads-none, reads-more, reads-then, reads-alike}
 use Rattle.json_number.proofs.Steps.{zero-point, zero-ends, point-digit, point-wrong, fraction-digit, fraction-ends}
@@ -51,7 +50,7 @@ returns-4 c = let d = c .before .before .digits-end in
     let some : endOf isDigit bytes from ≡ from → ⊥ = λ e. omega (arith, end, e) in
     let may : MayEnd fraction bytes (d .result) = subst⁻¹ (MayEnd fraction bytes) end (fraction-ends bytes (endOf isDigit bytes from) (end-stops isDigit bytes from)) in
     λ room. reads-more (number point) (omega arith) (λ around. zero-point around _ (omega arith))
-    (reads-then (subst⁻¹ (λ (j : ℕ). Reads bytes room from (number point) (number fraction) (Behind j)) end (digits-some from point-digit fraction-digit some)) (c .scale-end2 .ensures fraction may room))
+    (reads-then (subst⁻¹ (λ (j : ℕ). ReadsOn bytes room from (number point) (number fraction) (Behind j)) end (digits-some from point-digit fraction-digit some)) (c .scale-end2 .ensures fraction may room))
 
 pub fraction-end-spec : {M : Type 1} → statement M
 fraction-end-spec =

@@ -1,5 +1,4 @@
 -- `json_number::number_end` meets its contract.
--- Assumes nothing.
 use borrow.Author.Needs.{needs}
 use mathlib.Core.Path.{refl, sym, subst, subst⁻¹, _∙_}
 use mathlib.Core.Bool.{Bool, true, false, cond}
@@ -9,7 +8,7 @@ use lib.ListN.{getD}
 use native.Mathlib.Omega.{arith}
 use borrow.Author.Tests.{not-true, not-false}
 use Rattle.json_scan.specs.Scan.{between, number, behind, leadingZero}
-use Rattle.json_scan.specs.Reads.{came, Reads}
+use Rattle.json_scan.specs.WorkingReads.{came, ReadsOn}
 use Rattle.json_scan.proofs.Reading.{reads-wrong, reads-over, takes-from}
 use Rattle.json_number.proofs.Steps.{minus-wrong}
 use Rattle.json_number.proofs.Digits.{int-reads}
@@ -44,7 +43,7 @@ returns-3 c = let digit = c .before .before .before in
     let start = digit .before .before .before .before in
     let bytes = start .args .bytes .now in (
       λ room. int-reads (start .args .at) (omega arith) (sym (digit .is-digit .ensures) ∙ not-false (digit .is-digit .result) (c .before .before .if2 .left))
-          (subst (λ (j : ℕ). Reads bytes room j (number leadingZero) (between behind) (came (c .fraction-end .result))) (c .before .int-end .ensures) (c .fraction-end .ensures room)),
+          (subst (λ (j : ℕ). ReadsOn bytes room j (number leadingZero) (between behind) (came (c .fraction-end .result))) (c .before .int-end .ensures) (c .fraction-end .ensures room)),
       takes-from (c .before .int-end .result) (came (c .fraction-end .result)) (subst⁻¹ (λ (j : ℕ). start .args .at < j) (c .before .int-end .ensures) (one-further (eqb (getD bytes (start .args .at) 0) 48) _ _)) (c .fraction-end .ensures 0 .onward),
     )
 

@@ -1,10 +1,9 @@
 -- `json_plain::is_plain` meets its contract.
--- Assumes nothing.
 use mathlib.Core.Path.{ap, _∙_}
 use mathlib.Core.Bool.{Bool, not, _&&_}
 use lib.Dec.{eqb, leb, ltb}
 use Rattle.json_scan.specs.Scan.{isWithin}
-use Rattle.json_plain.specs.Plain.{isPlain}
+use Rattle.json_plain.specs.WorkingPlain.{isPlain}
 use Rattle.json_plain.proofs.Tests.{tests-joined, below-128}
 use Rattle.json_plain.proofs.is_plain.Statement.{statement}
 use Rattle.json_plain.proofs.is_plain.Tie as tie

@@ -1,9 +1,8 @@
 -- `json_plain::marked` meets its contract.
--- Assumes nothing.
 use mathlib.Core.Path.{refl}
 use native.Mathlib.Omega.{arith}
 use lib.Count.{trailing-le as few}
-use Rattle.json_plain.specs.Words.{lowest}
+use Rattle.json_plain.specs.WorkingWords.{lowestMark}
 use Rattle.json_plain.proofs.marked.Statement.{statement}
 use Rattle.json_plain.proofs.marked.Tie as tie
 
@@ -11,7 +10,7 @@ cast-result : tie.Need-cast-result
 cast-result c = omega (arith, few 64 (c .args .marks))
 
 returns : tie.Need-returns
-unfolding lowest
+unfolding lowestMark
 returns c = (refl, omega (arith, few 64 (c .args .marks)))
 
 pub marked-spec : {M : Type 1} → statement M

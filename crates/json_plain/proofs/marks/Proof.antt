@@ -1,5 +1,4 @@
 -- `json_plain::marks` meets its contract.
--- Assumes nothing.
 use borrow.Author.Needs.{needs}
 use Rattle.json_plain.proofs.Marking.{marks-of}
 use Rattle.json_plain.proofs.marks.Statement.{statement}

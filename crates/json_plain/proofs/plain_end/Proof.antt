@@ -1,5 +1,4 @@
 -- `json_plain::plain_end` meets its contract.
--- Assumes nothing.
 use mathlib.Core.Path.{_≡_, refl, sym, _∙_}
 use mathlib.Core.List.{List}
 use mathlib.Core.Logic.{⊎-elim}
@@ -7,10 +6,10 @@ use Prim.Native.Nat.{ℕ, _+_, _-_}
 use native.Mathlib.Omega.{arith}
 use borrow.Author.Tests.{not-true, not-false}
 use lib.ListN.{length}
-use Rattle.octets.specs.Number.{Bytes}
-use Rattle.octets.proofs.Numbers.{bytes-of}
+use Rattle.bytes_number.specs.Number.{Bytes}
+use Rattle.bytes_number.proofs.Numbers.{bytes-of}
 use Rattle.json_scan.proofs.Leading.{endOf, end-more, end-here, end-over}
-use Rattle.json_plain.specs.Plain.{isPlain}
+use Rattle.json_plain.specs.WorkingPlain.{isPlain}
 use Rattle.json_plain.proofs.Passing.{Told, told}
 use Rattle.json_plain.proofs.plain_end.Statement.{statement}
 use Rattle.json_plain.proofs.plain_end.Tie as tie

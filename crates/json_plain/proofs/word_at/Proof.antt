@@ -1,5 +1,4 @@
 -- `json_plain::word_at` meets its contract.
--- Assumes nothing.
 use borrow.Author.Needs.{needs}
 use Rattle.json_plain.proofs.Words.{word-from}
 use Rattle.json_plain.proofs.word_at.Statement.{statement}

@@ -1,5 +1,4 @@
 -- `json_scalar::behind_minus` meets its contract.
--- Assumes nothing.
 use borrow.Author.Needs.{needs}
 use mathlib.Core.Path.{refl}
 use native.Mathlib.Omega.{arith}

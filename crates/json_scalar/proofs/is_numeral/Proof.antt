@@ -1,5 +1,4 @@
 -- `json_scalar::is_numeral` meets its contract.
--- Assumes nothing.
 use borrow.Author.Needs.{needs}
 use mathlib.Core.Path.{refl}
 use native.Mathlib.Omega.{arith}

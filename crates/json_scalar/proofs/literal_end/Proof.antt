@@ -1,5 +1,4 @@
 -- `json_scalar::literal_end` meets its contract.
--- Assumes nothing.
 use mathlib.Core.Path.{subst, ap}
 use mathlib.Core.List.{List, _∷_}
 use Prim.Native.Nat.{_+_, _-_, _≤_}
@@ -8,7 +7,7 @@ use lib.ListN.{length, drop, getD, drop-of-length-le}
 use Rattle.json_scan.specs.Scan.{Class, exactly}
 use Rattle.json_scan.proofs.Scanning.{drop-at}
 use Rattle.json_scan.proofs.Rest.{Passed, passed-none, passed-more, passed-wrong, passed-over, passed-all}
-use Rattle.json_scalar.specs.Scalars.{spelling}
+use Rattle.json_scalar.specs.WorkingScalars.{spelling}
 use Rattle.json_scalar.proofs.Steps.{is-exactly, not-exactly}
 use Rattle.json_scalar.proofs.literal_end.Statement.{statement}
 use Rattle.json_scalar.proofs.literal_end.Tie as tie

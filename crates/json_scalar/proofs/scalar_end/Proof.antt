@@ -1,9 +1,8 @@
 -- `json_scalar::scalar_end` meets its contract.
--- Assumes nothing.
 use borrow.Author.Needs.{needs}
 use mathlib.Core.Path.{sym, _∙_}
 use native.Mathlib.Omega.{arith}
-use Rattle.json_scan.specs.Reads.{came}
+use Rattle.json_scan.specs.WorkingReads.{came}
 use Rattle.json_scan.proofs.Reading.{takes-more}
 use Rattle.json_scan.proofs.Settled.{Settles, kept-by, settled, reads-settled}
 use Rattle.json_scalar.proofs.scalar_end.Statement.{statement}

@@ -1,5 +1,4 @@
 -- `json_scalar::scalar_read` meets its contract.
--- Assumes nothing.
 use borrow.Author.Needs.{needs}
 use mathlib.Core.Path.{_≡_, refl, sym, subst, subst⁻¹, _∙_}
 use mathlib.Core.Bool.{Bool, true, false, cond, _||_}
@@ -9,9 +8,9 @@ use native.Mathlib.Omega.{arith}
 use borrow.Author.Tests.{eqb-false}
 use lib.Dec.{eqb}
 use lib.ListN.{getD}
-use Rattle.octets.proofs.Truth.{clash, or-left, or-right}
+use Rattle.bytes_number.proofs.Truth.{clash, or-left, or-right}
 use Rattle.json_scan.specs.Scan.{isDigit, exactly, behind, minus, between, number, rest}
-use Rattle.json_scan.specs.Reads.{came, Reads}
+use Rattle.json_scan.specs.WorkingReads.{came, ReadsOn}
 use Rattle.json_scan.proofs.Reading.{takes-from, takes-more, reads-more, reads-wrong, reads-over}
 use Rattle.json_scalar.proofs.Steps.{numeral-reads, begins-false, begins-null, begins-true, begins-none}
 use Rattle.json_scalar.proofs.scalar_read.Statement.{statement}
@@ -42,7 +41,7 @@ returns-2 c = let numeral = c .before .before .before in
     let is = sym (numeral .is-numeral .ensures) ∙ c .before .before .if2 .taken in (
       record {
         reads = λ bare room. numeral-reads (start .args .at) (omega arith) (bare (omega arith)) is
-            (subst (λ (j : ℕ). Reads (start .args .bytes .now) room j (number minus) (between behind) (came (c .number-end .result))) (c .before .behind-minus .ensures) (c .number-end .ensures .0 room));
+            (subst (λ (j : ℕ). ReadsOn (start .args .bytes .now) room j (number minus) (between behind) (came (c .number-end .result))) (c .before .behind-minus .ensures) (c .number-end .ensures .0 room));
         other = λ l o. clash _ is (o .no-number);
       },
       takes-more (c .before .behind-minus .result) (came (c .number-end .result)) (subst⁻¹ (λ (j : ℕ). start .args .at ≤ j) (c .before .behind-minus .ensures) (no-less (eqb (getD (start .args .bytes .now) (start .args .at) 0) 45) (start .args .at))) (c .number-end .ensures .1),

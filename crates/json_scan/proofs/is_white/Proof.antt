@@ -1,5 +1,4 @@
 -- `json_scan::is_white` meets its contract.
--- Assumes nothing.
 use mathlib.Core.Logic.{inl, inr}
 use native.Mathlib.Omega.{arith}
 use Rattle.json_scan.proofs.Bytes.{white-blank, white-tab, white-none}

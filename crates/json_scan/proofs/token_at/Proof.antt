@@ -1,5 +1,4 @@
 -- `json_scan::token_at` meets its contract.
--- Assumes nothing.
 use borrow.Author.Needs.{needs}
 use native.Mathlib.Omega.{arith}
 use Rattle.json_scan.proofs.White.{white-above}

@@ -1,5 +1,4 @@
 -- `lampreycoil::lampreycoil_check_identities` meets its contract.
--- Assumes nothing.
 use borrow.Author.Needs.{needs}
 use Rattle.lampreycoil.proofs.lampreycoil_check_identities.Statement.{statement}
 use Rattle.lampreycoil.proofs.lampreycoil_check_identities.Tie as tie

@@ -1,5 +1,4 @@
 -- `lampreycoil::lampreycoil_check_json` meets its contract.
--- Assumes nothing.
 use borrow.Author.Needs.{needs}
 use Rattle.lampreycoil.proofs.lampreycoil_check_json.Statement.{statement}
 use Rattle.lampreycoil.proofs.lampreycoil_check_json.Tie as tie

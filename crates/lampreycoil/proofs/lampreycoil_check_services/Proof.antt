@@ -1,5 +1,4 @@
 -- `lampreycoil::lampreycoil_check_services` meets its contract.
--- Assumes nothing.
 use borrow.Author.Needs.{needs}
 use Rattle.lampreycoil.proofs.lampreycoil_check_services.Statement.{statement}
 use Rattle.lampreycoil.proofs.lampreycoil_check_services.Tie as tie

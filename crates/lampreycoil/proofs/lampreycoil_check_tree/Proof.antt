@@ -1,5 +1,4 @@
 -- `lampreycoil::lampreycoil_check_tree` meets its contract.
--- Assumes nothing.
 use borrow.Author.Needs.{needs}
 use Rattle.lampreycoil.proofs.lampreycoil_check_tree.Statement.{statement}
 use Rattle.lampreycoil.proofs.lampreycoil_check_tree.Tie as tie

@@ -1,5 +1,4 @@
 -- `lampreycoil::lampreycoil_read` meets its contract.
--- Assumes nothing.
 use borrow.Author.Needs.{needs}
 use Rattle.lampreycoil.proofs.lampreycoil_read.Statement.{statement}
 use Rattle.lampreycoil.proofs.lampreycoil_read.Tie as tie

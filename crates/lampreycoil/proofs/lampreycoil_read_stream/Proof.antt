@@ -1,5 +1,4 @@
 -- `lampreycoil::lampreycoil_read_stream` meets its contract.
--- Assumes nothing.
 use borrow.Author.Needs.{needs}
 use Rattle.lampreycoil.proofs.lampreycoil_read_stream.Statement.{statement}
 use Rattle.lampreycoil.proofs.lampreycoil_read_stream.Tie as tie

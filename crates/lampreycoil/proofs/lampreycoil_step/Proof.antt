@@ -1,5 +1,4 @@
 -- `lampreycoil::lampreycoil_step` meets its contract.
--- Assumes nothing.
 use borrow.Author.Needs.{needs}
 use Rattle.lampreycoil.proofs.lampreycoil_step.Statement.{statement}
 use Rattle.lampreycoil.proofs.lampreycoil_step.Tie as tie

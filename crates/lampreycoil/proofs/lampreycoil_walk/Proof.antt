@@ -1,5 +1,4 @@
 -- `lampreycoil::lampreycoil_walk` meets its contract.
--- Assumes nothing.
 use borrow.Author.Needs.{needs}
 use Rattle.lampreycoil.proofs.lampreycoil_walk.Statement.{statement}
 use Rattle.lampreycoil.proofs.lampreycoil_walk.Tie as tie

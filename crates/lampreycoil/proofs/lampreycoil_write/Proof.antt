@@ -1,5 +1,4 @@
 -- `lampreycoil::lampreycoil_write` meets its contract.
--- Assumes nothing.
 use borrow.Author.Needs.{needs}
 use Rattle.lampreycoil.proofs.lampreycoil_write.Statement.{statement}
 use Rattle.lampreycoil.proofs.lampreycoil_write.Tie as tie

@@ -1,15 +1,14 @@
 -- `walk::walk` meets its contract.
--- Assumes nothing.
 use borrow.Author.Needs.{needs}
 use native.Mathlib.Omega.{arith}
 use mathlib.Core.Path.{_≡_, refl, _∙_}
 use Prim.Native.Nat.{ℕ}
 use mathlib.Core.List.{List}
-use Rattle.routing.specs.Routed.{Tables, tablesOf}
-use Rattle.broker.specs.Step.{stepOf}
-use Rattle.onward.specs.Onward.{onward, afterStep}
+use Rattle.step_routing.specs.Routed.{Tables, tablesOf}
+use Rattle.step_pass.specs.Step.{stepOf}
+use Rattle.walk.specs.Onward.{onward, afterStep}
 use Rattle.walk.specs.Walk.{walkFrom, walkOf}
-use Rattle.onward.proofs.Resting.{goes-on, rests-here, walks-as}
+use Rattle.walk.proofs.Resting.{goes-on, rests-here, walks-as}
 use Rattle.walk.proofs.Walking.{walk-short, walk-begins, forwards-right, passes-walk}
 use Rattle.walk.proofs.walk.Statement.{statement}
 use Rattle.walk.proofs.walk.Tie as tie

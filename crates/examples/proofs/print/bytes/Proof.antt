@@ -1,5 +1,4 @@
 -- `examples::print::bytes` is safe and ends: i is at most the length.
--- Assumes nothing.
 use Prim.Native.Nat.{_≤_, _-_}
 use lib.ListN.{length}
 use borrow.Author.Needs.{needs}

@@ -1,5 +1,4 @@
 -- `examples::walks::go` is safe and ends: a turn crosses a link, and the picture and the buffer stay as long as they are.
--- Assumes nothing.
 use mathlib.Core.Path.{_≡_}
 use Prim.Native.Nat.{_≤_, _-_}
 use lib.ListN.{length}

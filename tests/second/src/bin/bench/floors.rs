@@ -84,7 +84,7 @@ fn crowd(make: impl Fn(u32) -> Vec<u8>) -> Vec<u8> {
     records
 }
 
-/// The chain that a record belongs to in the library (crates/distinct, `hash`).
+/// The chain that a record belongs to in the library (crates/table_distinct, `hash`).
 fn chain(record: &[u8]) -> usize {
     let word = |at: usize| u32::from_le_bytes(record[at..at + 4].try_into().unwrap());
     let stir = |hash: u32, at: usize| {

@@ -1,0 +1,49 @@
+// A step's and a walk's answer as the row of numbers that a C program gets.
+use step_routing::Stepped;
+use walk::Walked;
+ghost use mathlib.Core.Path.{_≡_};
+ghost use Rattle.call_step_record.specs.Steps.{refusalIn, stepRow, walkRow};
+
+// The number of a step's refusal, or 0.
+pub fn refusal_in(s: Stepped) -> u32
+    ensures { λ r. ⌜ r ≡ refusalIn s ⌝ }
+{
+    match s {
+        Stepped::Refused(r) => refusal::number(r),
+        Stepped::Delivered(_) => 0,
+        Stepped::Forwarded(_) => 0,
+        Stepped::Replied(_) => 0,
+        Stepped::Silenced(_) => 0,
+        Stepped::Home => 0,
+    }
+}
+
+// A step as four numbers: the answer, its record or rank, its error, and the length that the frame now has. A refusal has none of them.
+pub fn step_row(s: Stepped, length: usize) -> [usize; 4]
+    ensures { λ r. ⌜ r ≡ stepRow s length ⌝ }
+{
+    match s {
+        Stepped::Refused(_) => [0, 0, 0, 0],
+        Stepped::Delivered(number) => [1, number, 0, length],
+        Stepped::Forwarded(next) => [2, next as usize, 0, length],
+        Stepped::Replied(errnum) => [3, 0, errnum as usize, length],
+        Stepped::Silenced(errnum) => [4, 0, errnum as usize, length],
+        Stepped::Home => [5, 0, 0, length],
+    }
+}
+
+// A walk as six numbers: the last step's four, the rank at which it rests, and the links crossed.
+pub fn walk_row(w: Walked, length: usize) -> [usize; 6]
+    ensures { λ r. ⌜ r ≡ walkRow w length ⌝ }
+{
+    let step = w.step;
+    let four = step_row(step, length);
+    [
+        four[0],
+        four[1],
+        four[2],
+        four[3],
+        w.rank as usize,
+        w.links as usize,
+    ]
+}

@@ -1,0 +1,2 @@
+-- The claim on the JSON check, proved by citation.
+pub mod Json

@@ -1,0 +1,3 @@
+-- The claims on tables, proved by citation.
+pub mod Trees
+pub mod Ways

@@ -1,0 +1,7 @@
+-- The claims on walks.
+pub mod Stepping
+pub mod There
+pub mod Homeward
+pub mod Demand3
+pub mod Corollaries
+pub mod Walks

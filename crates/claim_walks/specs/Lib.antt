@@ -1,0 +1,4 @@
+-- What a buyer has to believe of whole walks. To be read in this order: demand 3, what follows from it, and the walks of the paper's table.
+pub mod Demand3
+pub mod Corollaries
+pub mod Walks

@@ -1,2 +1,0 @@
-// Statements and their proofs alone: what is claimed stands in specs/, and why it holds in proofs/. The crate claimed says each claim of every slice and
-// number that a call can get.

@@ -1,7 +1,0 @@
--- A test as a number. Assumes nothing.
-use Prim.Native.Nat.{ℕ}
-use mathlib.Core.Bool.{Bool, cond}
-
--- 1 for yes and 0 for no
-abbrev pub one : Bool → ℕ
-one test = cond test 1 0

@@ -1,0 +1,141 @@
+-- The last part of a body: what its place tells, and what the walk's answer tells of the parts.
+use mathlib.Core.Path.{_≡_, refl, sym, ap, _∙_}
+use mathlib.Core.Bool.{Bool, true, false, cond}
+use Prim.Native.Nat.{ℕ, _+_, _-_, _<_, _≤_}
+use mathlib.Core.List.{List, [], _∷_, _++_, append-nil}
+use native.Mathlib.Omega.{arith}
+use borrow.Author.Tests.{ltb-true, ltb-false, ne-eqb}
+use lib.Dec.{ltb}
+use lib.ListN.{length, take, drop, length-append}
+use lib.Seq.{drop-drop, drop-at, take-all}
+use Rattle.bytes_number.specs.Number.{Bytes}
+use Rattle.frame_message.specs.declared.Header.{Header}
+use Rattle.refusal.specs.declared.Refusal.{Refusal}
+use Rattle.refusal.specs.declared.Refusal.the-variants.{HeaderWrong}
+use Rattle.refusal.specs.Answer.{Answer, refused, answered, andThen}
+use Rattle.frame_message.specs.Header.{headerIn, isHeader}
+use Rattle.frame_message.specs.Frame.{partBytes, joined}
+use Rattle.frame_message.specs.Reading.{partsIn, front, final, beforeEmpty, judgedAs, judged}
+use Rattle.frame_message.proofs.Lists.{front-final}
+use Rattle.frame_message.proofs.Parts.{joined-append, split, part-short, part-long}
+use Rattle.frame_parts.specs.declared.walk.Walked.{Walked}
+use Rattle.frame_parts.specs.declared.walk.Walk.the-variants.{Refused, Counted}
+use Rattle.frame_header.specs.declared.Head.the-variants.{Wrong, Fields}
+use Rattle.frame_header.specs.WorkingHead.{headAs}
+use Rattle.frame_parts.specs.WorkingWalk.{walkedAs}
+use Rattle.frame_body.specs.WorkingJudging.{partsFound, WalkedOver, Headed}
+
+-- ---- what the walk found
+
+not-both : {r : Refusal} {w : Walked} → Refused r ≡ Counted w → ⊥
+not-both e = let z : _≡_ {A = ℕ} 0 1 = cc in omega arith
+
+pub walk-refused : (a : Answer (List (List ℕ))) (r : Refusal) → Refused r ≡ walkedAs a → a ≡ refused r
+walk-refused (refused q) r e = cc
+walk-refused (answered ps) r e = absurd (not-both e)
+
+pub walk-counted : (body : List ℕ) (w : Walked) → Counted w ≡ walkedAs (partsIn 68 body) → WalkedOver body w
+unfolding partsFound
+walk-counted body w e = go (partsIn 68 body) refl e
+  where
+    go : (a : Answer (List (List ℕ))) → partsIn 68 body ≡ a → Counted w ≡ walkedAs a → WalkedOver body w
+    go (refused r) k e = absurd (not-both (sym e))
+    go (answered ps) k e =
+        let same : w ≡ record { count = length ps; empty = length (beforeEmpty ps); last = length (joined (front ps)) } = cc in
+        record {
+          found = rw k;
+          count = rw k (ap (λ (v : Walked). v .count) same);
+          empty = rw k (ap (λ (v : Walked). v .empty) same);
+          last = rw k (ap (λ (v : Walked). v .last) same);
+        }
+
+-- ---- the last part
+
+-- a part of 20 bytes takes 21
+size-of : (p : List ℕ) → (length (partBytes p) ≡ 21 → length p ≡ 20) × (length p ≡ 20 → length (partBytes p) ≡ 21)
+size-of p = go (ltb (length p) 255) refl
+  where
+    go : (t : Bool) → ltb (length p) 255 ≡ t → (length (partBytes p) ≡ 21 → length p ≡ 20) × (length p ≡ 20 → length (partBytes p) ≡ 21)
+    go true t = let size = ap length (part-short p (ltb-true _ _ t)) in ((λ e. omega (arith, size)), (λ e. omega (arith, size)))
+    go false t =
+        let long = ltb-false (length p) 255 t in
+        let size = ap length (part-long p long) in
+        ((λ e. absurd (omega (arith, size))), (λ e. absurd (omega arith)))
+
+not-header : (p : List ℕ) → (length p ≡ 20 → ⊥) → isHeader p ≡ false
+unfolding isHeader
+not-header p n = rw (ne-eqb (length p) 20 n)
+
+module _ (body : List ℕ) (b : Bytes body) (w : Walked) (o : WalkedOver body w) where
+  abbrev ps : List (List ℕ)
+  ps = partsFound body
+
+  whole : body ≡ joined ps
+  whole = split 68 body ps b (o .found) .same
+
+  judged-all : andThen (partsIn 68 body) judged ≡ judged ps
+  judged-all = rw (o .found)
+
+  -- the body is the parts in front of the last and the last
+  halves : 0 < length ps → body ≡ joined (front ps) ++ partBytes (final [] ps)
+  halves h =
+      whole ∙ ap joined (sym (front-final [] ps h)) ∙ joined-append (front ps) (final [] ps ∷ [])
+      ∙ ap (λ (s : List ℕ). joined (front ps) ++ s) (append-nil (partBytes (final [] ps)))
+
+  -- there are parts, or there are none
+  pub last-within : w .last ≤ length body
+  last-within = go ps refl
+    where
+      go : (qs : List (List ℕ)) → partsFound body ≡ qs → w .last ≤ length body
+      go [] e = omega (arith, o .last, ap (λ (rs : List (List ℕ)). length (joined (front rs))) e)
+      go (q ∷ qs) e = omega (arith, o .last, ap length (halves (omega (arith, ap length e))), length-append (joined (front ps)) (partBytes (final [] ps)))
+
+  header-refused : isHeader (final [] ps) ≡ false → andThen (partsIn 68 body) judged ≡ refused HeaderWrong
+  unfolding judged
+  header-refused e = judged-all ∙ rw e
+
+  -- 6, by the bytes that are left for the last part
+  pub last-wrong : (length body - w .last ≡ 21 → ⊥) → andThen (partsIn 68 body) judged ≡ refused HeaderWrong
+  last-wrong n = header-refused (not-header (final [] ps) (λ e. go ps refl e))
+    where
+      go : (qs : List (List ℕ)) → partsFound body ≡ qs → length (final [] ps) ≡ 20 → ⊥
+      go [] k e = omega (arith, ap (λ (rs : List (List ℕ)). length (final [] rs)) k)
+      go (q ∷ qs) k e =
+          n (omega (arith, o .last, ap length (halves (omega (arith, ap length k))), length-append (joined (front ps)) (partBytes (final [] ps)), size-of (final [] ps) .1 e))
+
+  module _ (size : length body - w .last ≡ 21) where
+    some : 0 < length ps
+    some = go ps refl
+      where
+        go : (qs : List (List ℕ)) → partsFound body ≡ qs → 0 < length ps
+        go [] k = absurd (omega (arith, ap length (whole ∙ ap joined k)))
+        go (q ∷ qs) k = omega (arith, ap length k)
+
+    head-size : length (final [] ps) ≡ 20
+    head-size = size-of (final [] ps) .0 (omega (arith, o .last, ap length (halves some), length-append (joined (front ps)) (partBytes (final [] ps))))
+
+    -- the header's bytes, as a part of the slice has them
+    pub head-bytes : take (length body - (w .last + 1)) (drop (w .last + 1) body) ≡ final [] ps
+    head-bytes =
+        let behind : drop (w .last) body ≡ partBytes (final [] ps) = ap (drop (w .last)) (halves some) ∙ drop-at (joined (front ps)) (partBytes (final [] ps)) (w .last) (sym (o .last)) in
+        let bytes : drop (w .last + 1) body ≡ final [] ps = sym (drop-drop 1 (w .last) body) ∙ rw (behind, part-short (final [] ps) (omega (arith, head-size))) in
+        rw bytes (take-all (length body - (w .last + 1)) (final [] ps) (omega (arith, head-size)))
+
+    pub head-wrong : Wrong ≡ headAs (take (length body - (w .last + 1)) (drop (w .last + 1) body)) → andThen (partsIn 68 body) judged ≡ refused HeaderWrong
+    head-wrong e = header-refused (go (isHeader (final [] ps)) (e ∙ ap headAs head-bytes))
+      where
+        go : (t : Bool) → Wrong ≡ cond t (Fields (headerIn (final [] ps))) Wrong → t ≡ false
+        go true e = let z : _≡_ {A = ℕ} 0 1 = cc in absurd (omega arith)
+        go false e = refl
+
+    module _ (h : Header) (e : Fields h ≡ headAs (take (length body - (w .last + 1)) (drop (w .last + 1) body))) (short : length body ≤ 32768) where
+      pub headed : Headed body w h
+      headed = go (isHeader (final [] ps)) refl (e ∙ ap headAs head-bytes)
+        where
+          go : (t : Bool) → isHeader (final [] ps) ≡ t → Fields h ≡ cond t (Fields (headerIn (final [] ps))) Wrong → Headed body w h
+          go true k e = record { over = o; short = short; headed = k; same = cc }
+          go false k e = let z : _≡_ {A = ℕ} 0 1 = cc in absurd (omega arith)
+
+      pub judged-rest : andThen (partsIn 68 body) judged ≡ judgedAs h (front ps)
+      unfolding judged
+      judged-rest = judged-all ∙ rw (headed .headed, ← headed .same)

@@ -1,0 +1,57 @@
+-- The header: a law for each case of its tests.
+use mathlib.Core.Path.{_≡_, _∙_}
+use mathlib.Core.Bool.{true, false}
+use Prim.Native.Nat.{ℕ, _+_}
+use mathlib.Core.List.{List, [], _∷_, _++_, append-nil}
+use borrow.Author.Tests.{eq-eqb, ne-eqb}
+use lib.ListN.{length, getD, replicate}
+use Rattle.bytes_number.specs.Number.{number, rowBytes}
+use Rattle.bytes_number.specs.Laid.{laidIfRoom}
+use Rattle.bytes_number.proofs.Numbers.{number-at}
+use Rattle.frame_message.specs.declared.Header.{Header}
+use Rattle.frame_message.specs.Header.{isKnown, headerBytes, headerIn, isHeader}
+use Rattle.frame_header.specs.declared.Head.the-variants.{Wrong, Fields}
+use Rattle.frame_header.specs.WorkingHead.{headAs}
+
+-- ---- the fields
+
+-- x is the number at a place, put together from the four bytes there
+abbrev pub NumberAt : List ℕ → ℕ → ℕ → Type 0
+NumberAt p n x = x ≡ number (getD p (n + 0) 0 ∷ getD p (n + 1) 0 ∷ getD p (n + 2) 0 ∷ getD p (n + 3) 0 ∷ [])
+
+pub fields-in : (p : List ℕ) {u r f s : ℕ} → NumberAt p 4 u → NumberAt p 8 r → NumberAt p 12 f → NumberAt p 16 s → _≡_ {A = Header} (record { kind = getD p 2 0; flags = getD p 3 0; userid = u; rolemask = r; first = f; second = s }) (headerIn p)
+unfolding headerIn
+fields-in p eu er ef es = rw (eu ∙ number-at p 4, er ∙ number-at p 8, ef ∙ number-at p 12, es ∙ number-at p 16)
+
+-- ---- a header that is right
+
+module _ (p : List ℕ) where
+  pub head-length : (length p ≡ 20 → ⊥) → Wrong ≡ headAs p
+  unfolding isHeader
+  head-length n = rw (ne-eqb (length p) 20 n)
+
+  module _ (long : length p ≡ 20) where
+    pub head-magic : (getD p 0 0 ≡ 142 → ⊥) → Wrong ≡ headAs p
+    unfolding isHeader
+    head-magic n = rw (eq-eqb (length p) 20 long, ne-eqb (getD p 0 0) 142 n)
+
+    module _ (magic : getD p 0 0 ≡ 142) where
+      pub head-version : (getD p 1 0 ≡ 1 → ⊥) → Wrong ≡ headAs p
+      unfolding isHeader
+      head-version n = rw (eq-eqb (length p) 20 long, eq-eqb (getD p 0 0) 142 magic, ne-eqb (getD p 1 0) 1 n)
+
+      module _ (version : getD p 1 0 ≡ 1) where
+        pub head-unknown : isKnown (headerIn p) ≡ false → Wrong ≡ headAs p
+        unfolding isHeader
+        head-unknown e = rw (eq-eqb (length p) 20 long, eq-eqb (getD p 0 0) 142 magic, eq-eqb (getD p 1 0) 1 version, e)
+
+        pub head-known : isKnown (headerIn p) ≡ true → Fields (headerIn p) ≡ headAs p
+        unfolding isHeader
+        head-known e = rw (eq-eqb (length p) 20 long, eq-eqb (getD p 0 0) 142 magic, eq-eqb (getD p 1 0) 1 version, e)
+
+-- ---- a header written
+
+-- four bytes, and four numbers laid behind them
+pub header-held : (h : Header) {last : List ℕ} → last ≡ laidIfRoom (rowBytes (h .userid ∷ h .rolemask ∷ h .first ∷ h .second ∷ [])) (replicate 16 0) → 142 ∷ 1 ∷ h .kind ∷ h .flags ∷ (last ++ []) ≡ headerBytes h
+unfolding headerBytes
+header-held h e = rw (e, append-nil)

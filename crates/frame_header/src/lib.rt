@@ -1,0 +1,71 @@
+// The header, which is a body's last part: read, and written.
+use frame_message::Header;
+ghost use mathlib.Core.Path.{_≡_};
+ghost use Prim.Native.Nat.{_≤_};
+ghost use lib.ListN.{length};
+ghost use Rattle.bytes_number.specs.Laid.{laidIfRoom, laidCount};
+ghost use Rattle.frame_message.specs.Header.{headerBytes, headerIn};
+ghost use Rattle.frame_message.specs.Frame.{partBytes};
+ghost use Rattle.frame_header.specs.WorkingHead.{headAs};
+
+pub enum Head {
+    Wrong,
+    Fields(Header),
+}
+
+// The fields in the 20 bytes of a header.
+fn fields(p: &[u8]) -> Header
+    requires { ⌜ 20 ≤ length (now p) ⌝ }
+    ensures { λ r. ⌜ r ≡ headerIn (now (p .entry)) ⌝ }
+{
+    Header {
+        kind: p[2],
+        flags: p[3],
+        userid: bytes_number::number_of(p[4], p[5], p[6], p[7]),
+        rolemask: bytes_number::number_of(p[8], p[9], p[10], p[11]),
+        first: bytes_number::number_of(p[12], p[13], p[14], p[15]),
+        second: bytes_number::number_of(p[16], p[17], p[18], p[19]),
+    }
+}
+
+// The fields of a header that is right.
+pub fn read_header(p: &[u8]) -> Head
+    ensures { λ r. ⌜ r ≡ headAs (now (p .entry)) ⌝ }
+{
+    if p.len() != frame_message::HEADER {
+        return Head::Wrong;
+    }
+    if p[0] != frame_message::MAGIC {
+        return Head::Wrong;
+    }
+    if p[1] != frame_message::VERSION {
+        return Head::Wrong;
+    }
+    let h = fields(p);
+    if frame_header_rules::is_known(h) {
+        Head::Fields(h)
+    } else {
+        Head::Wrong
+    }
+}
+
+// Writes a header's part to the front of out, if there is room for it, and tells how many bytes it has, or 0. The header lies in no slice: its
+// twenty bytes, of which the last sixteen are four numbers, stand in an array first.
+pub fn write_header(out: &mut [u8], header: Header) -> usize
+    ensures { λ r. ⌜ r ≡ laidCount (partBytes (headerBytes header)) (now (out .entry)) ⌝ }
+    ensures { λ _. ⌜ now (out .exit) ≡ laidIfRoom (partBytes (headerBytes header)) (now (out .entry)) ⌝ }
+{
+    let mut held = [0u8; frame_message::HEADER];
+    held[0] = frame_message::MAGIC;
+    held[1] = frame_message::VERSION;
+    held[2] = header.kind;
+    held[3] = header.flags;
+    let numbers = [
+        header.userid as usize,
+        header.rolemask as usize,
+        header.first as usize,
+        header.second as usize,
+    ];
+    bytes_number::put_row(&mut held[4..], &numbers);
+    frame_part_write::write_part(out, &held)
+}

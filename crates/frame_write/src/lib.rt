@@ -1,0 +1,25 @@
+// The writer: a message's frame into a lent output, or the refusal that the paper's table names.
+ghost use mathlib.Core.Path.{_≡_};
+ghost use lib.ListN.{length};
+ghost use Rattle.frame_message.specs.Writing.{writingInto, givenMessage, writtenAs};
+ghost use Rattle.refusal.specs.Answer.{writtenOver};
+use frame_message::Header;
+use frame_message::Written;
+
+mod frame;
+mod part;
+
+// Writes the message's frame to the front of out. What stands behind the frame stays as it was, and a refusal writes nothing.
+pub fn write(header: Header, routes: &[u8], topic: &[u8], payload: &[u8], out: &mut [u8]) -> Written
+    ensures { λ r. ⌜ r ≡ writtenAs (writingInto (length (now (out .entry))) (givenMessage header (now (routes .entry)) (now (topic .entry)) (now (payload .entry)))) ⌝ }
+    ensures { λ _. ⌜ now (out .exit) ≡ writtenOver (writingInto (length (now (out .entry))) (givenMessage header (now (routes .entry)) (now (topic .entry)) (now (payload .entry)))) (now (out .entry)) ⌝ }
+{
+    let drafted = frame_write_check::judge(header, routes, topic, payload, out.len());
+    match drafted {
+        Written::Refused(r) => Written::Refused(r),
+        Written::Frame(n) => {
+            frame::write_frame(out, n, header, routes, topic, payload);
+            Written::Frame(n)
+        }
+    }
+}

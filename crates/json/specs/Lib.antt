@@ -1,2 +1,0 @@
--- Only for the readers of this crate: nothing here has to be believed.
-pub mod Nested

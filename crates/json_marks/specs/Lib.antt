@@ -1,2 +1,0 @@
--- Only for the readers of values: nothing here has to be believed.
-pub mod Marks

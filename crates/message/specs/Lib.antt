@@ -1,8 +1,0 @@
--- A message and its bytes, as paper 01 has them under "A frame". To be read in this order: Refusals, Answer, Header, Message, Frame, Writing, Reading; the forms of a route and a topic are those of the crate form.
-pub mod Refusals
-pub mod Answer
-pub mod Header
-pub mod Message
-pub mod Frame
-pub mod Writing
-pub mod Reading

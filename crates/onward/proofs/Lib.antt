@@ -1,2 +1,0 @@
--- The laws of a walk's turns.
-pub mod Resting

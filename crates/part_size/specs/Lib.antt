@@ -1,2 +1,0 @@
--- To be believed: Sizes, which the public promise cites.
-pub mod Sizes

@@ -1,2 +1,0 @@
--- Where the parts of a message lie.
-pub mod Placing

@@ -1,0 +1,2 @@
+-- Laws about answers and refusals, for the crates above.
+pub mod Answers

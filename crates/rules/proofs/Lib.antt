@@ -1,9 +1,0 @@
--- The rules of specs/Rules.antt, from the laws on ways and outcomes.
-pub mod Neighbours
-pub mod Cases
-pub mod ErrorReplies
-pub mod Serving
-pub mod Forwarding
-pub mod Returning
-pub mod Neither
-pub mod Deciding

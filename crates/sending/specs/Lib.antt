@@ -1,2 +1,0 @@
--- What a broker makes in the buffer that holds a request.
-pub mod Sending

@@ -1,0 +1,85 @@
+// Where a broker sends a request. Nothing here looks at a frame, and every table may hold any bytes.
+use frame_message::Header;
+use step_routing::Way;
+use table_records::Found;
+ghost use mathlib.Core.Path.{_≡_};
+ghost use Rattle.step_routing.specs.Requests.{deliverOr, toParent, upwards, toRank, requestWay};
+
+// The nodeid of any rank.
+const ANY_RANK: u32 = 4294967295;
+// No service: Linux's number for a function that is not implemented.
+const NO_SERVICE: u32 = 38;
+// No such rank: Linux's number for a host that cannot be reached.
+const HOST_UNREACHABLE: u32 = 113;
+
+// Delivered with the record that was found, else what else is to be done.
+fn deliver_or(found: Found, other: Way) -> Way
+    ensures { λ r. ⌜ r ≡ deliverOr found other ⌝ }
+{
+    match found {
+        Found::At(number) => Way::Deliver(number),
+        Found::Nothing => other,
+    }
+}
+
+// To the parent, and an error at rank 0.
+fn to_parent(tree: &[u8], rank: u32) -> Way
+    ensures { λ r. ⌜ r ≡ toParent (now (tree .entry)) rank ⌝ }
+{
+    if rank == 0 {
+        return Way::Fail(NO_SERVICE);
+    }
+    Way::Forward(table_tree::parent_of(tree, rank))
+}
+
+// Delivered where this rank registers the service, unless it is skipped; else to the parent.
+fn upwards(tree: &[u8], services: &[u8], rank: u32, topic: &[u8], skipped: bool) -> Way
+    ensures { λ r. ⌜ r ≡ upwards (now (tree .entry)) (now (services .entry)) rank (now (topic .entry)) skipped ⌝ }
+{
+    let up = to_parent(tree, rank);
+    if skipped {
+        return up;
+    }
+    deliver_or(
+        table_services_find::find_service(services, rank, table_services_find::service_of(topic)),
+        up,
+    )
+}
+
+// To the rank that is named: delivered there or an error; else to the next broker on the way.
+fn to_rank(tree: &[u8], services: &[u8], rank: u32, nodeid: u32, topic: &[u8]) -> Way
+    ensures { λ r. ⌜ r ≡ toRank (now (tree .entry)) (now (services .entry)) rank nodeid (now (topic .entry)) ⌝ }
+{
+    if nodeid as usize >= table_tree::ranks_in(tree) {
+        return Way::Fail(HOST_UNREACHABLE);
+    }
+    if nodeid == rank {
+        let found = table_services_find::find_service(
+            services,
+            rank,
+            table_services_find::service_of(topic),
+        );
+        return deliver_or(found, Way::Fail(NO_SERVICE));
+    }
+    Way::Forward(table_tree_hops::next_hop(tree, rank, nodeid))
+}
+
+// Where the broker of a rank sends a request with this header and topic.
+pub fn request_way(
+    tree: &[u8],
+    services: &[u8],
+    rank: u32,
+    from_client: bool,
+    header: Header,
+    topic: &[u8],
+) -> Way
+    ensures { λ r. ⌜ r ≡ requestWay (now (tree .entry)) (now (services .entry)) rank «from_client» header (now (topic .entry)) ⌝ }
+{
+    if header.first == ANY_RANK {
+        return upwards(tree, services, rank, topic, false);
+    }
+    if frame_flags::is_upstream(header.flags) {
+        return upwards(tree, services, rank, topic, from_client);
+    }
+    to_rank(tree, services, rank, header.first, topic)
+}

@@ -1,0 +1,70 @@
+// The service that a topic names, and the record of the table that registers it.
+use table_records::Found;
+use table_services::LONGEST;
+use table_services::NAME;
+use table_services::WIDTH;
+ghost use mathlib.Core.Path.{_≡_};
+ghost use Prim.Native.Nat.{_≤_};
+ghost use lib.ListN.{length};
+ghost use Rattle.table_services.specs.Services.{serviceWidth, longestName};
+ghost use Rattle.table_services_find.specs.Lookup.{serviceOf, registers, registeredAs};
+ghost use Rattle.table_services_find.specs.Working.{wholeOrNone};
+
+// The service that a topic names: all before the first period, or all of it.
+pub fn service_of(topic: &[u8]) -> &[u8]
+    ensures { λ r. ⌜ now r ≡ serviceOf (now (topic .entry)) ⌝ }
+{
+    let mut i = 0;
+    while i < topic.len() {
+        if topic[i] == b'.' {
+            return &topic[..i];
+        }
+        i += 1;
+    }
+    topic
+}
+
+// The service, or nothing in place of one that is longer than a name can be: it is not cut to match.
+fn whole_or_none(service: &[u8]) -> &[u8]
+    ensures { λ r. ⌜ now r ≡ wholeOrNone (now (service .entry)) ⌝ }
+{
+    if service.len() > LONGEST {
+        return &service[..0];
+    }
+    service
+}
+
+// Whether a record registers a service at a rank.
+fn is_registered(row: &[u8], rank: u32, service: &[u8]) -> bool
+    requires { ⌜ (length (now row) ≡ serviceWidth) × (length (now service) ≤ longestName) ⌝ }
+    ensures { λ r. ⌜ r ≡ registers (now (row .entry)) rank (now (service .entry)) ⌝ }
+{
+    let asked = service.len();
+    if asked < 1 {
+        return false;
+    }
+    if bytes_number::number_of(row[0], row[1], row[2], row[3]) != rank {
+        return false;
+    }
+    if bytes_number::wide(row[4]) as usize != asked {
+        return false;
+    }
+    table_records::same(&row[NAME..NAME + asked], service)
+}
+
+// The record that registers a service at a rank, if there is one.
+pub fn find_service(services: &[u8], rank: u32, service: &[u8]) -> Found
+    ensures { λ r. ⌜ r ≡ registeredAs (now (services .entry)) rank (now (service .entry)) ⌝ }
+{
+    let name = whole_or_none(service);
+    let n = services.len() / WIDTH;
+    let mut i = 0;
+    while i < n {
+        let at = i * WIDTH;
+        if is_registered(&services[at..at + WIDTH], rank, name) {
+            return Found::At(i);
+        }
+        i += 1;
+    }
+    Found::Nothing
+}
