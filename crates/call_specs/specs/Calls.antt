@@ -16,6 +16,7 @@ use Rattle.frame_message.specs.Reading.{readingOf}
 use Rattle.frame_message.specs.Writing.{writingInto}
 use Rattle.table_tree_check.specs.Checking.{depthsInto}
 use Rattle.step_routing.specs.declared.Broker.{Broker}
+use Rattle.step_routing.specs.Messages.{Owner, ownerOf}
 use Rattle.step_routing.specs.Routed.{Tables, Outcome}
 use Rattle.step_pass.specs.Step.{stepOf, leftBy, toldAs}
 use Rattle.walk.specs.Walk.{Walk, walkOf}
@@ -94,9 +95,17 @@ ChecksTree tree depths row r filled listed = Fills (treeCall tree (length depths
 abbrev pub stepRecord : ℕ
 stepRecord = 16
 
--- the host's broker: from_client is no where it is 0, and an error reply has "userid FFFFFFFF, rolemask 0"
+-- the broker of a rank, whose error replies are this owner's: from_client is no where it is 0
+abbrev pub brokerAs : Owner → ℕ → ℕ → Broker
+brokerAs owner rank fromClient = record { rank = rank; client = not (eqb fromClient 0); userid = owner .userid; rolemask = owner .rolemask }
+
+-- "userid FFFFFFFF, rolemask 0"
+abbrev pub nobody : Owner
+nobody = ownerOf 4294967295 0
+
+-- the broker of the host's calls
 abbrev pub hostBroker : ℕ → ℕ → Broker
-hostBroker rank fromClient = record { rank = rank; client = not (eqb fromClient 0); userid = 4294967295; rolemask = 0 }
+hostBroker rank fromClient = brokerAs nobody rank fromClient
 
 -- "A record buffer below 16 bytes gives 11 before anything else"
 unfoldable pub stepCall : Tables → Broker → List ℕ → ℕ → Answer Outcome

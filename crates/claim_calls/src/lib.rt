@@ -11,6 +11,7 @@ ghost use Rattle.claim_tables.specs.Trees.{TreeIsChecked};
 ghost use Rattle.claim_tables.specs.Ways.{EveryWay};
 ghost use Rattle.claim_steps.specs.Steps.{StepsByTheRules};
 ghost use Rattle.claim_steps.specs.Rules.{RequestsByTheRules, ResponsesByTheRules, OthersByTheRules, NoOtherAnswer, OnlySilence};
+ghost use Rattle.step_routing.specs.Messages.{ownerOf};
 ghost use Rattle.step_routing.specs.Routed.{tablesOf};
 ghost use Rattle.claim_walks.specs.Demand3.{DemandThree};
 ghost use Rattle.claim_walks.specs.Corollaries.{EveryReplyComesHome, AtMost32Links, EveryWalkIsRun};
@@ -82,11 +83,13 @@ pub fn steps_by_the_rules(
     tree: &[u8],
     services: &[u8],
     identities: &[u8],
+    userid: u32,
+    rolemask: u32,
     rank: u32,
     from_client: u32,
     buffer: &[u8],
 )
-    ensures { λ _. ⌜ StepsByTheRules (tablesOf (now (tree .entry)) (now (services .entry)) (now (identities .entry))) rank «from_client» (now (buffer .entry)) ⌝ }
+    ensures { λ _. ⌜ StepsByTheRules (tablesOf (now (tree .entry)) (now (services .entry)) (now (identities .entry))) (ownerOf userid rolemask) rank «from_client» (now (buffer .entry)) ⌝ }
 {
     are_bytes(buffer);
 }
@@ -121,11 +124,13 @@ pub fn demand_three(
     tree: &[u8],
     services: &[u8],
     identities: &[u8],
+    userid: u32,
+    rolemask: u32,
     entry: u32,
     buffer: &[u8],
     back: &[u8],
 )
-    ensures { λ _. ⌜ DemandThree (tablesOf (now (tree .entry)) (now (services .entry)) (now (identities .entry))) entry (now (buffer .entry)) (now (back .entry)) ⌝ }
+    ensures { λ _. ⌜ DemandThree (tablesOf (now (tree .entry)) (now (services .entry)) (now (identities .entry))) (ownerOf userid rolemask) entry (now (buffer .entry)) (now (back .entry)) ⌝ }
 {
     are_bytes(buffer);
     are_bytes(back);
@@ -136,10 +141,12 @@ pub fn every_reply_comes_home(
     tree: &[u8],
     services: &[u8],
     identities: &[u8],
+    userid: u32,
+    rolemask: u32,
     entry: u32,
     buffer: &[u8],
 )
-    ensures { λ _. ⌜ EveryReplyComesHome (tablesOf (now (tree .entry)) (now (services .entry)) (now (identities .entry))) entry (now (buffer .entry)) ⌝ }
+    ensures { λ _. ⌜ EveryReplyComesHome (tablesOf (now (tree .entry)) (now (services .entry)) (now (identities .entry))) (ownerOf userid rolemask) entry (now (buffer .entry)) ⌝ }
 {
     are_bytes(buffer);
 }
@@ -157,6 +164,6 @@ pub fn every_walk_is_run(tree: &[u8], services: &[u8], identities: &[u8], b: Bro
 }
 
 // The walks of the example floor's table, as the walk call reports them and as the steps end them.
-pub fn walks_of_the_table()
-    ensures { λ _. ⌜ WalksOfTheTable ⌝ }
+pub fn walks_of_the_table(userid: u32, rolemask: u32)
+    ensures { λ _. ⌜ WalksOfTheTable (ownerOf userid rolemask) ⌝ }
 {}

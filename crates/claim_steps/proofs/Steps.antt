@@ -7,17 +7,18 @@ use lib.ListN.{length}
 use Rattle.bytes_number.specs.Number.{Bytes}
 use Rattle.refusal.specs.Answer.{Answer}
 use Rattle.frame_message.proofs.RoundTrip.{write-back}
+use Rattle.step_routing.specs.Messages.{Owner}
 use Rattle.step_routing.specs.Routed.{Tables, Outcome, routed}
 use Rattle.claim_steps.proofs.Deciding.{requests-by-the-rules, responses-by-the-rules}
 use Rattle.claim_steps.proofs.Neither.{others-by-the-rules}
 use Rattle.step_pass.proofs.Passing.{pass-read, step-pass}
-use Rattle.call_specs.specs.Calls.{hostBroker, Tells}
+use Rattle.call_specs.specs.Calls.{brokerAs, Tells}
 use Rattle.call_specs.proofs.StepCalls.{step-on}
 use Rattle.claim_steps.specs.Steps.{StepsByTheRules}
 
-pub steps-by-the-rules : (t : Tables) (rank client : ℕ) (buffer : List ℕ) → Bytes buffer → StepsByTheRules t rank client buffer
-steps-by-the-rules t rank client buffer bytes right m read row r left listed room s =
-    let b = hostBroker rank client in
+pub steps-by-the-rules : (t : Tables) (owner : Owner) (rank client : ℕ) (buffer : List ℕ) → Bytes buffer → StepsByTheRules t owner rank client buffer
+steps-by-the-rules t owner rank client buffer bytes right m read row r left listed room s =
+    let b = brokerAs owner rank client in
     let written = write-back buffer m bytes read .writable in
     let is = step-on t b buffer (length row) (omega arith) ∙ step-pass t b buffer (right .tables .tree) (right .tables .services) (right .tables .identities) ∙ pass-read t b buffer (right .rank) m read in
     record {

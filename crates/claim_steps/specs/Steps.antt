@@ -9,10 +9,11 @@ use Rattle.refusal.specs.Answer.{Answer, answered, andThen}
 use Rattle.frame_message.specs.Message.{Message}
 use Rattle.frame_message.specs.Reading.{readingOf}
 use Rattle.step_routing.specs.declared.Broker.{Broker}
+use Rattle.step_routing.specs.Messages.{Owner}
 use Rattle.step_routing.specs.Routed.{Tables, Outcome}
 use Rattle.claim_steps.specs.Rules.{Right, RequestRules, GoesBack, Unrouted}
 use Rattle.step_pass.specs.Step.{roomFor}
-use Rattle.call_specs.specs.Calls.{hostBroker, stepRecord, Tells, Steps}
+use Rattle.call_specs.specs.Calls.{brokerAs, stepRecord, Tells, Steps}
 
 -- what came of a step call on a buffer that held the message m: an answer that meets the rules, of a request, of a response, and 18 of an event or a
 -- control message; and the call tells it, and leaves the buffer by it, unless a request that goes on has no room: 11
@@ -23,9 +24,9 @@ pub record ByTheRules (t : Tables) (b : Broker) (m : Message) (buffer row : List
   pub other : Unrouted m answer
   pub told : Tells (andThen answer (roomFor (length buffer))) buffer row r left listed
 
--- of every broker of valid tables, every buffer that a message is read from, and every record with room
-abbrev pub StepsByTheRules : Tables → ℕ → ℕ → List ℕ → Type 0
-StepsByTheRules t rank client buffer =
-    Right t (hostBroker rank client) → (m : Message) → readingOf buffer ≡ answered m →
-    (row : List ℕ) (r : ℕ) (left listed : List ℕ) → stepRecord ≤ length row → Steps t (hostBroker rank client) buffer row r left listed →
-    ByTheRules t (hostBroker rank client) m buffer row r left listed
+-- of every broker of valid tables, whosever its error replies are, every buffer that a message is read from, and every record with room
+abbrev pub StepsByTheRules : Tables → Owner → ℕ → ℕ → List ℕ → Type 0
+StepsByTheRules t owner rank client buffer =
+    Right t (brokerAs owner rank client) → (m : Message) → readingOf buffer ≡ answered m →
+    (row : List ℕ) (r : ℕ) (left listed : List ℕ) → stepRecord ≤ length row → Steps t (brokerAs owner rank client) buffer row r left listed →
+    ByTheRules t (brokerAs owner rank client) m buffer row r left listed

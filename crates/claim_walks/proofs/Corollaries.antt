@@ -2,7 +2,7 @@
 use mathlib.Core.Path.{_≡_, refl, ap, _∙_, subst⁻¹}
 use mathlib.Core.Bool.{Bool, true, false, cond}
 use mathlib.Core.Logic.{inl}
-use Prim.Native.Nat.{ℕ, _-_, _≤_}
+use Prim.Native.Nat.{ℕ, _-_, _<_, _≤_}
 use mathlib.Core.List.{List, _∷_}
 use native.Mathlib.Omega.{arith}
 use lib.Dec.{eqb, ltb}
@@ -19,7 +19,7 @@ use Rattle.walk_path.specs.Path.{End, fails, Path, recordOf, upPath, rankPath, 
 use Rattle.walk_path.proofs.Chains.{tree-depth-most}
 use Rattle.frame_rewrite.specs.Renewed.{cleared}
 use Rattle.step_routing.specs.declared.Broker.{Broker}
-use Rattle.step_routing.specs.Messages.{withRoutes, errorReply}
+use Rattle.step_routing.specs.Messages.{Owner, withRoutes, errorReply}
 use Rattle.step_routing.specs.Routed.{Tables}
 use Rattle.frame_message.proofs.Frames.{frame-long}
 use Rattle.step_pass.proofs.Keeping.{sound-short, reply-sound, read-cleared}
@@ -64,21 +64,21 @@ path-error t entry m errnum =
 
 -- ---- the reply comes home
 
-reply-rests : (end : End) (m : Message) (links : ℕ) (buffer : List ℕ) (errnum : ℕ) → end ≡ fails errnum → noResponse (m .header .flags) ≡ false →
-    leftOf (asOnEntry end (noResponse (m .header .flags)) links) (messageAt end m) buffer ≡ cleared (frameOf (errorReply 4294967295 0 errnum m)) buffer
-reply-rests end m links buffer errnum e loud =
-    ap (λ (x : End). leftOf (asOnEntry x (noResponse (m .header .flags)) links) (messageAt x m) buffer) e ∙ rw loud
+reply-rests : (owner : Owner) (end : End) (m : Message) (links : ℕ) (buffer : List ℕ) (errnum : ℕ) → end ≡ fails errnum → noResponse (m .header .flags) ≡ false →
+    leftOf (asOnEntry end (noResponse (m .header .flags)) links) (messageAt owner end m) buffer ≡ cleared (frameOf (errorReply (owner .userid) (owner .rolemask) errnum m)) buffer
+reply-rests owner end m links buffer errnum e loud =
+    ap (λ (x : End). leftOf (asOnEntry x (noResponse (m .header .flags)) links) (messageAt owner x m) buffer) e ∙ rw loud
 
-pub every-reply-comes-home : (t : Tables) (entry : ℕ) (buffer : List ℕ) → Bytes buffer → EveryReplyComesHome t entry buffer
-every-reply-comes-home t entry buffer bytes m enters loud errnum fails-so =
+pub every-reply-comes-home : (t : Tables) (owner : Owner) → owner .userid < 4294967296 → owner .rolemask < 4294967296 → (entry : ℕ) (buffer : List ℕ) → Bytes buffer → EveryReplyComesHome t owner entry buffer
+every-reply-comes-home t owner user roles entry buffer bytes m enters loud errnum fails-so =
     let path = pathIn t entry m in
     let f = along t entry buffer m enters in
     let ranks = entry ∷ f .rest in
     let routes = routesAtRest (t .identities) ranks (m .routes) in
     let rested = withRoutes m routes in
-    let sound = rested-sound t entry buffer m enters bytes (f .rest) (path .end) (f .leads) (f .linked) (f .few) in
-    let reply = errorReply 4294967295 0 errnum rested in
-    let made = reply-sound rested sound (inl (enters .held .typed)) 4294967295 0 errnum (omega arith) (omega arith) (omega (arith, path-error t entry m errnum fails-so)) in
+    let sound = rested-sound t owner entry buffer m enters bytes (f .rest) (path .end) (f .leads) (f .linked) (f .few) in
+    let reply = errorReply (owner .userid) (owner .rolemask) errnum rested in
+    let made = reply-sound rested sound (inl (enters .held .typed)) (owner .userid) (owner .rolemask) errnum user roles (omega (arith, path-error t entry m errnum fails-so)) in
     let fits : length (frameOf reply) ≤ length buffer = omega (arith, frame-long reply, sound-short reply made, enters .held .room) in
     let left = cleared (frameOf reply) buffer in
     let responds : Responds routes m left reply =
@@ -88,11 +88,11 @@ every-reply-comes-home t entry buffer bytes m enters loud errnum fails-so =
       topic = refl;
       matchtag = refl;
     } in
-    subst⁻¹ (λ (p : Path). ReplyComesHome t buffer m p errnum) (f .starts)
+    subst⁻¹ (λ (p : Path). ReplyComesHome t owner buffer m p errnum) (f .starts)
     (record {
-      rests = reply-rests (path .end) rested (length ranks - 1) buffer errnum fails-so loud;
+      rests = reply-rests owner (path .end) rested (length ranks - 1) buffer errnum fails-so loud;
       responds = responds;
-      goes = response-goes t entry buffer m enters bytes (f .rest) (path .end) (f .leads) (f .linked) (f .few) left reply made responds;
+      goes = response-goes t owner entry buffer m enters bytes (f .rest) (path .end) (f .leads) (f .linked) (f .few) left reply made responds;
     })
 
 -- ---- links

@@ -29,7 +29,7 @@ use Rattle.walk_path.proofs.Chains.{tree-depth-most}
 use Rattle.walk_path.proofs.Leading.{followed}
 use Rattle.frame_rewrite.specs.Renewed.{cleared}
 use Rattle.step_routing.specs.declared.Broker.{Broker}
-use Rattle.step_routing.specs.Messages.{withRoutes, errorReply}
+use Rattle.step_routing.specs.Messages.{Owner, withRoutes, errorReply}
 use Rattle.step_routing.specs.Routed.{Tables, Outcome, delivered, replied, silenced, home, ValidTables}
 use Rattle.step_routing.proofs.Made.{reply-writable}
 use Rattle.step_routing.specs.declared.Stepped.{Stepped}
@@ -45,12 +45,12 @@ use Rattle.claim_walks.proofs.Homeward.{Back-linked, homeBuffer, respon
 
 -- ---- what the last broker's outcome says and leaves
 
-abbrev outcomeOf : End → Message → Outcome
-outcomeOf = endOutcome 4294967295 0
+abbrev outcomeOf : Owner → End → Message → Outcome
+outcomeOf owner = endOutcome (owner .userid) (owner .rolemask)
 
-end-told : (end : End) (m : Message) → toldAs (answered (outcomeOf end m)) ≡ answerAt end (noResponse (m .header .flags))
-end-told (delivers number) m = refl
-end-told (fails errnum) m = ⊎-elim (λ q. rw q) (λ l. rw l) (outcome (noResponse (m .header .flags)))
+end-told : (owner : Owner) (end : End) (m : Message) → toldAs (answered (outcomeOf owner end m)) ≡ answerAt end (noResponse (m .header .flags))
+end-told owner (delivers number) m = refl
+end-told owner (fails errnum) m = ⊎-elim (λ q. rw q) (λ l. rw l) (outcome (noResponse (m .header .flags)))
 
 -- an error, by whether noresponse is set: on 0 links, and on more
 error-none : (quiet : Bool) (errnum : ℕ) (m reply : Message) (links : ℕ) (buffer : List ℕ) → eqb links 0 ≡ true →
@@ -64,21 +64,21 @@ error-some true errnum m reply links buffer some fits = rw some
 error-some false errnum m reply links buffer some fits = cleared-again (frameOf reply) (frameOf m) buffer fits
 
 -- on 0 links
-end-left-none : (end : End) (m : Message) (links : ℕ) (buffer : List ℕ) → eqb links 0 ≡ true →
-    leftAfter (outcomeOf end m) buffer ≡ leftOf (asOnEntry end (noResponse (m .header .flags)) links) (messageAt end m) buffer
-end-left-none (delivers number) m links buffer none = rw none
-end-left-none (fails errnum) m links buffer none = error-none (noResponse (m .header .flags)) errnum m (errorReply 4294967295 0 errnum m) links buffer none
+end-left-none : (owner : Owner) (end : End) (m : Message) (links : ℕ) (buffer : List ℕ) → eqb links 0 ≡ true →
+    leftAfter (outcomeOf owner end m) buffer ≡ leftOf (asOnEntry end (noResponse (m .header .flags)) links) (messageAt owner end m) buffer
+end-left-none owner (delivers number) m links buffer none = rw none
+end-left-none owner (fails errnum) m links buffer none = error-none (noResponse (m .header .flags)) errnum m (errorReply (owner .userid) (owner .rolemask) errnum m) links buffer none
 
 -- on more
-end-left-some : (end : End) (m : Message) (links : ℕ) (buffer : List ℕ) → eqb links 0 ≡ false → length (frameOf m) ≤ length buffer →
-    leftAfter (outcomeOf end m) (cleared (frameOf m) buffer) ≡ leftOf (asOnEntry end (noResponse (m .header .flags)) links) (messageAt end m) buffer
-end-left-some (delivers number) m links buffer some fits = rw some
-end-left-some (fails errnum) m links buffer some fits = error-some (noResponse (m .header .flags)) errnum m (errorReply 4294967295 0 errnum m) links buffer some fits
+end-left-some : (owner : Owner) (end : End) (m : Message) (links : ℕ) (buffer : List ℕ) → eqb links 0 ≡ false → length (frameOf m) ≤ length buffer →
+    leftAfter (outcomeOf owner end m) (cleared (frameOf m) buffer) ≡ leftOf (asOnEntry end (noResponse (m .header .flags)) links) (messageAt owner end m) buffer
+end-left-some owner (delivers number) m links buffer some fits = rw some
+end-left-some owner (fails errnum) m links buffer some fits = error-some (noResponse (m .header .flags)) errnum m (errorReply (owner .userid) (owner .rolemask) errnum m) links buffer some fits
 
-end-writes : (end : End) (m : Message) → Sound m → m .header .kind ≡ 1 → writing (messageAt end m) ≡ answered (frameOf (messageAt end m))
-end-writes (delivers number) m sound kind = sound .writes
-end-writes (fails errnum) m sound kind =
-    ⊎-elim (λ q. rw q (sound .writes)) (λ l. rw l (reply-writable m (sound .writes) (inl kind) 4294967295 0 errnum)) (outcome (noResponse (m .header .flags)))
+end-writes : (owner : Owner) (end : End) (m : Message) → Sound m → m .header .kind ≡ 1 → writing (messageAt owner end m) ≡ answered (frameOf (messageAt owner end m))
+end-writes owner (delivers number) m sound kind = sound .writes
+end-writes owner (fails errnum) m sound kind =
+    ⊎-elim (λ q. rw q (sound .writes)) (λ l. rw l (reply-writable m (sound .writes) (inl kind) (owner .userid) (owner .rolemask) errnum)) (outcome (noResponse (m .header .flags)))
 
 -- ---- lists
 
@@ -102,21 +102,21 @@ front-length r rs =
 
 -- ---- what is left at the end of the path
 
-left-along : (t : Tables) → ValidTables t → (entry : ℕ) (rest : List ℕ) (m : Message) (buffer : List ℕ) (end : End) → Linked (t .tree) (entry ∷ rest) → hasRoute (m .header .flags) ≡ true →
+left-along : (t : Tables) (owner : Owner) → ValidTables t → (entry : ℕ) (rest : List ℕ) (m : Message) (buffer : List ℕ) (end : End) → Linked (t .tree) (entry ∷ rest) → hasRoute (m .header .flags) ≡ true →
     length (bodyOf m) + 38 * length rest ≤ 32768 → 32776 ≤ length buffer →
     length (frameOf (withRoutes m (routesAtRest (t .identities) (entry ∷ rest) (m .routes)))) ≤ length buffer →
-    leftAfter (outcomeOf end (withRoutes m (routesAtRest (t .identities) (entry ∷ rest) (m .routes)))) (bufferAt (t .identities) entry rest m buffer)
-    ≡ leftOf (asOnEntry end (noResponse (m .header .flags)) (length (entry ∷ rest) - 1)) (messageAt end (withRoutes m (routesAtRest (t .identities) (entry ∷ rest) (m .routes)))) buffer
-left-along t valid entry [] m buffer end linked group short long fits = end-left-none end m 0 buffer refl
-left-along t valid entry (s ∷ rs) m buffer end linked group short long fits =
+    leftAfter (outcomeOf owner end (withRoutes m (routesAtRest (t .identities) (entry ∷ rest) (m .routes)))) (bufferAt (t .identities) entry rest m buffer)
+    ≡ leftOf (asOnEntry end (noResponse (m .header .flags)) (length (entry ∷ rest) - 1)) (messageAt owner end (withRoutes m (routesAtRest (t .identities) (entry ∷ rest) (m .routes)))) buffer
+left-along t owner valid entry [] m buffer end linked group short long fits = end-left-none owner end m 0 buffer refl
+left-along t owner valid entry (s ∷ rs) m buffer end linked group short long fits =
     let rested = withRoutes m (routesAtRest (t .identities) (entry ∷ s ∷ rs) (m .routes)) in
     let at-rest = buffer-behind t valid entry s rs m buffer linked group short long ∙ ap (λ (x : Message). cleared (frameOf x) buffer) (at-end (t .identities) entry (s ∷ rs) m) in
     let some : eqb (length (entry ∷ s ∷ rs) - 1) 0 ≡ false = ne-eqb (length (entry ∷ s ∷ rs) - 1) 0 (λ e. omega arith) in
-    ap (leftAfter (outcomeOf end rested)) at-rest ∙ end-left-some end rested (length (entry ∷ s ∷ rs) - 1) buffer some fits
+    ap (leftAfter (outcomeOf owner end rested)) at-rest ∙ end-left-some owner end rested (length (entry ∷ s ∷ rs) - 1) buffer some fits
 
 -- ---- both walks, on a path that is followed
 
-module _ (t : Tables) (entry : ℕ) (buffer : List ℕ) (m : Message) (enters : Enters t entry buffer m) (bytes : Bytes buffer)
+module _ (t : Tables) (owner : Owner) (entry : ℕ) (buffer : List ℕ) (m : Message) (enters : Enters t entry buffer m) (bytes : Bytes buffer)
     (rest : List ℕ) (end : End)
     (leads : Leads (t .tree) (t .services) (m .header) (m .topic) true (entry ∷ rest) end) (linked : Linked (t .tree) (entry ∷ rest))
     (few : length (entry ∷ rest) ≤ 2 * treeDepth (t .tree) + 1) where
@@ -148,7 +148,7 @@ module _ (t : Tables) (entry : ℕ) (buffer : List ℕ) (m : Message) (enters : 
   rested-is = at-end (t .identities) entry rest m
 
   pub rested-sound : Sound rested
-  rested-sound = subst (λ (x : Message). Sound x) rested-is (end-sound t valid 4294967295 0 entry rest m linked sound kind routes-fit body-fits)
+  rested-sound = subst (λ (x : Message). Sound x) rested-is (end-sound t valid (owner .userid) (owner .rolemask) entry rest m linked sound kind routes-fit body-fits)
 
   abbrev path : Path
   path = record { brokers = entry ∷ rest; end = end }
@@ -157,19 +157,19 @@ module _ (t : Tables) (entry : ℕ) (buffer : List ℕ) (m : Message) (enters : 
   quiet = noResponse (m .header .flags)
 
   abbrev left : List ℕ
-  left = leftOf (asOnEntry end quiet (linksOf path)) (messageAt end rested) buffer
+  left = leftOf (asOnEntry end quiet (linksOf path)) (messageAt owner end rested) buffer
 
-  request-goes : Goes t entry buffer (entry ∷ rest) (answerAt end quiet) left
+  request-goes : Goes t owner entry buffer (entry ∷ rest) (answerAt end quiet) left
   request-goes =
-      let o = outcomeOf end rested in
+      let o = outcomeOf owner end rested in
       let ranks = entry ∷ rest in
-      let along = request-run t valid 4294967295 0 true entry rest end m buffer leads linked sound kind (enters .held .read) routes-fit body-fits long in
-      let first : Bool → Broker = λ client. record { rank = entry; client = client; userid = 4294967295; rolemask = 0 } in
-      let there = subst (λ (x : Message). Run t (first true) buffer ranks (answered (outcomeOf end x)) (leftAfter (outcomeOf end x) (bufferAt (t .identities) entry rest m buffer))) rested-is along in
-      let leaves = left-along t valid entry rest m buffer end linked (sound-route m sound (inl kind)) body-fits long (omega (arith, frame-long rested, sound-short rested rested-sound, long)) in
+      let along = request-run t valid (owner .userid) (owner .rolemask) true entry rest end m buffer leads linked sound kind (enters .held .read) routes-fit body-fits long in
+      let first : Bool → Broker = λ client. record { rank = entry; client = client; userid = owner .userid; rolemask = owner .rolemask } in
+      let there = subst (λ (x : Message). Run t (first true) buffer ranks (answered (outcomeOf owner end x)) (leftAfter (outcomeOf owner end x) (bufferAt (t .identities) entry rest m buffer))) rested-is along in
+      let leaves = left-along t owner valid entry rest m buffer end linked (sound-route m sound (inl kind)) body-fits long (omega (arith, frame-long rested, sound-short rested rested-sound, long)) in
       let run = subst (λ (l : List ℕ). Run t (first true) buffer ranks (answered o) l) leaves there in
-      subst (λ (s : Stepped). Goes t entry buffer ranks s left) (end-told end rested)
-      (run-goes t entry buffer ranks left o
+      subst (λ (s : Stepped). Goes t owner entry buffer ranks s left) (end-told owner end rested)
+      (run-goes t owner entry buffer ranks left o
       (λ client some. subst⁻¹ (λ (c : Bool). Run t (first c) buffer ranks (answered o) left) (ap not (ne-eqb client 0 some)) run)
       long (omega (arith, links-few)))
 
@@ -193,21 +193,21 @@ module _ (t : Tables) (entry : ℕ) (buffer : List ℕ) (m : Message) (enters : 
         let count : length behind ≡ linksOf path = front-length entry rest ∙ omega arith in
         home-left-of behind n (m .routes) back ∙ ap (λ (k : ℕ). leftOf (eqb k 0) (withRoutes n (m .routes)) back) count
 
-    pub response-goes : Goes t (final 0 (entry ∷ rest)) back (reverse (entry ∷ rest)) Home (leftOf (eqb (linksOf path) 0) (withRoutes n (m .routes)) back)
+    pub response-goes : Goes t owner (final 0 (entry ∷ rest)) back (reverse (entry ∷ rest)) Home (leftOf (eqb (linksOf path) 0) (withRoutes n (m .routes)) back)
     response-goes =
         let last = final 0 (entry ∷ rest) in
         let linked-back = subst (λ (l : List ℕ). Back-linked (t .tree) l) way-back (back-linked (t .tree) entry rest linked) in
-        let run : (client : Bool) → Run t (record { rank = last; client = client; userid = 4294967295; rolemask = 0 }) back (last ∷ behind) (answered home) (homeBuffer behind n (m .routes) back) =
-        λ client. response-run t valid 4294967295 0 (m .routes) (enters .stranger) client last behind n back linked-back stack reply-sound (responds .held .typed) (responds .held .read) back-long in
-        subst⁻¹ (λ (l : List ℕ). Goes t last back l Home (leftOf (eqb (linksOf path) 0) (withRoutes n (m .routes)) back)) way-back
-        (subst (λ (l : List ℕ). Goes t last back (last ∷ behind) Home l) back-left
-        (run-goes t last back (last ∷ behind) (homeBuffer behind n (m .routes) back) home (λ client some. run (not (eqb client 0))) back-long (omega (arith, front-length entry rest, links-few))))
+        let run : (client : Bool) → Run t (record { rank = last; client = client; userid = owner .userid; rolemask = owner .rolemask }) back (last ∷ behind) (answered home) (homeBuffer behind n (m .routes) back) =
+        λ client. response-run t valid (owner .userid) (owner .rolemask) (m .routes) (enters .stranger) client last behind n back linked-back stack reply-sound (responds .held .typed) (responds .held .read) back-long in
+        subst⁻¹ (λ (l : List ℕ). Goes t owner last back l Home (leftOf (eqb (linksOf path) 0) (withRoutes n (m .routes)) back)) way-back
+        (subst (λ (l : List ℕ). Goes t owner last back (last ∷ behind) Home l) back-left
+        (run-goes t owner last back (last ∷ behind) (homeBuffer behind n (m .routes) back) home (λ client some. run (not (eqb client 0))) back-long (omega (arith, front-length entry rest, links-few))))
 
     response-written : writing (withRoutes n (m .routes)) ≡ answered (frameOf (withRoutes n (m .routes)))
-    response-written = home-sound t valid 4294967295 0 (m .routes) (enters .stranger) behind n stack reply-sound (responds .held .typed) .writes
+    response-written = home-sound t valid (owner .userid) (owner .rolemask) (m .routes) (enters .stranger) behind n stack reply-sound (responds .held .typed) .writes
 
   pub both-walks : (back : List ℕ) → Bytes back → ((number : ℕ) → end ≡ delivers number → registeredAs (t .services) (final 0 (entry ∷ rest)) (serviceOf (m .topic)) ≡ At number) →
-      ThereAndHome t entry buffer m path back
+      ThereAndHome t owner entry buffer m path back
   both-walks back back-bytes ends =
       record {
         there = request-goes;
@@ -216,7 +216,7 @@ module _ (t : Tables) (entry : ℕ) (buffer : List ℕ) (m : Message) (enters : 
         delivered = λ number e.
             let holds = found-holds (t .services) (final 0 (entry ∷ rest)) (serviceOf (m .topic)) number (ends number e) in
             record { within = holds .0; rank = holds .1; name = holds .2 };
-        written = end-writes end rested rested-sound kind;
+        written = end-writes owner end rested rested-sound kind;
         home = λ n responds.
             let whole = sound-read back n back-bytes (responds .held .read) in
             (response-goes back n whole responds, response-written back n whole responds);
@@ -249,9 +249,9 @@ along t entry buffer m enters =
     }
 
 -- "A release with step and walk has this whole, or it isn't a release."
-pub demand-three : (t : Tables) (entry : ℕ) (buffer back : List ℕ) → Bytes buffer → Bytes back → DemandThree t entry buffer back
-demand-three t entry buffer back bytes back-bytes m enters =
+pub demand-three : (t : Tables) (owner : Owner) (entry : ℕ) (buffer back : List ℕ) → Bytes buffer → Bytes back → DemandThree t owner entry buffer back
+demand-three t owner entry buffer back bytes back-bytes m enters =
     let path = pathIn t entry m in
     let f = along t entry buffer m enters in
-    subst⁻¹ (λ (p : Path). ThereAndHome t entry buffer m p back) (f .starts)
-    (both-walks t entry buffer m enters bytes (f .rest) (path .end) (f .leads) (f .linked) (f .few) back back-bytes (f .ends))
+    subst⁻¹ (λ (p : Path). ThereAndHome t owner entry buffer m p back) (f .starts)
+    (both-walks t owner entry buffer m enters bytes (f .rest) (path .end) (f .leads) (f .linked) (f .few) back back-bytes (f .ends))

@@ -26,6 +26,7 @@ use Rattle.table_identities.specs.Identities.{sameIdentity, identitiesGood}
 use Rattle.walk_path.specs.Path.{End, delivers, fails, pathOf}
 use Rattle.walk_path.specs.Walks.{floorTree, floorServices, Told, toldOf, Row, walk, table, byPath}
 use Rattle.walk_path.proofs.Walks.{walks-are-right}
+use Rattle.step_routing.specs.Messages.{Owner}
 use Rattle.step_routing.specs.Routed.{Tables, ValidTables}
 use Rattle.step_routing.specs.declared.Stepped.{Stepped}
 use Rattle.frame_message.proofs.Frames.{frame-long}
@@ -121,11 +122,11 @@ enters t valid room enough entry m f numbers kind none =
 -- ---- how it ends
 
 -- a walk over these brokers, said as a row says it
-ends-as : (t : Tables) (entry : ℕ) (buffer : List ℕ) (m : Message) (brokers : List ℕ) (ended : Stepped) (left : List ℕ) {answer : Stepped} {rank links : ℕ} →
-    Enters t entry buffer m → (rest : List ℕ) × (brokers ≡ entry ∷ rest) → Goes t entry buffer brokers ended left →
+ends-as : (t : Tables) (owner : Owner) (entry : ℕ) (buffer : List ℕ) (m : Message) (brokers : List ℕ) (ended : Stepped) (left : List ℕ) {answer : Stepped} {rank links : ℕ} →
+    Enters t entry buffer m → (rest : List ℕ) × (brokers ≡ entry ∷ rest) → Goes t owner entry buffer brokers ended left →
     ended ≡ answer → final 0 brokers ≡ rank → length brokers - 1 ≡ links →
-    EndsAs t entry buffer m answer rank links
-ends-as t entry buffer m brokers ended left premises starts goes answers rests crossed =
+    EndsAs t owner entry buffer m answer rank links
+ends-as t owner entry buffer m brokers ended left premises starts goes answers rests crossed =
     record {
       enters = premises;
       brokers = brokers;
@@ -133,7 +134,7 @@ ends-as t entry buffer m brokers ended left premises starts goes answers rests c
       last = rests;
       count = omega (arith, crossed, ap length (starts .1));
       left = left;
-      steps = λ client some. subst (λ (s : Stepped). StepsOver t client buffer brokers s left) answers (goes .steps client some);
+      steps = λ client some. subst (λ (s : Stepped). StepsOver t owner client buffer brokers s left) answers (goes .steps client some);
       walk = λ row r after listed room plays.
           let w = goes .walk row r after listed room plays in
           record {
@@ -163,16 +164,16 @@ told-answer (fails errnum) flags = ⊎-elim (λ q. rw q) (λ l. rw l) (outcome (
 meets : Row → Bool
 meets (walk entry nodeid flags topic told rank links) = fits floor entry (requestOf nodeid flags topic)
 
-row-ends : (room : ℕ) → 32776 ≤ room → (row : Row) → meets row ≡ true → byPath row ≡ row → RowEnds room row
+row-ends : (owner : Owner) (room : ℕ) → 32776 ≤ room → (row : Row) → meets row ≡ true → byPath row ≡ row → RowEnds owner room row
 unfolding meets RowEnds
-row-ends room enough (walk entry nodeid flags topic told rank links) test same =
+row-ends owner room enough (walk entry nodeid flags topic told rank links) test same =
     let m = requestOf nodeid flags topic in
     let f = fitting floor entry m test in
     let numbers : FieldsFit (m .header) = record { userid = lit< tt; rolemask = lit< tt; first = f .nodeid; second = lit< tt } in
     let premises = enters floor floor-valid room enough entry m f numbers refl refl in
     let path = pathOf floorTree floorServices entry (m .header) (m .topic) in
-    let both = demand-three floor entry (entering room m) [] (bytes-padded (frameOf m) (room - length (frameOf m)) (f .bytes)) tt m premises in
-    ends-as floor entry (entering room m) m (path .brokers) (answerAt (path .end) (noResponse flags)) _ premises (both .entered) (both .there)
+    let both = demand-three floor owner entry (entering room m) [] (bytes-padded (frameOf m) (room - length (frameOf m)) (f .bytes)) tt m premises in
+    ends-as floor owner entry (entering room m) m (path .brokers) (answerAt (path .end) (noResponse flags)) _ premises (both .entered) (both .there)
     (told-answer (path .end) flags ∙ ap (λ (row : Row). answerOf (toldIn row)) same) (ap rankIn same) (ap linksIn same)
 
 abbrev allRows : List Row → Bool
@@ -188,17 +189,17 @@ tail-of [] = []
 tail-of (row ∷ rows) = rows
 
 -- rows that pass the test, and that are what their paths come to
-rows-end : (room : ℕ) → 32776 ≤ room → (rows : List Row) → allRows rows ≡ true → map byPath rows ≡ rows → EachRow (RowEnds room) rows
+rows-end : (owner : Owner) (room : ℕ) → 32776 ≤ room → (rows : List Row) → allRows rows ≡ true → map byPath rows ≡ rows → EachRow (RowEnds owner room) rows
 unfolding EachRow head-of tail-of
-rows-end room enough [] tests same = tt
-rows-end room enough (row ∷ rows) tests same = (
-  row-ends room enough row (and-left (meets row) (allRows rows) tests) (ap (head-of row) same),
-  rows-end room enough rows (and-right (meets row) (allRows rows) tests) (ap tail-of same),
+rows-end owner room enough [] tests same = tt
+rows-end owner room enough (row ∷ rows) tests same = (
+  row-ends owner room enough row (and-left (meets row) (allRows rows) tests) (ap (head-of row) same),
+  rows-end owner room enough rows (and-right (meets row) (allRows rows) tests) (ap tail-of same),
 )
 
 table-meets : allRows table ≡ true
 unfolding meets fits writing isKnown partsFit partsGivenFit routesGood isTopic fieldsGood headerBytes partsOf bodyOf frameOf ranksIn
 table-meets = refl
 
-pub walks-of-the-table : WalksOfTheTable
-walks-of-the-table room enough = rows-end room enough table table-meets (walks-are-right .rows)
+pub walks-of-the-table : (owner : Owner) → WalksOfTheTable owner
+walks-of-the-table owner room enough = rows-end owner room enough table table-meets (walks-are-right .rows)

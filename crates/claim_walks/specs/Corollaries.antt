@@ -12,7 +12,7 @@ use Rattle.frame_message.specs.Reading.{final}
 use Rattle.walk_path.specs.Path.{fails, Path, pathOf, linksOf}
 use Rattle.frame_rewrite.specs.Renewed.{cleared}
 use Rattle.step_routing.specs.declared.Broker.{Broker}
-use Rattle.step_routing.specs.Messages.{withRoutes, errorReply}
+use Rattle.step_routing.specs.Messages.{Owner, withRoutes, errorReply}
 use Rattle.step_routing.specs.Routed.{Tables}
 use Rattle.step_routing.specs.declared.Stepped.the-variants.{Home}
 use Rattle.walk.specs.Walk.{leastBuffer, walkOf}
@@ -23,26 +23,26 @@ use Rattle.claim_walks.specs.Demand3.{Enters, Responds, Goes, routesAtRe
 
 -- where a request with noresponse clear ends in an error on the path p: the reply that it left is such a response, in the buffer as it was left, and
 -- comes home
-pub record ReplyComesHome (t : Tables) (buffer : List ℕ) (m : Message) (p : Path) (errnum : ℕ) : Type 0 where
+pub record ReplyComesHome (t : Tables) (owner : Owner) (buffer : List ℕ) (m : Message) (p : Path) (errnum : ℕ) : Type 0 where
   -- what the request's walk leaves is the reply's frame, and zeros behind it
   pub rests :
       let rested = withRoutes m (routesAtRest (t .identities) (p .brokers) (m .routes)) in
-      leftOf (asOnEntry (p .end) (noResponse (m .header .flags)) (linksOf p)) (messageAt (p .end) rested) buffer
-      ≡ cleared (frameOf (errorReply 4294967295 0 errnum rested)) buffer
+      leftOf (asOnEntry (p .end) (noResponse (m .header .flags)) (linksOf p)) (messageAt owner (p .end) rested) buffer
+      ≡ cleared (frameOf (errorReply (owner .userid) (owner .rolemask) errnum rested)) buffer
   pub responds :
       let routes = routesAtRest (t .identities) (p .brokers) (m .routes) in
-      let reply = errorReply 4294967295 0 errnum (withRoutes m routes) in
+      let reply = errorReply (owner .userid) (owner .rolemask) errnum (withRoutes m routes) in
       Responds routes m (cleared (frameOf reply) buffer) reply
   pub goes :
-      let reply = errorReply 4294967295 0 errnum (withRoutes m (routesAtRest (t .identities) (p .brokers) (m .routes))) in
+      let reply = errorReply (owner .userid) (owner .rolemask) errnum (withRoutes m (routesAtRest (t .identities) (p .brokers) (m .routes))) in
       let left = cleared (frameOf reply) buffer in
-      Goes t (final 0 (p .brokers)) left (reverse (p .brokers)) Home (leftOf (eqb (linksOf p) 0) (withRoutes reply (m .routes)) left)
+      Goes t owner (final 0 (p .brokers)) left (reverse (p .brokers)) Home (leftOf (eqb (linksOf p) 0) (withRoutes reply (m .routes)) left)
 
-abbrev pub EveryReplyComesHome : Tables → ℕ → List ℕ → Type 0
-EveryReplyComesHome t entry buffer =
+abbrev pub EveryReplyComesHome : Tables → Owner → ℕ → List ℕ → Type 0
+EveryReplyComesHome t owner entry buffer =
     (m : Message) → Enters t entry buffer m → noResponse (m .header .flags) ≡ false →
     (errnum : ℕ) → pathOf (t .tree) (t .services) entry (m .header) (m .topic) .end ≡ fails errnum →
-    ReplyComesHome t buffer m (pathOf (t .tree) (t .services) entry (m .header) (m .topic)) errnum
+    ReplyComesHome t owner buffer m (pathOf (t .tree) (t .services) entry (m .header) (m .topic)) errnum
 
 -- ---- every walk that meets the premises crosses at most 32 links
 

@@ -20,13 +20,13 @@ use Rattle.table_services_find.specs.Lookup.{serviceOf}
 use Rattle.table_identities.specs.Identities.{identityAt, sameIdentity}
 use Rattle.walk_path.specs.Path.{End, delivers, fails, Path, pathOf, linksOf, treeDepth}
 use Rattle.frame_rewrite.specs.Renewed.{cleared}
-use Rattle.step_routing.specs.Messages.{withRoutes, errorReply}
+use Rattle.step_routing.specs.Messages.{Owner, withRoutes, errorReply}
 use Rattle.step_routing.specs.Routed.{Tables, ValidTables}
 use Rattle.step_routing.specs.declared.Stepped.{Stepped}
 use Rattle.step_routing.specs.declared.Stepped.the-variants.{Delivered, Forwarded, Replied, Silenced, Home}
 use Rattle.walk.specs.Walk.{leastBuffer}
 use Rattle.call_step_record.specs.Steps.{stepRow, frameLength}
-use Rattle.call_specs.specs.Calls.{hostBroker, Steps, stepRecord, Plays, walkRecord}
+use Rattle.call_specs.specs.Calls.{brokerAs, Steps, stepRecord, Plays, walkRecord}
 
 -- ---- the premises
 
@@ -65,14 +65,14 @@ pub record Says (answer : Stepped) (row : List ℕ) (r : ℕ) (left listed : Lis
 -- "the rank it begins at, then the rank that each answer 2 names, in order. Each step gets its broker's rank and the buffer which the step before left;
 -- the host's step call also gets a record buffer of at least 16 bytes": whatever records the host lends, each call names the next of these brokers, and
 -- the last one says `answer` and leaves `left`. No step is refused.
-unfoldable pub StepsOver : Tables → ℕ → List ℕ → List ℕ → Stepped → List ℕ → Type 0
-StepsOver t client buffer [] answer left = ⊥
-StepsOver t client buffer (rank ∷ []) answer left =
-    (row : List ℕ) (r : ℕ) (after listed : List ℕ) → stepRecord ≤ length row → Steps t (hostBroker rank client) buffer row r after listed →
+unfoldable pub StepsOver : Tables → Owner → ℕ → List ℕ → List ℕ → Stepped → List ℕ → Type 0
+StepsOver t owner client buffer [] answer left = ⊥
+StepsOver t owner client buffer (rank ∷ []) answer left =
+    (row : List ℕ) (r : ℕ) (after listed : List ℕ) → stepRecord ≤ length row → Steps t (brokerAs owner rank client) buffer row r after listed →
     Says answer row r after listed × (after ≡ left)
-StepsOver t client buffer (rank ∷ next ∷ ranks) answer left =
-    (row : List ℕ) (r : ℕ) (after listed : List ℕ) → stepRecord ≤ length row → Steps t (hostBroker rank client) buffer row r after listed →
-    Says (Forwarded next) row r after listed × StepsOver t 0 after (next ∷ ranks) answer left
+StepsOver t owner client buffer (rank ∷ next ∷ ranks) answer left =
+    (row : List ℕ) (r : ℕ) (after listed : List ℕ) → stepRecord ≤ length row → Steps t (brokerAs owner rank client) buffer row r after listed →
+    Says (Forwarded next) row r after listed × StepsOver t owner 0 after (next ∷ ranks) answer left
 
 -- the walk call from the first of these brokers returns 0, lists the last step's numbers, the rank of the last broker, and as many links as there are
 -- brokers less one; its record's tail stays
@@ -83,10 +83,10 @@ pub record WalksOver (brokers : List ℕ) (answer : Stepped) (final-buffer row :
 
 -- "It holds alike of the steps called one after another and of the walk call, in all that this call reports and leaves." The first step is from a
 -- local client, the others are not.
-pub record Goes (t : Tables) (first : ℕ) (buffer brokers : List ℕ) (answer : Stepped) (left : List ℕ) : Type 0 where
-  pub steps : (client : ℕ) → (client ≡ 0 → ⊥) → StepsOver t client buffer brokers answer left
+pub record Goes (t : Tables) (owner : Owner) (first : ℕ) (buffer brokers : List ℕ) (answer : Stepped) (left : List ℕ) : Type 0 where
+  pub steps : (client : ℕ) → (client ≡ 0 → ⊥) → StepsOver t owner client buffer brokers answer left
   pub walk :
-      (row : List ℕ) (r : ℕ) (after listed : List ℕ) → walkRecord ≤ length row → Plays t (hostBroker first 1) buffer row r after listed →
+      (row : List ℕ) (r : ℕ) (after listed : List ℕ) → walkRecord ≤ length row → Plays t (brokerAs owner first 1) buffer row r after listed →
       WalksOver brokers answer left row r after listed
 
 -- ---- what the request comes to
@@ -102,9 +102,9 @@ answerAt (fails errnum) quiet = cond quiet (Silenced errnum) (Replied errnum)
 
 -- "At 1 and 4 the final frame is what the writer makes of the request's header fields, topic and payload with these routes; at 3 it is the step's error
 -- reply with them": of the request m with its routes at rest
-abbrev pub messageAt : End → Message → Message
-messageAt (delivers number) m = m
-messageAt (fails errnum) m = cond (noResponse (m .header .flags)) m (errorReply 4294967295 0 errnum m)
+abbrev pub messageAt : Owner → End → Message → Message
+messageAt owner (delivers number) m = m
+messageAt owner (fails errnum) m = cond (noResponse (m .header .flags)) m (errorReply (owner .userid) (owner .rolemask) errnum m)
 
 -- "Behind it all is zero, except that at 1 and 4 on 0 links the buffer is as on entry."
 abbrev pub asOnEntry : End → Bool → ℕ → Bool
@@ -123,14 +123,14 @@ pub record IsRecord (services : List ℕ) (number broker : ℕ) (topic : List �
 
 -- ---- the claim
 
--- of a request m that enters in `buffer`, on the path p, and of every response to it in the buffer `back`
-pub record ThereAndHome (t : Tables) (entry : ℕ) (buffer : List ℕ) (m : Message) (p : Path) (back : List ℕ) : Type 0 where
+-- of a request m that enters in `buffer`, on the path p, and of every response to it in the buffer `back`, where error replies are this owner's
+pub record ThereAndHome (t : Tables) (owner : Owner) (entry : ℕ) (buffer : List ℕ) (m : Message) (p : Path) (back : List ℕ) : Type 0 where
   -- "The brokers it visits are, in order, exactly those of the tree path that paper 01 defines. .. It rests at the last one, delivered exactly when the
   -- path ends in delivery. Otherwise it has the path's error: exactly one reply if noresponse is clear, silenced if it is set."
   pub there :
       let rested = withRoutes m (routesAtRest (t .identities) (p .brokers) (m .routes)) in
       let quiet = noResponse (m .header .flags) in
-      Goes t entry buffer (p .brokers) (answerAt (p .end) quiet) (leftOf (asOnEntry (p .end) quiet (linksOf p)) (messageAt (p .end) rested) buffer)
+      Goes t owner entry buffer (p .brokers) (answerAt (p .end) quiet) (leftOf (asOnEntry (p .end) quiet (linksOf p)) (messageAt owner (p .end) rested) buffer)
   -- the path begins at the entry
   pub entered : (rest : List ℕ) × (p .brokers ≡ entry ∷ rest)
   -- "Links crossed = brokers on that path less one, never more than twice the tree's depth."
@@ -139,16 +139,16 @@ pub record ThereAndHome (t : Tables) (entry : ℕ) (buffer : List ℕ) (m : Mess
   -- the final frame is one that the writer makes
   pub written :
       let rested = withRoutes m (routesAtRest (t .identities) (p .brokers) (m .routes)) in
-      writing (messageAt (p .end) rested) ≡ answered (frameOf (messageAt (p .end) rested))
+      writing (messageAt owner (p .end) rested) ≡ answered (frameOf (messageAt owner (p .end) rested))
   -- "It visits the same brokers in the opposite order and is home at the entry broker with exactly the routes that the request had on entry. .. It ends
   -- with answer 5 at the entry, on as many links. The final frame is what the writer makes of the response's header fields, topic and payload with the
   -- request's routes on entry. Behind it all is zero, except that on 0 links the buffer is as at the response's start."
   pub home :
       (n : Message) → Responds (routesAtRest (t .identities) (p .brokers) (m .routes)) m back n →
-      Goes t (final 0 (p .brokers)) back (reverse (p .brokers)) Home (leftOf (eqb (linksOf p) 0) (withRoutes n (m .routes)) back)
+      Goes t owner (final 0 (p .brokers)) back (reverse (p .brokers)) Home (leftOf (eqb (linksOf p) 0) (withRoutes n (m .routes)) back)
       × (writing (withRoutes n (m .routes)) ≡ answered (frameOf (withRoutes n (m .routes))))
 
 -- "This is a single claim about both walks, from entry to home, and not one for each step."
-abbrev pub DemandThree : Tables → ℕ → List ℕ → List ℕ → Type 0
-DemandThree t entry buffer back =
-    (m : Message) → Enters t entry buffer m → ThereAndHome t entry buffer m (pathOf (t .tree) (t .services) entry (m .header) (m .topic)) back
+abbrev pub DemandThree : Tables → Owner → ℕ → List ℕ → List ℕ → Type 0
+DemandThree t owner entry buffer back =
+    (m : Message) → Enters t entry buffer m → ThereAndHome t owner entry buffer m (pathOf (t .tree) (t .services) entry (m .header) (m .topic)) back

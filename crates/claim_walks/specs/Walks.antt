@@ -10,12 +10,13 @@ use Rattle.frame_message.specs.Message.{Message}
 use Rattle.frame_message.specs.Frame.{frameOf}
 use Rattle.frame_message.specs.Reading.{final}
 use Rattle.walk_path.specs.Walks.{bytes, floorTree, floorServices, Told, delivered, failed, silenced, Row, walk, header, table}
+use Rattle.step_routing.specs.Messages.{Owner}
 use Rattle.step_routing.specs.Routed.{Tables, tablesOf}
 use Rattle.step_routing.specs.declared.Stepped.{Stepped}
 use Rattle.step_routing.specs.declared.Stepped.the-variants.{Delivered, Replied, Silenced}
 use Rattle.walk.specs.Walk.{leastBuffer}
 use Rattle.call_step_record.specs.Steps.{stepRow, frameLength}
-use Rattle.call_specs.specs.Calls.{hostBroker, Plays, walkRecord}
+use Rattle.call_specs.specs.Calls.{brokerAs, Plays, walkRecord}
 use Rattle.claim_walks.specs.Demand3.{Enters, StepsOver}
 
 -- ---- the floor's tables
@@ -54,7 +55,7 @@ pub record ReportsEnd (answer : Stepped) (rank links : ℕ) (left row : List ℕ
   pub leaves : after ≡ left
 
 -- of a request m that enters in `buffer`
-pub record EndsAs (t : Tables) (entry : ℕ) (buffer : List ℕ) (m : Message) (answer : Stepped) (rank links : ℕ) : Type 0 where
+pub record EndsAs (t : Tables) (owner : Owner) (entry : ℕ) (buffer : List ℕ) (m : Message) (answer : Stepped) (rank links : ℕ) : Type 0 where
   -- the premises of demand 3
   pub enters : Enters t entry buffer m
   -- the brokers that it visits, from the entry to this rank, one more than these links; and what is left in the buffer
@@ -64,25 +65,25 @@ pub record EndsAs (t : Tables) (entry : ℕ) (buffer : List ℕ) (m : Message) (
   pub count : length brokers ≡ links + 1
   pub left : List ℕ
   -- the steps over these brokers, one after another, end with this answer
-  pub steps : (client : ℕ) → (client ≡ 0 → ⊥) → StepsOver t client buffer brokers answer left
+  pub steps : (client : ℕ) → (client ≡ 0 → ⊥) → StepsOver t owner client buffer brokers answer left
   -- and so does the walk
   pub walk :
-      (row : List ℕ) (r : ℕ) (after listed : List ℕ) → walkRecord ≤ length row → Plays t (hostBroker entry 1) buffer row r after listed →
+      (row : List ℕ) (r : ℕ) (after listed : List ℕ) → walkRecord ≤ length row → Plays t (brokerAs owner entry 1) buffer row r after listed →
       ReportsEnd answer rank links left row r after listed
 
 -- ---- the claim
 
 -- of a row, in a buffer of so many bytes
-unfoldable pub RowEnds : ℕ → Row → Type 0
-RowEnds room (walk entry nodeid flags topic told rank links) =
+unfoldable pub RowEnds : Owner → ℕ → Row → Type 0
+RowEnds owner room (walk entry nodeid flags topic told rank links) =
     let request = requestOf nodeid flags topic in
-    EndsAs floor entry (entering room request) request (answerOf told) rank links
+    EndsAs floor owner entry (entering room request) request (answerOf told) rank links
 
 -- of each row
 unfoldable pub EachRow : (Row → Type 0) → List Row → Type 0
 EachRow holds [] = Unit {0}
 EachRow holds (row ∷ rows) = holds row × EachRow holds rows
 
--- W1 to W11, in any buffer that a walk takes
-abbrev pub WalksOfTheTable : Type 0
-WalksOfTheTable = (room : ℕ) → leastBuffer ≤ room → EachRow (RowEnds room) table
+-- W1 to W11, in any buffer that a walk takes, whosever the error replies are
+abbrev pub WalksOfTheTable : Owner → Type 0
+WalksOfTheTable owner = (room : ℕ) → leastBuffer ≤ room → EachRow (RowEnds owner room) table

@@ -10,6 +10,14 @@ use Rattle.frame_message.specs.Message.{Message}
 use Rattle.frame_message.specs.Frame.{mostBody, bodyOf}
 use Rattle.frame_message.specs.Writing.{mostRoutes}
 
+-- whose the error replies are: the userid and rolemask that they carry
+pub record Owner : Type 0 where
+  pub userid : ℕ
+  pub rolemask : ℕ
+
+abbrev pub ownerOf : ℕ → ℕ → Owner
+ownerOf userid rolemask = record { userid = userid; rolemask = rolemask }
+
 -- a message with these routes, and all else as it was
 abbrev pub withRoutes : Message → List (List ℕ) → Message
 withRoutes m routes = record { header = m .header; routes = routes; topic = m .topic; payload = m .payload }
