@@ -9,13 +9,9 @@ use step_routing::Back;
 use step_routing::Broker;
 use step_routing::Stepped;
 use step_routing::Way;
-ghost use Rattle.refusal.specs.Answer.{andThen};
-ghost use Rattle.step_routing.specs.Requests.{requestWay};
-ghost use Rattle.step_routing.specs.Responses.{responseWay};
-ghost use Rattle.step_routing.specs.Routed.{tablesOf, requested, responded};
-ghost use lib.ListN.{length};
-ghost use Rattle.step_pass.specs.Step.{roomFor, passOf, Makes};
-ghost use Rattle.step_pass.specs.Working.{heldIn, Lies};
+ghost use Rattle.step_routing.specs.Routed.{tablesOf};
+ghost use Rattle.step_pass.specs.Step.{passOf, Makes};
+ghost use Rattle.step_pass.specs.Working.{Lies, requestOutcome, responseOutcome};
 
 // A request: delivered, forwarded, or an error.
 fn request(
@@ -27,7 +23,7 @@ fn request(
     buffer: &mut [u8],
 ) -> Stepped
     requires { ⌜ Lies (now buffer) f 1 ⌝ }
-    ensures { λ r. ⌜ Makes (andThen (requested (tablesOf (now (tree .entry)) (now (services .entry)) (now (identities .entry))) b (heldIn (now (buffer .entry))) (requestWay (now (tree .entry)) (now (services .entry)) (b .rank) (b .client) (heldIn (now (buffer .entry)) .header) (heldIn (now (buffer .entry)) .topic))) (roomFor (length (now (buffer .entry))))) (now (buffer .entry)) r (now (buffer .exit)) ⌝ }
+    ensures { λ r. ⌜ Makes (requestOutcome (tablesOf (now (tree .entry)) (now (services .entry)) (now (identities .entry))) b (now (buffer .entry))) (now (buffer .entry)) r (now (buffer .exit)) ⌝ }
 {
     let topic = f.topic;
     let start = topic.start;
@@ -57,7 +53,7 @@ fn request(
 // A response: home, or forwarded without its top route.
 fn response(tree: &[u8], identities: &[u8], rank: u32, f: Layout, buffer: &mut [u8]) -> Stepped
     requires { ⌜ Lies (now buffer) f 2 ⌝ }
-    ensures { λ r. ⌜ Makes (andThen (responded (heldIn (now (buffer .entry))) (responseWay (now (tree .entry)) (now (identities .entry)) rank (heldIn (now (buffer .entry)) .routes))) (roomFor (length (now (buffer .entry))))) (now (buffer .entry)) r (now (buffer .exit)) ⌝ }
+    ensures { λ r. ⌜ Makes (responseOutcome (now (tree .entry)) (now (identities .entry)) rank (now (buffer .entry))) (now (buffer .entry)) r (now (buffer .exit)) ⌝ }
 {
     if f.routes == 0 {
         return Stepped::Home;
