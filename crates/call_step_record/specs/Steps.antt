@@ -19,16 +19,16 @@ refusalIn Home = 0
 -- "1 delivered, with the record's number ..; 2 forward, with the rank; 3 error reply made, with the error number; 4 silenced .., with that number; 5 home";
 -- a refusal has no answer, and four zeros in a walk's record
 abbrev pub stepRow : Stepped → ℕ → List ℕ
-stepRow (Refused r) length = 0 ∷ 0 ∷ 0 ∷ 0 ∷ []
-stepRow (Delivered number) length = 1 ∷ number ∷ 0 ∷ length ∷ []
-stepRow (Forwarded next) length = 2 ∷ next ∷ 0 ∷ length ∷ []
-stepRow (Replied errnum) length = 3 ∷ 0 ∷ errnum ∷ length ∷ []
-stepRow (Silenced errnum) length = 4 ∷ 0 ∷ errnum ∷ length ∷ []
-stepRow Home length = 5 ∷ 0 ∷ 0 ∷ length ∷ []
+stepRow (Refused r) size = 0 ∷ 0 ∷ 0 ∷ 0 ∷ []
+stepRow (Delivered number) size = 1 ∷ number ∷ 0 ∷ size ∷ []
+stepRow (Forwarded next) size = 2 ∷ next ∷ 0 ∷ size ∷ []
+stepRow (Replied errnum) size = 3 ∷ 0 ∷ errnum ∷ size ∷ []
+stepRow (Silenced errnum) size = 4 ∷ 0 ∷ errnum ∷ size ∷ []
+stepRow Home size = 5 ∷ 0 ∷ 0 ∷ size ∷ []
 
 -- a walk: "that answer, the rank and the links crossed"
 abbrev pub walkRow : Walked → ℕ → List ℕ
-walkRow w length = stepRow (w .step) length ++ (w .rank ∷ w .links ∷ [])
+walkRow w size = stepRow (w .step) size ++ (w .rank ∷ w .links ∷ [])
 
 -- "length of the frame now in the buffer": a frame says it in its first eight bytes
 abbrev pub frameLength : List ℕ → ℕ

@@ -19,25 +19,25 @@ pub fn refusal_in(s: Stepped) -> u32
 }
 
 // A step as four numbers: the answer, its record or rank, its error, and the length that the frame now has. A refusal has none of them.
-pub fn step_row(s: Stepped, length: usize) -> [usize; 4]
-    ensures { λ r. ⌜ r ≡ stepRow s length ⌝ }
+pub fn step_row(s: Stepped, size: usize) -> [usize; 4]
+    ensures { λ r. ⌜ r ≡ stepRow s size ⌝ }
 {
     match s {
         Stepped::Refused(_) => [0, 0, 0, 0],
-        Stepped::Delivered(number) => [1, number, 0, length],
-        Stepped::Forwarded(next) => [2, next as usize, 0, length],
-        Stepped::Replied(errnum) => [3, 0, errnum as usize, length],
-        Stepped::Silenced(errnum) => [4, 0, errnum as usize, length],
-        Stepped::Home => [5, 0, 0, length],
+        Stepped::Delivered(number) => [1, number, 0, size],
+        Stepped::Forwarded(next) => [2, next as usize, 0, size],
+        Stepped::Replied(errnum) => [3, 0, errnum as usize, size],
+        Stepped::Silenced(errnum) => [4, 0, errnum as usize, size],
+        Stepped::Home => [5, 0, 0, size],
     }
 }
 
 // A walk as six numbers: the last step's four, the rank at which it rests, and the links crossed.
-pub fn walk_row(w: Walked, length: usize) -> [usize; 6]
-    ensures { λ r. ⌜ r ≡ walkRow w length ⌝ }
+pub fn walk_row(w: Walked, size: usize) -> [usize; 6]
+    ensures { λ r. ⌜ r ≡ walkRow w size ⌝ }
 {
     let step = w.step;
-    let four = step_row(step, length);
+    let four = step_row(step, size);
     [
         four[0],
         four[1],

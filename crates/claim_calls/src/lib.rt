@@ -1,6 +1,5 @@
-// The claims, for every slice and number that a call can get. Each function does nothing: its parameters are those of the call that the claim is
-// about, and its promise is the claim. So the premises of a law, that bytes are below 256 and that a field has four bytes, are met here once and for
-// all, and nothing is left for a caller to check.
+// The claims, for every slice and number that a call can get. Each theorem is the postcondition of an empty function, whose parameters are those of the
+// call that it is about. So the premises of a law, that bytes are below 256 and that a field has four bytes, are met here once and for all.
 use step_routing::Broker;
 ghost use Rattle.bytes_number.specs.Number.{Bytes};
 ghost use Rattle.call_specs.specs.Calls.{headerOf};

@@ -1,6 +1,5 @@
--- Demand 2 of the step call: on a buffer that holds a message, lampreycoil_step does what the rules say, and nothing else. The rules stand in the crate
--- rules (specs/Rules.antt), to be read first beside the paper: each answer comes exactly in its case, errors 38 and 113 too, and no other answer meets
--- them.
+-- Demand 2 of the step call: on a buffer that holds a message, lampreycoil_step does what the rules say, and nothing else. The rules stand in
+-- specs/Rules.antt, to be read first beside the paper: each answer comes exactly in its case, errors 38 and 113 too, and no other answer meets them.
 use mathlib.Core.Path.{_≡_}
 use Prim.Native.Nat.{ℕ, _≤_}
 use mathlib.Core.List.{List}

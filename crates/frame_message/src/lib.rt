@@ -42,7 +42,7 @@ pub struct Header {
     pub second: u32,
 }
 
-// What is told of a message that is to be written: why nothing is, or how long the frame is.
+// The result of a write: why nothing is written, or how long the frame is.
 pub enum Written {
     Refused(Refusal),
     Frame(usize),

@@ -61,7 +61,7 @@ abbrev pub leftBy : Answer Outcome → List ℕ → List ℕ
 leftBy (refused r) buffer = buffer
 leftBy (answered o) buffer = leftAfter o buffer
 
--- ---- what is told
+-- ---- the result
 
 -- the code's answer, for each case of the paper's
 abbrev pub toldAs : Answer Outcome → Stepped

@@ -43,7 +43,7 @@ pub data Told : Type 0 where
   failed : ℕ → Told
   silenced : ℕ → Told
 
--- what is told of a path's end: an error, unless noresponse is set
+-- the result of a path's end: an error is silenced where noresponse is set
 abbrev pub toldOf : ℕ → End → Told
 toldOf flags (delivers number) = delivered number
 toldOf flags (fails errnum) = cond (noResponse flags) (silenced errnum) (failed errnum)

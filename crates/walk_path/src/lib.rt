@@ -1,4 +1,4 @@
-// The claims on the path that a request takes, for every slice and number that a call can get. Each function does nothing: its promise is the claim.
+// The claims on the path that a request takes, for every slice and number that a call can get. Each theorem is the postcondition of an empty function.
 use frame_message::Header;
 ghost use Rattle.walk_path.specs.WorkingLeading.{IsFollowed};
 ghost use Rattle.walk_path.specs.Walks.{WalksAreRight};

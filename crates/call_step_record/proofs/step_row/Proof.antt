@@ -37,19 +37,19 @@ returns : tie.Need-returns
 returns c = search needs
 
 returns-2 : tie.Need-returns-2
-returns-2 c = sym (ap (λ (s : Stepped). stepRow s (c .before .before .before .args .length)) (c .before .s .given .1))
+returns-2 c = sym (ap (λ (s : Stepped). stepRow s (c .before .before .before .args .size)) (c .before .s .given .1))
 
 returns-3 : tie.Need-returns-3
-returns-3 c = sym (ap (λ (s : Stepped). stepRow s (c .before .before .before .args .length)) (c .before .s2 .given .1))
+returns-3 c = sym (ap (λ (s : Stepped). stepRow s (c .before .before .before .args .size)) (c .before .s2 .given .1))
 
 returns-4 : tie.Need-returns-4
-returns-4 c = sym (ap (λ (s : Stepped). stepRow s (c .before .before .before .args .length)) (c .before .s3 .given .1))
+returns-4 c = sym (ap (λ (s : Stepped). stepRow s (c .before .before .before .args .size)) (c .before .s3 .given .1))
 
 returns-5 : tie.Need-returns-5
-returns-5 c = sym (ap (λ (s : Stepped). stepRow s (c .before .before .before .args .length)) (c .before .s4 .given .1))
+returns-5 c = sym (ap (λ (s : Stepped). stepRow s (c .before .before .before .args .size)) (c .before .s4 .given .1))
 
 returns-6 : tie.Need-returns-6
-returns-6 c = sym (ap (λ (s : Stepped). stepRow s (c .before .before .args .length)) (c .enum-told2 .given .1))
+returns-6 c = sym (ap (λ (s : Stepped). stepRow s (c .before .before .args .size)) (c .enum-told2 .given .1))
 
 pub step-row-spec : {M : Type 1} → statement M
 step-row-spec =

@@ -47,7 +47,7 @@ returns : tie.Need-returns
 returns c = let d = c .before .before in
     let w = d .before .args .w in
     let behind = w .rank ∷ w .links ∷ [] in
-    ap (λ (ns : List ℕ). firstFour ns ++ behind) (d .step-row .ensures) ∙ ap (λ (ns : List ℕ). ns ++ behind) (four-are (w .step) (d .before .args .length))
+    ap (λ (ns : List ℕ). firstFour ns ++ behind) (d .step-row .ensures) ∙ ap (λ (ns : List ℕ). ns ++ behind) (four-are (w .step) (d .before .args .size))
 
 pub walk-row-spec : {M : Type 1} → statement M
 walk-row-spec =
