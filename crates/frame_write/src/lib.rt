@@ -14,7 +14,7 @@ pub fn write(header: Header, routes: &[u8], topic: &[u8], payload: &[u8], out: &
     ensures { λ r. ⌜ r ≡ writtenAs (writingInto (length (now (out .entry))) (givenMessage header (now (routes .entry)) (now (topic .entry)) (now (payload .entry)))) ⌝ }
     ensures { λ _. ⌜ now (out .exit) ≡ writtenOver (writingInto (length (now (out .entry))) (givenMessage header (now (routes .entry)) (now (topic .entry)) (now (payload .entry)))) (now (out .entry)) ⌝ }
 {
-    let drafted = frame_write_check::judge(header, routes, topic, payload, out.len());
+    let drafted = frame_write_check::check_message(header, routes, topic, payload, out.len());
     match drafted {
         Written::Refused(r) => Written::Refused(r),
         Written::Frame(n) => {

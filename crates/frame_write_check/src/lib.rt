@@ -47,7 +47,13 @@ fn measure(header: Header, routes: &[u8], topic: &[u8], payload: &[u8], room: us
 
 // The refusal, or the length of the frame to be written into so much room: 6, 7, 8, 9, 10, then 3 and 11. All of the first five are looked
 // at before any is told, so that their order stands in one list; a message that is written needs them all anyway.
-pub fn judge(header: Header, routes: &[u8], topic: &[u8], payload: &[u8], room: usize) -> Written
+pub fn check_message(
+    header: Header,
+    routes: &[u8],
+    topic: &[u8],
+    payload: &[u8],
+    room: usize,
+) -> Written
     ensures { λ r. ⌜ r ≡ writtenAs (writingInto room (givenMessage header (now (routes .entry)) (now (topic .entry)) (now (payload .entry)))) ⌝ }
 {
     let known = frame_header_rules::is_known(header);

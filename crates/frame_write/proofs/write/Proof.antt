@@ -11,8 +11,8 @@ use borrow.Author.Needs.{needs}
 use Rattle.frame_write.proofs.write.Statement.{statement}
 use Rattle.frame_write.proofs.write.Tie as tie
 
-judge-requires : tie.Need-judge-requires
-judge-requires c κs = tt
+check-message-requires : tie.Need-check-message-requires
+check-message-requires c κs = tt
 
 enum-known-drafted : tie.Need-enum-known-drafted
 enum-known-drafted c = search needs
@@ -29,7 +29,7 @@ abbrev ToldOf : tie.Start → ℕ → Type 0
 ToldOf s = Told (length (s .args .out .now)) (s .args .header) (s .args .routes .now) (s .args .topic .now) (s .args .payload .now)
 
 told : (c : tie.After-drafted2) → ToldOf (c .before .before .before .before .before .before .before) (c .drafted2 .given .0 .0)
-told c = told-given _ _ _ _ _ (sym (c .before .before .judge .ensures) ∙ c .drafted2 .given .1)
+told c = told-given _ _ _ _ _ (sym (c .before .before .check-message .ensures) ∙ c .drafted2 .given .1)
 
 write-frame-requires : tie.Need-write-frame-requires
 write-frame-requires c κs = let t = told (c .before .before) in
@@ -37,7 +37,7 @@ write-frame-requires c κs = let t = told (c .before .before) in
 
 returns : tie.Need-returns
 returns c = let start = c .before .before .before .before .before .before .before .before in
-    let into = told-refused (answer start) (sym (c .before .before .before .judge .ensures) ∙ c .before .drafted .given .1) in
+    let into = told-refused (answer start) (sym (c .before .before .before .check-message .ensures) ∙ c .before .drafted .given .1) in
     (ap writtenAs (sym into), ap (λ (a : Answer (List ℕ)). writtenOver a (start .args .out .now)) (sym into))
 
 same-length : tie.Need-same-length
@@ -52,7 +52,7 @@ pub write-spec : {M : Type 1} → statement M
 write-spec =
     tie.close
     (tie.spec
-    judge-requires
+    check-message-requires
     enum-known-drafted
     enum-known-drafted-2
     write-frame-requires

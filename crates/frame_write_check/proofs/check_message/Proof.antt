@@ -1,4 +1,4 @@
--- `frame_write_check::judge` meets its contract: the writer's order, at the tests that led to each return.
+-- `frame_write_check::check_message` meets its contract: the writer's order, at the tests that led to each return.
 use mathlib.Core.Path.{_≡_, sym, _∙_}
 use mathlib.Core.Bool.{Bool, false, not}
 use mathlib.Core.List.{List}
@@ -9,8 +9,8 @@ use Rattle.frame_message.specs.Writing.{writingInto, givenMessage}
 use Rattle.frame_write_check.specs.Working.{measured}
 use Rattle.frame_write_check.proofs.Judging.{Order, order-is, told-header, told-parts, told-route, told-topic, told-field, told-rest}
 use borrow.Author.Needs.{needs}
-use Rattle.frame_write_check.proofs.judge.Statement.{statement}
-use Rattle.frame_write_check.proofs.judge.Tie as tie
+use Rattle.frame_write_check.proofs.check_message.Statement.{statement}
+use Rattle.frame_write_check.proofs.check_message.Tie as tie
 
 is-known-requires : tie.Need-is-known-requires
 is-known-requires c κs = tt
@@ -88,8 +88,8 @@ measure-requires c κs = let d = c .before .before .before .before .before in
 returns-6 : tie.Need-returns-6
 returns-6 c = c .measure .ensures ∙ told-rest (order (c .before .before .before .before .before .before)) (search needs) (search needs) (search needs) (search needs) (search needs)
 
-pub judge-spec : {M : Type 1} → statement M
-judge-spec =
+pub check-message-spec : {M : Type 1} → statement M
+check-message-spec =
     tie.close
     (tie.spec
     is-known-requires
