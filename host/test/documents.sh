@@ -85,8 +85,8 @@ headed() { # DOCUMENT ANCHOR
 named() { # DOCUMENT
     local path link
     for path in $(prose "$1" | grep -oE '`[A-Za-z0-9_.-]+(/[A-Za-z0-9_.-]+)+/?`' | tr -d '`' | sort -u); do
-        # what is made, or is a path of another machine, is not in the repository
-        case $path in target/* | bin/* | lib/* | share/*) continue ;; esac
+        # what is made is not in the repository, and CRATE or NAME stand for any
+        case $path in target/* | bin/* | lib/* | share/* | */CRATE/* | */NAME/*) continue ;; esac
         good "$1 names $path, which is there" there "$1" "$path"
     done
     for path in $(prose "$1" | grep -oE "\`($families)_[a-z0-9_]+\`" | tr -d '`' | sort -u); do
