@@ -67,7 +67,7 @@ prints README.md one_step './one_step'
 
 # ---- what the documents name
 
-documents='README.md CONTRIBUTING.md docs/C-GUIDE.md docs/ARCHITECTURE.md docs/FORMAT.md'
+documents='README.md CONTRIBUTING.md docs/C-GUIDE.md docs/ARCHITECTURE.md docs/FORMAT.md bench/README.md'
 families='bytes|frame|json|table|step|walk|call|claim'
 
 # The document without what stands between fences.
