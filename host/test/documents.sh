@@ -1,6 +1,6 @@
 #!/usr/bin/env bash
 # Tests the documents. Each C example compiles by itself as it stands, as C and as C++, without a warning, and
-# a program among them prints what its document says. Each file and crate that a document names is there, and
+# a program among them prints what its document says. Each file, crate and link of a document is there, and
 # each name in brackets behind a file is in that file. README.md has at most 200 lines, and no line of prose
 # has more than 100 characters. The archive is ARCHIVE, or else the one of `make archive`. The last line is
 # 'N passed, M failed'.
@@ -102,12 +102,15 @@ named() { # DOCUMENT
     done
 }
 
-# A name in brackets behind a file, `FILE` (`NAME`), is in that file.
+# Each name in brackets behind a file, `FILE` (`NAME`, `NAME`), is in that file.
 defined() { # DOCUMENT
-    local file name
-    while IFS='`' read -r _ file _ name _; do
-        good "$1: $name is in $file" grep -qwF -- "$name" "crates/$file"
-    done < <(prose "$1" | grep -oE '`[a-z_]+/[A-Za-z0-9_./]+\.(antt|rt)` \(`[A-Za-z0-9_]+`')
+    local entry file name
+    while read -r entry; do
+        file=$(cut -d '`' -f 2 <<<"$entry")
+        for name in $(grep -oE '`[^`]+`' <<<"${entry#*(}" | tr -d '`'); do
+            good "$1: $name is in $file" grep -qwF -- "$name" "crates/${file#crates/}"
+        done
+    done < <(prose "$1" | grep -oE '`[a-z_]+/[A-Za-z0-9_./]+\.(antt|rt)` \((`[A-Za-z0-9_]+`(, )?)+')
 }
 
 # No line of prose is too long; tables and code are no prose. Prints the lines that are.
