@@ -1,4 +1,5 @@
-# Lampreycoil: framed Flux messages and streams of them, the tables of their brokers, a broker's step and the walk, proved. `make` lists what can be made.
+# Lampreycoil: framed Flux messages and streams of them, the tables of their brokers, a broker's step and the
+# walk, proved. `make` lists what can be made.
 
 CC       = gcc
 ARCHIVE  = target/staticlib/liblampreycoil.a
@@ -27,8 +28,10 @@ help:
 	@echo 'make deps     install the compilers that are missing (Debian packages)'
 	@echo 'make clean    remove target/'
 
+# Proves every crate: these three need all others.
 run: deps
-	@rt check examples
+	@printf '== the proofs (what the prover says goes to target/make/check.log)\n'
+	@tools/prove check examples lampreycoil claim_calls
 	@$(MAKE) --no-print-directory -s host
 	@printf '\n== the examples, run by the proved program\n'
 	@cat target/log/examples.stdout
@@ -53,7 +56,7 @@ bench: deps bench-deps archive
 archive: $(ARCHIVE)
 
 $(ARCHIVE): $(RATTLE)
-	rt staticlib lampreycoil
+	@tools/prove staticlib lampreycoil
 
 include host/host.mk
 
@@ -70,7 +73,7 @@ dist: $(ARCHIVE)
 	cp include/lampreycoil.h $(DIST_ROOM)/include
 	cp -R host man README.md CHANGELOG.md lampreycoil.pc.in $(DIST_ROOM)
 	mv $(DIST_ROOM)/host/dist.mk $(DIST_ROOM)/Makefile
-	cp docs/FORMAT.md $(DIST_ROOM)/docs
+	cp docs/C-GUIDE.md docs/FORMAT.md $(DIST_ROOM)/docs
 	$(call PC,$${pcfiledir}/../..,$${prefix}/lib,$${prefix}/include) >$(DIST_ROOM)/lib/pkgconfig/lampreycoil.pc
 	chmod -R u=rwX,go=rX $(DIST_ROOM)
 	tar -C target/dist --sort=name --mtime=@$(DIST_DATE) --owner=0 --group=0 --numeric-owner \

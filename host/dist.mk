@@ -14,7 +14,7 @@ include host/host.mk
 
 host: $(HOST)
 
-# The programs, the library through its header, and the examples of README.md.
+# The programs, the library through its header, and the examples of docs/C-GUIDE.md.
 test: host
 	@CC='$(CC)' ARCHIVE='$(ARCHIVE)' FLUX_FRAME=bin/flux_frame FLUX_FLOOR=bin/flux_floor host/test.sh
 

@@ -40,7 +40,7 @@ install: $(HOST) $(ARCHIVE)
 	$(INSTALL) -m 644 $(ARCHIVE) '$(DESTDIR)$(LIBDIR)'
 	$(INSTALL) -m 644 include/lampreycoil.h '$(DESTDIR)$(INCLUDEDIR)'
 	$(INSTALL) -m 644 man/flux_frame.1 man/flux_floor.1 '$(DESTDIR)$(MANDIR)/man1'
-	$(INSTALL) -m 644 docs/FORMAT.md host/example.floor '$(DESTDIR)$(DOCDIR)'
+	$(INSTALL) -m 644 docs/C-GUIDE.md docs/FORMAT.md host/example.floor '$(DESTDIR)$(DOCDIR)'
 	$(call PC,$(PREFIX),$(LIBDIR),$(INCLUDEDIR)) >'$(DESTDIR)$(LIBDIR)/pkgconfig/lampreycoil.pc'
 	chmod 644 '$(DESTDIR)$(LIBDIR)/pkgconfig/lampreycoil.pc'
 
@@ -50,5 +50,5 @@ uninstall:
 	rm -f '$(DESTDIR)$(LIBDIR)/$(notdir $(ARCHIVE))' '$(DESTDIR)$(LIBDIR)/pkgconfig/lampreycoil.pc'
 	rm -f '$(DESTDIR)$(INCLUDEDIR)/lampreycoil.h'
 	rm -f '$(DESTDIR)$(MANDIR)/man1/flux_frame.1' '$(DESTDIR)$(MANDIR)/man1/flux_floor.1'
-	rm -f '$(DESTDIR)$(DOCDIR)/FORMAT.md' '$(DESTDIR)$(DOCDIR)/example.floor'
+	rm -f $(foreach name,C-GUIDE.md FORMAT.md example.floor,'$(DESTDIR)$(DOCDIR)/$(name)')
 	if [ -d '$(DESTDIR)$(DOCDIR)' ]; then rmdir '$(DESTDIR)$(DOCDIR)'; fi

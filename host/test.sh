@@ -3,9 +3,9 @@
 # wrong usage; host/test/dump.sh has more of dump, host/test/capture.sh its captures of several frames, and
 # host/test/json.sh its payloads that are JSON or are not. flux_floor: host/test/floor.sh. The header:
 # host/test/header.sh. Then the list of a stream, the check of JSON, the step and the walk through it, the
-# examples of README.md, and the stack that each call takes. The programs are FLUX_FRAME and FLUX_FLOOR, or
-# else what `make host` builds; the archive is ARCHIVE, or else the one of `make archive`. The last line is
-# 'N passed, M failed'.
+# examples of docs/C-GUIDE.md, and the stack that each call takes. The programs are FLUX_FRAME and
+# FLUX_FLOOR, or else what `make host` builds; the archive is ARCHIVE, or else the one of `make archive`.
+# The last line is 'N passed, M failed'.
 set -u
 cd "$(dirname "$0")/.." || exit 2
 
@@ -335,21 +335,21 @@ wrong 'a payload that is too long' 'longer than 1048576 bytes' write --type even
 
 # ---- the header
 
-# The examples of README.md, which host/test/stream.c runs.
-awk '/^```c$/ { code = 1; next } /^```$/ { code = 0 } code' README.md >"$room/readme.c"
+# The examples of docs/C-GUIDE.md, which step.c, stream.c and guide.c in host/test/ run.
+# shellcheck source=host/test/examples.sh
+. host/test/examples.sh
+mkdir "$room/examples" && examples docs/C-GUIDE.md "$room/examples" || exit 2
 
 # shellcheck source=host/test/header.sh
 . host/test/header.sh
 
-# ---- the list of a stream, the check of JSON, the step, the examples of README.md, the walk, and the stack
+# ---- the list of a stream, the check of JSON, the step, the examples of docs/C-GUIDE.md, the walk, and the stack
 
-"${CC:-gcc}" -std=c99 -Wall -Wextra -Werror -Iinclude -c -o "$room/readme.o" "$room/readme.c" >"$room/out" 2>"$room/err"
-status=$?
-report "$status" 'the examples of README.md compile'
 program read_stream
 program check_json
 program step
 program stream
+program guide
 program walk
 program stack
 sed -n 's/^passed: stack of \(.*\): \([0-9]*\) bytes$/\2 bytes of stack: \1/p' "$room/out" | sort -n | tail -n 1

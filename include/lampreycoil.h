@@ -3,30 +3,31 @@
  * lists the frames of a stream, says whether a payload is JSON, checks the tables of the brokers
  * that pass them on, makes one broker's step, and plays a whole walk.
  * The functions are in the archive liblampreycoil.a. Usable from C99 and from C++. Files that are
- * named below are in the sources; an install has FORMAT.md in share/doc/lampreycoil.
+ * named below are in the sources; an install has FORMAT.md and C-GUIDE.md, which has examples, in
+ * share/doc/lampreycoil.
  *
  * How every call works
  *
- * - Bytes pass as a slice: a pointer, then a length (size_t). No alignment is asked for: a slice
- *   may begin at any byte. An empty slice may be NULL, or anything else, since its pointer is never
- *   followed; that is tested (host/test/empty.c) and not proved. Otherwise the pointer must be good
- *   for the length given.
+ * - Bytes pass as a slice: a pointer, then a length (size_t). A slice may begin at any byte: no
+ *   alignment is needed. An empty slice may be NULL, or any other pointer, which is never followed;
+ *   that is tested (host/test/empty.c) and not proved. Otherwise the pointer must be good for the
+ *   length given.
  * - Two slices which the call only reads may overlap, or be the same. A slice that the call writes
- *   (one without const) must overlap with no other slice of the same call. Where it does, nothing
- *   of what is said here is promised: not the answer, and no byte of any lent slice.
+ *   (one without const) must not overlap with any other slice of the same call. Where it does,
+ *   nothing that is said here is promised: not the result, and no byte of any lent slice.
  * - Nobody else may write to a lent slice until the call returns. No call keeps a pointer, and none
- *   keeps any state: there is nothing to set up or to close, and any thread may call at any time,
- *   also in a signal handler, as long as the slices are its own.
- * - A call answers 0, or the number of its refusal (enum lampreycoil_refusal). A compiler that can
- *   will warn where the answer is not looked at.
+ *   keeps any state. There is nothing to set up or to close. Any thread may call at any time, also
+ *   in a signal handler, as long as the slices are its own.
+ * - A call returns 0, or the number of its refusal (enum lampreycoil_refusal). A compiler that can
+ *   will warn where the returned number is not looked at.
  * - A call's results are a record: a row of 4-byte big-endian numbers, which it writes to the
  *   front of a slice lent for it. lampreycoil_number() reads one of them. A record slice that is
- *   too short is refused with 11 before anything else; a longer one keeps its tail as it was.
+ *   too short is refused with 11 before anything else. A longer one keeps its tail as it was.
  * - A refusal writes nothing, to any slice. Two calls differ, lampreycoil_walk and, for refusal 26,
  *   lampreycoil_check_json: see there.
  * - Nothing is allocated. A call takes less than LAMPREYCOIL_STACK_MAX bytes of stack, whatever it
- *   is given, and lampreycoil_check_json less than 4,096 (it took 2,207 at 32 levels);
- *   this is measured (host/test.sh) and not proved.
+ *   is given, and lampreycoil_check_json less than 4,096 (it took 2,207 at 32 levels). This is
+ *   measured (host/test.sh) and not proved.
  *
  * What a message is
  *
@@ -84,7 +85,7 @@
 /* The same for the preprocessor, without what follows a hyphen: 10000 * 0 + 100 * 2 + 0. */
 #define LAMPREYCOIL_VERSION_NUMBER 200
 
-/* Marks a function whose answer has to be looked at. */
+/* Marks a function whose result has to be looked at. */
 #if defined(__GNUC__)
 #define LAMPREYCOIL_CHECKED __attribute__((warn_unused_result))
 #else
@@ -95,7 +96,7 @@
 extern "C" {
 #endif
 
-/* Why a call said no. docs/FORMAT.md has these words as a table, and the orders. */
+/* Why a call was refused. docs/FORMAT.md has the table of refusals, and the order of each call. */
 enum lampreycoil_refusal {
     /* no refusal */
     LAMPREYCOIL_OK = 0,
@@ -113,9 +114,9 @@ enum lampreycoil_refusal {
     LAMPREYCOIL_HEADER_WRONG = 6,
     /* parts disagree with type or flags */
     LAMPREYCOIL_PARTS_DISAGREE = 7,
-    /* a route not of the form, or above 64 */
+    /* a route not well-formed, or more than 64 */
     LAMPREYCOIL_ROUTE_WRONG = 8,
-    /* topic not of the form */
+    /* topic not well-formed */
     LAMPREYCOIL_TOPIC_WRONG = 9,
     /* request nodeid 4294967294; event's unused field not zero */
     LAMPREYCOIL_FIELD_WRONG = 10,
@@ -326,7 +327,7 @@ uint32_t lampreycoil_read(const uint8_t *bytes, size_t bytes_length, uint8_t *re
  *   bytes from there on, and read more behind them. (Of more than LAMPREYCOIL_STREAM_MAX bytes: see
  *   below.)
  * - 11 where list has no room for an entry more and the next frame is good: go on from there with
- *   another call. A frame that is not good is told as what it is, whether there is room or not.
+ *   another call. A bad frame stops it with its own refusal, whether there is room or not.
  * - Any other refusal of lampreycoil_read is that frame's. After 2 and 3 nothing tells where the
  *   next one starts; after 4 to 10 only this frame's own front does (lampreycoil_frame_length).
  *
@@ -336,8 +337,8 @@ uint32_t lampreycoil_read(const uint8_t *bytes, size_t bytes_length, uint8_t *re
  * stop, which is then never 0. No frame is shorter than LAMPREYCOIL_FRAME_MIN bytes, so a list of
  * LAMPREYCOIL_LIST_MAX bytes has room for whatever bytes hold.
  *
- * What stopped it stands in record alone, and is no refusal of the call: the call returns 0, or 11
- * where record is too short, and then nothing is written.
+ * The refusal that stopped it stands in record alone. It is no refusal of the call, which returns
+ * 0, or 11 where record is too short, and then nothing is written.
  */
 LAMPREYCOIL_CHECKED
 uint32_t lampreycoil_read_stream(const uint8_t *bytes, size_t bytes_length, uint8_t *list,
@@ -367,8 +368,8 @@ uint32_t lampreycoil_read_stream(const uint8_t *bytes, size_t bytes_length, uint
  *
  * The byte counts from the payload's front. That of a no is the first that cannot stand where it
  * does: the bytes in front of it begin some payload that is JSON, and with it they begin none. If
- * there is no such byte the payload ends too early, and the byte is its length. One above
- * 4294967295 is told as 4294967295.
+ * there is no such byte the payload ends too early, and the byte is its length. For a byte above
+ * 4294967295 the record has 4294967295.
  *
  *   payload (\0: a zero byte)    returns   answer   byte
  *   {"a":[1,2]}\0                      0        1      0
@@ -433,29 +434,32 @@ uint32_t lampreycoil_check_identities(const uint8_t *tree, size_t tree_length,
 
 /*
  * Makes one broker's step with the message whose frame begins at buffer's front: decides where it
- * goes, makes the frame that goes there, and writes what was done to record, which takes
+ * goes, makes the frame that goes there, and writes the result to record, which takes
  * LAMPREYCOIL_STEP_RECORD bytes.
  *
  * tree, services and identities are the tables that the checks above take. Every step checks all
  * three, so nobody has to check them before. rank is the broker's own. from_client is 0 where
  * another broker sent the message, or the broker made it by itself; any other number says that it
  * came from a local client. It matters only to a request with LAMPREYCOIL_UPSTREAM and a nodeid
- * other than LAMPREYCOIL_NODEID_ANY.
+ * other than LAMPREYCOIL_NODEID_ANY. A client's own route is never added or removed here: the
+ * daemon whose client it is pushes it before the first step, and pops it when the response is home.
  *
  * buffer is the frame and all the room behind it, and buffer_length the length of both:
  * - After 2 a request has this broker's identity on top of its routes, and its frame is
- *   LAMPREYCOIL_ROUTE_STEP bytes longer. Only this needs room; with LAMPREYCOIL_FRAME_MAX bytes
- *   there is always enough. A response is without its top route, and as many bytes shorter.
+ *   LAMPREYCOIL_ROUTE_STEP bytes longer. Only this needs room: a buffer of the frame's length and
+ *   LAMPREYCOIL_ROUTE_STEP is enough, and so is one of LAMPREYCOIL_FRAME_MAX bytes for any frame. A
+ *   response is without its top route, and as many bytes shorter.
  * - After 3 the frame is the error reply: a response with the request's routes, topic and matchtag,
  *   the error as errnum, userid LAMPREYCOIL_USERID_UNKNOWN, rolemask 0 and no payload. It is never
  *   longer than the request. Another step, with from_client 0, tells where it goes.
  * - After 2 and 3 every byte behind the new frame is zero, to the end of buffer. Lend only what may
- *   be cleared: a next message that was received behind the first one would be lost.
+ *   be cleared: a next message that was received behind the first one would be lost. The shorter
+ *   buffer is the quicker one.
  * - After 1, 4 and 5, and after a refusal, no byte of buffer has changed.
  *
  * Refusals, in the order in which they are looked for: 11 for the record; 14; 15; 16; 17; those of
  * lampreycoil_read; 18; 19; 12; 11 for buffer. The last two come only where a request is to be
- * forwarded.
+ * forwarded. A refused request gets no reply from here: after 12 the daemon answers it itself.
  */
 LAMPREYCOIL_CHECKED
 uint32_t lampreycoil_step(const uint8_t *tree, size_t tree_length, const uint8_t *services,
@@ -467,7 +471,7 @@ uint32_t lampreycoil_step(const uint8_t *tree, size_t tree_length, const uint8_t
 /*
  * Plays a whole walk of the message whose frame begins at buffer's front: the step of the broker at
  * rank, as from a local client, then that of the broker to which it forwards the message, as from
- * another broker, and so on until an answer other than 2. Writes what came of it to record, which
+ * another broker, and so on until an answer other than 2. Writes the result to record, which
  * takes LAMPREYCOIL_WALK_RECORD bytes. It is there to try the tables of a whole tree: where a
  * message ends, and over how many links. A broker's daemon acts for one broker, and calls
  * lampreycoil_step.

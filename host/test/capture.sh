@@ -132,7 +132,7 @@ report "$good" 'a tail of fewer than 8 bytes that no frame begins with is refuse
 dump_tells 'such a tail alone, of two bytes' 'FF EF' "because       $(few 2); no frame begins with these"
 
 { cat "$room/log" "$room/control" && head -c 12 "$room/log"; } >"$room/capture"
-shows 'the summary in README.md' 1 "$(sed -n '/^\$ .* dump --summary capture$/,/^\$ .*flux_floor/p' README.md | grep -v '^\$')" --summary "$room/capture"
+shows 'the summary in docs/C-GUIDE.md' 1 "$(sed -n '/^\$ .* dump --summary capture$/,/^\$ .*flux_floor/p' docs/C-GUIDE.md | grep -v '^\$')" --summary "$room/capture"
 
 # ---- a frame that is refused
 

@@ -46,8 +46,9 @@ if "${CC:-gcc}" $watched -o "$room/watched" "$room/watched.c" 2>"$room/err" && "
     program read_stream "${CC:-gcc}" -std=c99 $watched
     program check_json "${CC:-gcc}" -std=c99 $watched
     program stream "${CC:-gcc}" -std=c99 $watched
+    program guide "${CC:-gcc}" -std=c99 $watched
 else
-    echo 'no sanitizers here: host/test/empty.c, helpers.c, read_stream.c, check_json.c and stream.c run without them alone'
+    echo 'no sanitizers here: host/test/empty.c, helpers.c, read_stream.c, check_json.c, stream.c and guide.c run without them alone'
 fi
 
 # An answer that nobody looks at is a warning: of each call, and of what is made of the calls.

@@ -34,6 +34,7 @@ all='./bin/flux_floor
 ./include/lampreycoil.h
 ./lib/liblampreycoil.a
 ./lib/pkgconfig/lampreycoil.pc
+./share/doc/lampreycoil/C-GUIDE.md
 ./share/doc/lampreycoil/FORMAT.md
 ./share/doc/lampreycoil/example.floor
 ./share/man/man1/flux_floor.1
@@ -52,7 +53,7 @@ int main(void)
 }
 END
 
-# A program that is linked with what is in a folder, each way that README.md has.
+# A program that is linked with what is in a folder, each way that docs/C-GUIDE.md has.
 linked() { # LABEL FOLDER
     local flags
     good "$1: linked by hand" "$CC" -o "$room/use" "$room/use.c" -I"$2/include" -L"$2/lib" -llampreycoil
@@ -88,16 +89,16 @@ good 'DESTDIR is no part of a place' grep -qx 'prefix=/opt/x' "$room/stage/opt/x
 good 'make uninstall with DESTDIR' quiet_make uninstall DESTDIR="$room/stage" PREFIX=/opt/x
 good 'nothing is left' says '' files "$room/stage"
 
-# The CMake file of README.md, in an install of its own.
+# The CMake file of docs/C-GUIDE.md, in an install of its own.
 if command -v cmake >/dev/null && command -v pkg-config >/dev/null; then
-    awk '/^```cmake$/ { code = 1; next } /^```$/ { code = 0 } code' README.md >"$room/CMakeLists.txt"
+    awk '/^```cmake$/ { code = 1; next } /^```$/ { code = 0 } code' docs/C-GUIDE.md >"$room/CMakeLists.txt"
     cp "$room/use.c" "$room/daemon.c"
     good 'make install for CMake' quiet_make install PREFIX="$usr"
-    good 'the CMake file of README.md' env PKG_CONFIG_PATH="$usr/lib/pkgconfig" cmake -S "$room" -B "$room/cmake"
+    good 'the CMake file of docs/C-GUIDE.md' env PKG_CONFIG_PATH="$usr/lib/pkgconfig" cmake -S "$room" -B "$room/cmake"
     good 'it builds' cmake --build "$room/cmake"
     good 'and it runs' says "$version 1" "$room/cmake/daemon"
 else
-    echo 'no cmake or no pkg-config here: the CMake file of README.md is not tried'
+    echo 'no cmake or no pkg-config here: the CMake file of docs/C-GUIDE.md is not tried'
 fi
 
 # ---- the man pages

@@ -1,13 +1,17 @@
 /*
  * Tests lampreycoil_step through the header, on the floor of paper 01. Then gives messages to
- * take_message and is_delivered, the examples of README.md, whose code stands in readme.c. Prints a
- * line for each test, "passed" or "FAILED".
+ * take_message and is_delivered, examples of docs/C-GUIDE.md. Prints a line for each test, "passed"
+ * or "FAILED".
  */
 #include "floor.h"
-#include "readme.c"
+
+#include "examples/is_delivered.c"
+#include "examples/take_message.c"
 
 static const struct broker at_rank_0 = {
     tree, services, identities, sizeof tree, sizeof services, RANKS *LAMPREYCOIL_ROUTE_SIZE, 0};
+static const struct floor_tables on_floor = {
+    tree, services, identities, sizeof tree, sizeof services, RANKS *LAMPREYCOIL_ROUTE_SIZE};
 
 static uint32_t step(uint32_t rank, uint32_t from_client, uint8_t *buffer, size_t room,
                      uint8_t *record, size_t record_length)
@@ -64,7 +68,7 @@ static void refuses(const char *label, uint32_t rank, const struct message *give
     report(good, label);
 }
 
-/* What the daemon of README.md was told to do, in words. */
+/* What the daemon of the example was told to do, in words. */
 static char told[200];
 
 static void tell(const char *what, uint32_t number, size_t length)
@@ -94,34 +98,36 @@ void note_silence(uint32_t error)
     tell("silence", error, 0);
 }
 
-void note_refusal(uint32_t refusal)
+void note_refusal(uint32_t refusal, const uint8_t *frame, size_t length)
 {
-    tell("refusal", refusal, 0);
+    tell(frame == buffer ? "refusal" : "another buffer", refusal, length);
 }
 
 /* A request that enters at this rank ends so; where it is delivered, at rest. */
 static void ends(const char *label, uint32_t entry, const struct message *given, int delivered,
                  uint32_t rest)
 {
-    struct broker b = at_rank_0;
     uint32_t rank = RANKS;
 
-    b.rank = entry;
     write_message(given, buffer);
-    report(is_delivered(&b, buffer, ROOM, &rank) == delivered && rank == rest, label);
+    report(is_delivered(&on_floor, entry, buffer, ROOM, &rank) == delivered && rank == rest, label);
 }
 
-/* The daemon of this rank does so with a message. */
+/* The daemon of this rank does so with a message, and leaves what is behind a route's room. */
 static void does(const char *label, uint32_t rank, uint32_t from_client,
                  const struct message *given, const char *so)
 {
     struct broker b = at_rank_0;
+    size_t length = write_message(given, buffer);
+    int good;
 
     b.rank = rank;
     told[0] = '\0';
-    write_message(given, buffer);
-    take_message(&b, from_client, buffer, ROOM);
-    report(strcmp(told, so) == 0, label);
+    take_message(&b, from_client, buffer, length);
+    good = strcmp(told, so) == 0;
+    for (size_t i = length + LAMPREYCOIL_ROUTE_STEP; i < ROOM; i++)
+        good = good && buffer[i] == FILL;
+    report(good, label);
 }
 
 enum {
@@ -183,19 +189,19 @@ static void test_refusals(void)
     services[3] = 1;
 }
 
-static void test_readme(void)
+static void test_examples(void)
 {
-    does("README.md: delivered", 4, 1, &bench, "service 1 (41); ");
-    does("README.md: forwarded", 3, 1, &bench, "broker 1 (79); ");
-    does("README.md: a reply goes to the broker below", 0, 0, &kvs, "broker 1 (77); ");
-    does("README.md: a reply to a client", 3, 1, &far, "client 0 (41); ");
-    does("README.md: silenced", 0, 1, &quiet, "silence 38 (0); ");
-    does("README.md: home", 3, 0, &back_home, "client 0 (344); ");
-    does("README.md: refused", 7, 1, &bench, "refusal 17 (0); ");
+    does("C-GUIDE.md: delivered", 4, 1, &bench, "service 1 (41); ");
+    does("C-GUIDE.md: forwarded", 3, 1, &bench, "broker 1 (79); ");
+    does("C-GUIDE.md: a reply goes to the broker below", 0, 0, &kvs, "broker 1 (77); ");
+    does("C-GUIDE.md: a reply to a client", 3, 1, &far, "client 0 (41); ");
+    does("C-GUIDE.md: silenced", 0, 1, &quiet, "silence 38 (0); ");
+    does("C-GUIDE.md: home", 3, 0, &back_home, "client 0 (344); ");
+    does("C-GUIDE.md: refused", 7, 1, &bench, "refusal 17 (41); ");
 
-    ends("README.md: a walk that is delivered", 3, &bench, 1, 1);
-    ends("README.md: a walk that ends in an error", 3, &kvs, 0, RANKS);
-    ends("README.md: a walk that is refused", 7, &bench, 0, RANKS);
+    ends("C-GUIDE.md: a walk that is delivered", 3, &bench, 1, 1);
+    ends("C-GUIDE.md: a walk that ends in an error", 3, &kvs, 0, RANKS);
+    ends("C-GUIDE.md: a walk that is refused", 7, &bench, 0, RANKS);
 }
 
 int main(void)
@@ -203,6 +209,6 @@ int main(void)
     make_floor();
     test_answers();
     test_refusals();
-    test_readme();
+    test_examples();
     return 0;
 }

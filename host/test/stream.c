@@ -1,49 +1,29 @@
 /*
- * Tests take_frames, write_log_request and json_text, the examples of README.md, whose code stands
- * in readme.c: a stream that comes in by pieces of each length gives the same frames. Prints a line
- * for each test, "passed" or "FAILED".
+ * Tests take_frames, write_log and json_text, examples of docs/C-GUIDE.md: a stream that comes in
+ * by pieces of each length gives the same frames. Prints a line for each test, "passed" or
+ * "FAILED".
  */
 #include "floor.h"
-#include "readme.c"
+
+#include "examples/json_text.c"
+#include "examples/take_frames.c"
+#include "examples/write_log.c"
 
 enum { PIECE_MAX = 400, STREAM_MAX = 100000, MANY = 300 };
-
-/* What the other examples ask for, and nothing here calls. */
-void give_to_service(uint32_t number, const uint8_t *frame, size_t length)
-{
-    (void)number, (void)frame, (void)length;
-}
-
-void send_to_broker(uint32_t rank, const uint8_t *frame, size_t length)
-{
-    (void)rank, (void)frame, (void)length;
-}
-
-void give_to_client(const uint8_t *frame, size_t length)
-{
-    (void)frame, (void)length;
-}
-
-void note_silence(uint32_t error)
-{
-    (void)error;
-}
-
-void note_refusal(uint32_t refusal)
-{
-    (void)refusal;
-}
 
 /* ---- a stream: what was sent, and what was taken of it */
 
 static uint8_t sent[STREAM_MAX], taken[STREAM_MAX];
 static size_t sent_length, taken_length, taken_frames;
 
-static void take(const uint8_t *frame, size_t length)
+/* The pointer that take_frames hands on is that of the count. */
+static void take(void *context, const uint8_t *frame, size_t length)
 {
+    size_t *count = context;
+
     memcpy(taken + taken_length, frame, length);
     taken_length += length;
-    taken_frames++;
+    ++*count;
 }
 
 static void send_request(size_t payload)
@@ -78,7 +58,7 @@ static uint32_t receive(size_t piece)
         memcpy(stream.bytes + stream.length, sent + at, more);
         stream.length += more;
         at += more;
-        refusal = take_frames(&stream, take);
+        refusal = take_frames(&stream, take, &taken_frames);
     }
     return refusal;
 }
@@ -181,9 +161,9 @@ int main(void)
     size_t length = 0;
 
     make_floor();
-    report(write_log_request(1, out, sizeof out, &length) == LAMPREYCOIL_OK &&
+    report(write_log(1, out, sizeof out, &length) == LAMPREYCOIL_OK &&
                length == sizeof log_request && memcmp(out, log_request, length) == 0,
-           "write_log_request");
+           "write_log");
     take_streams();
     take_many();
     take_payloads();
