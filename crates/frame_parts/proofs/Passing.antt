@@ -152,7 +152,7 @@ passed-none most body =
       within = omega arith;
     }
 
-module _ (most : ℕ) (body : List ℕ) (at count empty group last : ℕ) (p : Passed most body at count empty group last) where
+module _ {most : ℕ} {body : List ℕ} {at count empty group last : ℕ} (p : Passed most body at count empty group last) where
   -- so the sums of the code do not wrap
   pub passed-low : (empty ≤ count) × (count ≤ at)
   passed-low = (omega (arith, before-few (p .done), p .counted, p .emptied), omega (arith, joined-many (p .done), p .counted, p .here))
@@ -191,7 +191,7 @@ module _ (most : ℕ) (body : List ℕ) (at count empty group last : ℕ) (p : P
           rw (stop, p .rest, fewer, left, one-wrong x xs (most - (count + 1)) wrong)
 
       -- one part more
-      module _ (b : Bytes body) (start len : ℕ) (size : Data start len ≡ sizeAt (drop at body)) where
+      module _ (b : Bytes body) {start len : ℕ} (size : Data start len ≡ sizeAt (drop at body)) where
         c : CutBy x xs start len
         c = part-cut x xs start len (rw left at size)
 

@@ -65,10 +65,10 @@ module _ (c : tie.After-known-told Inv-loop μ-loop) where
   size = sym (part .size .given .1) ∙ found sized
 
   within : here .loop .at + start + len ≤ length (bodyOf here)
-  within = passed-within _ _ _ _ _ _ _ (here .loop .inv) left room bytes start len size
+  within = passed-within (here .loop .inv) left room bytes size
 
   low : (here .loop .empty ≤ here .loop .count) × (here .loop .count < length (bodyOf here))
-  low = let fewer = passed-low _ _ _ _ _ _ _ (here .loop .inv) in
+  low = let fewer = passed-low (here .loop .inv) in
       (fewer .0, omega (arith, here .loop .inv .within, left))
 
 -- and passed: the parts in front of the first empty one are one more, or as they were
@@ -77,9 +77,9 @@ more : (c : tie.Joined3 Inv-loop μ-loop) → (let h = here (c .before) in
 more c =
     let k = c .before in
     let p = here k .loop .inv in
-    ⊎-elim (λ w. passed-none-empty _ _ _ _ _ _ _ p (left k) (room k) (bytes k) (start k) (len k) (size k) (omega arith) (λ e. omega arith) (omega arith) (omega arith))
-    (⊎-elim (λ w. passed-this-empty _ _ _ _ _ _ _ p (left k) (room k) (bytes k) (start k) (len k) (size k) (omega arith) (omega arith) (omega arith))
-    (λ w. passed-earlier-empty _ _ _ _ _ _ _ p (left k) (room k) (bytes k) (start k) (len k) (size k) (λ e. omega arith) (omega arith) (omega arith)))
+    ⊎-elim (λ w. passed-none-empty p (left k) (room k) (bytes k) (size k) (omega arith) (λ e. omega arith) (omega arith) (omega arith))
+    (⊎-elim (λ w. passed-this-empty p (left k) (room k) (bytes k) (size k) (omega arith) (omega arith) (omega arith))
+    (λ w. passed-earlier-empty p (left k) (room k) (bytes k) (size k) (λ e. omega arith) (omega arith) (omega arith)))
     (c .if3 .came)
 
 loop-holds : tie.Need-loop-holds Inv-loop μ-loop
@@ -123,13 +123,13 @@ loop-again c = more c
 
 returns : tie.Need-returns Inv-loop μ-loop
 returns c = let h = c .before in
-    passed-all _ _ _ _ _ _ _ (h .loop .inv) (omega (arith, h .loop .inv .within))
+    passed-all (h .loop .inv) (omega (arith, h .loop .inv .within))
 
 too-many : tie.Need-returns-2 Inv-loop μ-loop
 too-many c =
     let h = c .before .before in
     let left : h .loop .at ≡ length (bodyOf h) → ⊥ = search needs in
-    passed-many _ _ _ _ _ _ _ (h .loop .inv) left (omega (arith, h .loop .inv .few))
+    passed-many (h .loop .inv) left (omega (arith, h .loop .inv .few))
 
 -- there was room for the part whose size is wrong: 5 comes before its size is read
 wrong-size : tie.Need-returns-3 Inv-loop μ-loop
@@ -137,7 +137,7 @@ wrong-size c =
     let h = turn (c .before .before) in
     let left : h .loop .at ≡ length (bodyOf h) → ⊥ = search needs in
     let room : h .loop .count ≡ mostOf h → ⊥ = search needs in
-    passed-wrong _ _ _ _ _ _ _ (h .loop .inv) left room (sym (c .enum-told .given .1) ∙ found (c .before .before))
+    passed-wrong (h .loop .inv) left room (sym (c .enum-told .given .1) ∙ found (c .before .before))
 
 pub count-parts-spec : {M : Type 1} → statement M
 count-parts-spec =

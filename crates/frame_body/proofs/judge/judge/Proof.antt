@@ -1,15 +1,23 @@
 -- `frame_body::judge::judge` meets its contract.
 use borrow.Author.Needs.{needs}
-use mathlib.Core.Path.{sym, ap, _∙_}
+use mathlib.Core.Path.{_≡_, sym, ap, _∙_}
 use mathlib.Core.List.{List}
 use Prim.Native.Nat.{ℕ}
 use Rattle.refusal.specs.Answer.{Answer, andThen}
 use Rattle.frame_message.specs.Reading.{partsIn, judged}
 use Rattle.frame_body.proofs.Heading.{counting-refused, counting-done}
 use Rattle.frame_layout.specs.Layout.{readAs}
-use Rattle.frame_parts.specs.WorkingCounting.{stopsAt}
+use Rattle.frame_parts.specs.WorkingCounting.{countingOf}
 use Rattle.frame_body.proofs.judge.judge.Statement.{statement}
 use Rattle.frame_body.proofs.judge.judge.Tie as tie
+
+-- at most 68 parts
+module _ (c : tie.After-count-parts) where
+  abbrev body : List ℕ
+  body = c .before .before .args .body .now
+
+  counted : c .count-parts .result ≡ countingOf 68 body
+  counted = c .count-parts .ensures
 
 count-parts-requires : tie.Need-count-parts-requires
 count-parts-requires c κs = search needs
@@ -21,12 +29,12 @@ enum-known-counts : tie.Need-enum-known-counts
 enum-known-counts c = search needs
 
 judge-counted-requires : tie.Need-judge-counted-requires
-judge-counted-requires c κs = let start = c .before .before .before .before .before in
-    (start .pre, counting-done _ (sym (c .before .counts .given .1) ∙ c .before .before .before .count-parts .ensures))
+judge-counted-requires c κs = let k = c .before .before .before in
+    (k .before .before .pre, counting-done _ (sym (c .before .counts .given .1) ∙ counted k))
 
 returns : tie.Need-returns
-returns c = let body = c .before .before .before .before .before .args .body .now in
-    let refusal = counting-refused (stopsAt 68 body) (partsIn 68 body) (sym (c .before .r .given .1) ∙ c .before .before .before .count-parts .ensures) in
+returns c = let k = c .before .before .before in
+    let refusal = counting-refused _ (partsIn 68 (body k)) (sym (c .before .r .given .1) ∙ counted k) in
     sym (ap (λ (a : Answer (List (List ℕ))). readAs (andThen a judged)) refusal)
 
 returns-2 : tie.Need-returns-2

@@ -54,8 +54,12 @@ module _ (c : tie.After-if-set) where
   abbrev bytes : Bytes body
   bytes = bytes-are (c .before)
 
+  -- behind the delimiter, or at the front where there is none
+  behind : at ≡ cond (c .before .before .has-route .result) (counts .group + 1) 0
+  behind = c .if-set .ensures
+
   place : at ≡ length (joined (groupIn h (front (partsFound body))))
-  place = c .if-set .ensures ∙ ap (λ (t : Bool). cond t (counts .group + 1) 0) (c .before .before .has-route .ensures) ∙ sym (group-long _ _ _ (sorted .head) (sorted .agree))
+  place = behind ∙ ap (λ (t : Bool). cond t (counts .group + 1) 0) (c .before .before .has-route .ensures) ∙ sym (group-long _ _ _ (sorted .head) (sorted .agree))
 
 -- the topic's piece
 is-topic : (c : tie.After-piece-if) → (let p = c .before .before in c .piece-if .result ≡ pieceIf (hasTopic (h p .flags)) (at p) (partsFound (drop (at p) (body p))))
