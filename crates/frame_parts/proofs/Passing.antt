@@ -153,9 +153,9 @@ passed-none most body =
     }
 
 module _ {most : ℕ} {body : List ℕ} {at count empty group last : ℕ} (p : Passed most body at count empty group last) where
-  -- so the sums of the code do not wrap
-  pub passed-low : (empty ≤ count) × (count ≤ at)
-  passed-low = (omega (arith, before-few (p .done), p .counted, p .emptied), omega (arith, joined-many (p .done), p .counted, p .here))
+  -- so one part more can be counted
+  pub passed-low : count ≤ at
+  passed-low = omega (arith, joined-many (p .done), p .counted, p .here)
 
   pub passed-all : at ≡ length body → Counted (record { count = count; empty = empty; group = group; last = last }) ≡ countingOf most body
   passed-all e =
@@ -180,57 +180,65 @@ module _ {most : ℕ} {body : List ℕ} {at count empty group last : ℕ} (p : P
         let stop : stopsAt most body ≡ at = p .stops ∙ rw (full, left, stops-many x xs) (omega arith) in
         rw (stop, p .rest, full, left, one-too-many x xs)
 
-    module _ (room : count ≡ most → ⊥) where
-      fewer : most - count ≡ suc (most - (count + 1))
-      fewer = omega (arith, p .few)
+    -- there is room for one part more
+    abbrev Room : Type 0
+    Room = count ≡ most → ⊥
 
-      pub passed-wrong : Wrong ≡ sizeAt (drop at body) → Refused PartWrong at ≡ countingOf most body
-      passed-wrong e =
-          let wrong = part-wrong x xs (rw left at e) in
-          let stop : stopsAt most body ≡ at = p .stops ∙ rw (fewer, left, stops-wrong x xs (most - (count + 1)) wrong) (omega arith) in
-          rw (stop, p .rest, fewer, left, one-wrong x xs (most - (count + 1)) wrong)
+    fewer : Room → most - count ≡ suc (most - (count + 1))
+    fewer room = omega (arith, p .few)
 
-      -- one part more
-      module _ (b : Bytes body) {start len : ℕ} (size : Data start len ≡ sizeAt (drop at body)) where
-        c : CutBy x xs start len
-        c = part-cut x xs start len (rw left at size)
+    pub passed-wrong : Room → Wrong ≡ sizeAt (drop at body) → Refused PartWrong at ≡ countingOf most body
+    passed-wrong room e =
+        let wrong = part-wrong x xs (rw left at e) in
+        let stop : stopsAt most body ≡ at = p .stops ∙ rw (fewer room, left, stops-wrong x xs (most - (count + 1)) wrong) (omega arith) in
+        rw (stop, p .rest, fewer room, left, one-wrong x xs (most - (count + 1)) wrong)
 
-        part : List ℕ
-        part = c .cut .0
+    -- a part that follows
+    module _ (b : Bytes body) {start len : ℕ} (size : Data start len ≡ sizeAt (drop at body)) where
+      c : CutBy x xs start len
+      c = part-cut x xs start len (rw left at size)
 
-        abbrev next : ℕ
-        next = at + start + len
+      part : List ℕ
+      part = c .cut .0
 
-        same : drop at body ≡ partBytes part ++ c .cut .1
-        unfolding part
-        same = left ∙ first-split x xs (c .cut) (rw left at (bytes-drop at body b)) (c .first) .same
+      abbrev next : ℕ
+      next = at + start + len
 
-        long : length (partBytes part) ≡ start + len
-        unfolding part
-        long = omega (arith, c .starts, c .long, length-append (sizeBytes (length part)) part)
+      same : drop at body ≡ partBytes part ++ c .cut .1
+      unfolding part
+      same = left ∙ first-split x xs (c .cut) (rw left at (bytes-drop at body b)) (c .first) .same
 
-        behind : drop next body ≡ c .cut .1
-        behind =
-            let there : next ≡ at + (start + len) = omega arith in
-            rw (there, ← drop-drop (start + len) at body, same) (drop-at (partBytes part) (c .cut .1) (start + len) long)
+      long : length (partBytes part) ≡ start + len
+      unfolding part
+      long = omega (arith, c .starts, c .long, length-append (sizeBytes (length part)) part)
 
-        abbrev passed : List (List ℕ)
-        passed = p .done ++ (part ∷ [])
+      pub passed-within : next ≤ length body
+      passed-within = omega (arith, p .within, ap length same, length-append (partBytes part) (c .cut .1), length-drop at body, long)
 
-        joins : length (joined passed) ≡ next
-        joins = omega (arith, p .here, ap length (joined-snoc (p .done) part), length-append (joined (p .done)) (partBytes part), long)
+      behind : drop next body ≡ c .cut .1
+      behind =
+          let there : next ≡ at + (start + len) = omega arith in
+          rw (there, ← drop-drop (start + len) at body, same) (drop-at (partBytes part) (c .cut .1) (start + len) long)
 
-        pub passed-within : next ≤ length body
-        passed-within = omega (arith, p .within, ap length same, length-append (partBytes part) (c .cut .1), length-drop at body, long)
+      abbrev passed : List (List ℕ)
+      passed = p .done ++ (part ∷ [])
 
-        passed-part : {e g : ℕ} → e ≡ length (beforeEmpty passed) → g ≡ length (joined (beforeEmpty passed)) → Passed most body next (count + 1) e g at
+      counts : length passed ≡ count + 1
+      counts = omega (arith, p .counted, length-append (p .done) (part ∷ []))
+
+      joins : length (joined passed) ≡ next
+      joins = omega (arith, p .here, ap length (joined-snoc (p .done) part), length-append (joined (p .done)) (partBytes part), long)
+
+      module _ (room : Room) {e g : ℕ} where
+        passed-part : e ≡ length (beforeEmpty passed) → g ≡ length (joined (beforeEmpty passed)) → Passed most body next (count + 1) e g at
         unfolding part
         passed-part emptied grouped =
+            let still = most - (count + 1) in
             record {
               done = passed;
-              rest = p .rest ∙ rw (fewer, left, one-more x xs (most - (count + 1)) (c .cut) (c .first), behind) (behind-one (p .done) part (partsIn (most - (count + 1)) (c .cut .1)));
-              stops = p .stops ∙ rw (fewer, left, stops-more x xs (most - (count + 1)) (c .cut) (c .first), behind) (omega (arith, long));
-              counted = omega (arith, p .counted, length-append (p .done) (part ∷ []));
+              rest = p .rest ∙ rw (fewer room, left, one-more x xs still (c .cut) (c .first), behind) (behind-one (p .done) part (partsIn still (c .cut .1)));
+              stops = p .stops ∙ rw (fewer room, left, stops-more x xs still (c .cut) (c .first), behind) (omega (arith, long));
+              counted = sym counts;
               few = omega (arith, p .few);
               emptied = emptied;
               grouped = grouped;
@@ -240,20 +248,19 @@ module _ {most : ℕ} {body : List ℕ} {at count empty group last : ℕ} (p : P
             }
 
         -- by the tests of the code
-        module _ {e g : ℕ} where
-          pub passed-none-empty : empty ≡ count → (len ≡ 0 → ⊥) → e ≡ empty + 1 → g ≡ next → Passed most body next (count + 1) e g at
-          unfolding part
-          passed-none-empty same n k l =
-              let all = before-none (p .done) part (omega (arith, p .counted, p .emptied)) (λ z. n (omega (arith, c .long))) in
-              passed-part (rw all (omega (arith, p .counted, length-append (p .done) (part ∷ [])))) (rw all (omega (arith, joins)))
+        pub passed-none-empty : empty ≡ count → (len ≡ 0 → ⊥) → e ≡ empty + 1 → g ≡ next → Passed most body next (count + 1) e g at
+        unfolding part
+        passed-none-empty same n k l =
+            let all = before-none (p .done) part (omega (arith, p .counted, p .emptied)) (λ z. n (omega (arith, c .long))) in
+            passed-part (rw all (omega (arith, counts))) (rw all (omega (arith, joins)))
 
-          pub passed-this-empty : len ≡ 0 → e ≡ empty → g ≡ group → Passed most body next (count + 1) e g at
-          unfolding part
-          passed-this-empty z k l =
-              let none = before-this (p .done) part (omega (arith, c .long)) in
-              passed-part (rw none (k ∙ p .emptied)) (rw none (l ∙ p .grouped))
+        pub passed-this-empty : len ≡ 0 → e ≡ empty → g ≡ group → Passed most body next (count + 1) e g at
+        unfolding part
+        passed-this-empty z k l =
+            let none = before-this (p .done) part (omega (arith, c .long)) in
+            passed-part (rw none (k ∙ p .emptied)) (rw none (l ∙ p .grouped))
 
-          pub passed-earlier-empty : (empty ≡ count → ⊥) → e ≡ empty → g ≡ group → Passed most body next (count + 1) e g at
-          passed-earlier-empty n k l =
-              let none = before-earlier (p .done) part (λ e. n (omega (arith, p .counted, p .emptied))) in
-              passed-part (rw none (k ∙ p .emptied)) (rw none (l ∙ p .grouped))
+        pub passed-earlier-empty : (empty ≡ count → ⊥) → e ≡ empty → g ≡ group → Passed most body next (count + 1) e g at
+        passed-earlier-empty n k l =
+            let none = before-earlier (p .done) part (λ e. n (omega (arith, p .counted, p .emptied))) in
+            passed-part (rw none (k ∙ p .emptied)) (rw none (l ∙ p .grouped))

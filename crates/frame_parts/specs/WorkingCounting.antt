@@ -25,6 +25,6 @@ countedAs stop (refused r) = Refused r stop
 countedAs stop (answered ps) =
     Counted (record { count = length ps; empty = length (beforeEmpty ps); group = length (joined (beforeEmpty ps)); last = length (joined (front ps)) })
 
--- at most so many parts in these bytes
+-- what is answered of bytes in which at most so many parts may come
 abbrev pub countingOf : ℕ → List ℕ → Counting
 countingOf most bytes = countedAs (stopsAt most bytes) (partsIn most bytes)

@@ -5,8 +5,8 @@ use refusal::Refusal;
 ghost use mathlib.Core.Path.{_≡_};
 ghost use Rattle.frame_parts.specs.WorkingCounting.{countingOf};
 
-// How many parts there are, how many of them stand in front of the first empty one and how many bytes those have, and how many bytes
-// stand in front of the last part.
+// How many parts there are; how many of them stand in front of the first empty one, all where none is empty, and how many bytes these
+// have; and how many bytes stand in front of the last part.
 pub struct PartCounts {
     pub count: usize,
     pub empty: usize,
@@ -48,13 +48,15 @@ pub fn count_parts(body: &[u8], most: usize) -> Counting
             }
             Size::Data(start, len) => {
                 let next = at + start + len;
+                let counted = count + 1;
+                // No part was empty so far, and this one is not.
                 if empty == count {
                     if len != 0 {
-                        empty += 1;
+                        empty = counted;
                         group = next;
                     }
                 }
-                count += 1;
+                count = counted;
                 last = at;
                 at = next;
             }

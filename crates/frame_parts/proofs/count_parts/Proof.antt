@@ -1,9 +1,8 @@
 -- `frame_parts::count_parts` meets its contract.
 use native.Mathlib.Omega.{arith}
 use mathlib.Core.Path.{_≡_, sym, ap, _∙_}
-use mathlib.Core.Logic.{⊎-elim}
 use mathlib.Core.List.{List}
-use Prim.Native.Nat.{ℕ, _+_, _-_, _<_, _≤_}
+use Prim.Native.Nat.{ℕ, _+_, _-_, _≤_}
 use lib.ListN.{length, drop}
 use borrow.Author.Needs.{needs}
 use Rattle.bytes_number.specs.Number.{Bytes}
@@ -65,22 +64,7 @@ module _ (c : tie.After-known-told Inv-loop μ-loop) where
   size = sym (part .size .given .1) ∙ found sized
 
   within : here .loop .at + start + len ≤ length (bodyOf here)
-  within = passed-within (here .loop .inv) left room bytes size
-
-  low : (here .loop .empty ≤ here .loop .count) × (here .loop .count < length (bodyOf here))
-  low = let fewer = passed-low (here .loop .inv) in
-      (fewer .0, omega (arith, here .loop .inv .within, left))
-
--- and passed: the parts in front of the first empty one are one more, or as they were
-more : (c : tie.Joined3 Inv-loop μ-loop) → (let h = here (c .before) in
-    Passed (mostOf h) (bodyOf h) (h .loop .at + start (c .before) + len (c .before)) (h .loop .count + 1) (c .if3 .empty) (c .if3 .group) (h .loop .at))
-more c =
-    let k = c .before in
-    let p = here k .loop .inv in
-    ⊎-elim (λ w. passed-none-empty p (left k) (room k) (bytes k) (size k) (omega arith) (λ e. omega arith) (omega arith) (omega arith))
-    (⊎-elim (λ w. passed-this-empty p (left k) (room k) (bytes k) (size k) (omega arith) (omega arith) (omega arith))
-    (λ w. passed-earlier-empty p (left k) (room k) (bytes k) (size k) (λ e. omega arith) (omega arith) (omega arith)))
-    (c .if3 .came)
+  within = passed-within (here .loop .inv) left bytes size
 
 loop-holds : tie.Need-loop-holds Inv-loop μ-loop
 loop-holds c = passed-none (c .before .args .most) (c .before .args .body .now)
@@ -109,17 +93,32 @@ add-next c = omega (arith, within c)
 add-next-2 : tie.Need-add-next-2 Inv-loop μ-loop
 add-next-2 c = omega (arith, within c)
 
-add-empty : tie.Need-add-empty Inv-loop μ-loop
-add-empty c = omega (arith, low (c .before .before))
+add-counted : tie.Need-add-counted Inv-loop μ-loop
+add-counted c = omega (arith, passed-low (here c .loop .inv), here c .loop .inv .within)
 
-add-count : tie.Need-add-count Inv-loop μ-loop
-add-count c = omega (arith, low (c .before))
-
+-- no part is empty so far
 loop-less : tie.Need-loop-less Inv-loop μ-loop
-loop-less c = omega (arith, more c .few)
+loop-less c = omega (arith, here (c .before .before) .loop .inv .few)
 
 loop-again : tie.Need-loop-again Inv-loop μ-loop
-loop-again c = more c
+loop-again c = let k = c .before .before in
+    passed-none-empty (here k .loop .inv) (left k) (bytes k) (size k) (room k) (omega arith) (λ e. omega arith) (omega arith) (omega arith)
+
+-- this one is the first
+loop-less-2 : tie.Need-loop-less-2 Inv-loop μ-loop
+loop-less-2 c = omega (arith, here (c .before .before) .loop .inv .few)
+
+loop-again-2 : tie.Need-loop-again-2 Inv-loop μ-loop
+loop-again-2 c = let k = c .before .before in
+    passed-this-empty (here k .loop .inv) (left k) (bytes k) (size k) (room k) (omega arith) (omega arith) (omega arith)
+
+-- an earlier one is
+loop-less-3 : tie.Need-loop-less-3 Inv-loop μ-loop
+loop-less-3 c = omega (arith, here (c .before) .loop .inv .few)
+
+loop-again-3 : tie.Need-loop-again-3 Inv-loop μ-loop
+loop-again-3 c = let k = c .before in
+    passed-earlier-empty (here k .loop .inv) (left k) (bytes k) (size k) (room k) (λ e. omega arith) (omega arith) (omega arith)
 
 returns : tie.Need-returns Inv-loop μ-loop
 returns c = let h = c .before in
@@ -154,10 +153,13 @@ count-parts-spec =
     enum-known-size
     add-next
     add-next-2
-    add-empty
-    add-count
+    add-counted
     loop-less
     loop-again
+    loop-less-2
+    loop-again-2
+    loop-less-3
+    loop-again-3
     returns
     too-many
     wrong-size)
