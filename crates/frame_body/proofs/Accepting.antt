@@ -1,7 +1,7 @@
 -- The pieces of a sorted body are the places of its message.
 use mathlib.Core.Path.{_≡_, refl, sym, ap, _∙_, subst}
 use mathlib.Core.Bool.{Bool, true, false, cond, not, _&&_}
-use Prim.Native.Nat.{ℕ, suc, _+_, _-_, _*_, _<_, _≤_}
+use Prim.Native.Nat.{ℕ, suc, _+_, _-_, _<_, _≤_}
 use mathlib.Core.List.{List, [], _∷_, _++_, append-nil}
 use native.Mathlib.Omega.{arith}
 use lib.Dec.{eqb, eqb·suc-zero}
@@ -23,12 +23,13 @@ use Rattle.frame_message.proofs.Parts.{split, joined-append}
 use Rattle.frame_message.proofs.Messages.{held}
 use Rattle.frame_message.proofs.Places.{kept-group}
 use Rattle.frame_layout.specs.declared.Piece.{Piece}
+use Rattle.frame_parts.specs.declared.PartCounts.{PartCounts}
 use Rattle.frame_layout.specs.WorkingPlacing.{firstRoute, placedIn}
 use Rattle.frame_layout.proofs.Placing.{place-in}
 use Rattle.frame_layout.specs.Layout.{dataAt, layoutOf}
-use Rattle.frame_body.specs.WorkingJudging.{partsFound, Found, pieceAt, pieceIf, Within, topicWrong, Placeable, placedAs, Sorted}
+use Rattle.frame_body.specs.WorkingJudging.{partsFound, Found, pieceAt, pieceIf, Within, topicWrong, Placeable, placedAs, groupIn, Sorted}
 use Rattle.frame_body.proofs.Cursors.{At, at-found, at-parts, at-some, at-next, at-data, at-if}
-use Rattle.frame_body.proofs.Sorting.{judged-message, group-joined, found, topicData, payloadData, behindTopic, topic-at}
+use Rattle.frame_body.proofs.Sorting.{judged-message, found, topicData, payloadData, behindTopic, topic-at}
 
 -- ---- the places by the pieces
 
@@ -122,15 +123,15 @@ topic-again flag q e set = rw set (topic-parted q (and-not flag (isTopicPart q) 
 
 -- ---- the pieces of the body
 
-module _ (body : List ℕ) (h : Header) (routes : ℕ) (s : Sorted body h routes) (b : Bytes body) (at : ℕ) (place : at ≡ 38 * routes + one (hasRoute (h .flags))) where
+module _ (body : List ℕ) (counts : PartCounts) (h : Header) (routes : ℕ) (s : Sorted body counts h routes) (b : Bytes body) (at : ℕ) (place : at ≡ length (joined (groupIn h (front (partsFound body))))) where
   abbrev rest : List (List ℕ)
-  rest = behindTopic body h routes s b
+  rest = behindTopic body counts h routes s b
 
   abbrev topicIs : List ℕ
-  topicIs = topicData body h routes s b
+  topicIs = topicData body counts h routes s b
 
   abbrev payloadIs : List ℕ
-  payloadIs = payloadData body h routes s b
+  payloadIs = payloadData body counts h routes s b
 
   rest-few : length rest ≤ 2
   rest-few = part-few (hasPayload (h .flags)) payloadIs (final [] (partsFound body) ∷ [])
@@ -139,7 +140,7 @@ module _ (body : List ℕ) (h : Header) (routes : ℕ) (s : Sorted body h routes
   fromTopic = partIf (hasTopic (h .flags)) topicIs ++ rest
 
   here : At body at fromTopic
-  here = topic-at body h routes s b at place
+  here = topic-at body counts h routes s b at place
 
   few : length fromTopic ≤ 68
   few = omega (arith, part-few (hasTopic (h .flags)) topicIs rest, rest-few)
@@ -148,14 +149,14 @@ module _ (body : List ℕ) (h : Header) (routes : ℕ) (s : Sorted body h routes
   topic-in = here .within
 
   pub topic-found : Found (drop at body)
-  topic-found = at-found body at fromTopic here (s .short) few
+  topic-found = at-found body at fromTopic here (s .head .short) few
 
   pub topic-some : 0 < length (drop at body)
   topic-some = some-there body at fromTopic here (part-some (hasTopic (h .flags)) topicIs rest (part-some (hasPayload (h .flags)) payloadIs (final [] (partsFound body) ∷ []) (omega arith)))
 
   module _ (topic : Piece) (et : topic ≡ pieceIf (hasTopic (h .flags)) at (partsFound (drop at body))) where
     topic-is : topic ≡ pieceIf (hasTopic (h .flags)) at fromTopic
-    topic-is = et ∙ ap (pieceIf (hasTopic (h .flags)) at) (at-parts body at fromTopic here (s .short) few)
+    topic-is = et ∙ ap (pieceIf (hasTopic (h .flags)) at) (at-parts body at fromTopic here (s .head .short) few)
 
     topic-set : hasTopic (h .flags) ≡ true → topic ≡ pieceAt at topicIs
     topic-set e = topic-is ∙ piece-set body at (hasTopic (h .flags)) topicIs rest e
@@ -180,14 +181,14 @@ module _ (body : List ℕ) (h : Header) (routes : ℕ) (s : Sorted body h routes
     payload-in = behind .within
 
     pub payload-found : Found (drop (topic .next) body)
-    payload-found = at-found body (topic .next) rest behind (s .short) (omega (arith, rest-few))
+    payload-found = at-found body (topic .next) rest behind (s .head .short) (omega (arith, rest-few))
 
     pub payload-some : 0 < length (drop (topic .next) body)
     payload-some = some-there body (topic .next) rest behind (part-some (hasPayload (h .flags)) payloadIs (final [] (partsFound body) ∷ []) (omega arith))
 
     module _ (payload : Piece) (ep : payload ≡ pieceIf (hasPayload (h .flags)) (topic .next) (partsFound (drop (topic .next) body))) (good : (hasTopic (h .flags) && not (isTopicPart topicIs)) ≡ false) where
       payload-is : payload ≡ pieceIf (hasPayload (h .flags)) (topic .next) rest
-      payload-is = ep ∙ ap (pieceIf (hasPayload (h .flags)) (topic .next)) (at-parts body (topic .next) rest behind (s .short) (omega (arith, rest-few)))
+      payload-is = ep ∙ ap (pieceIf (hasPayload (h .flags)) (topic .next)) (at-parts body (topic .next) rest behind (s .head .short) (omega (arith, rest-few)))
 
       topic-long : (flag : Bool) → (flag && not (isTopicPart topicIs)) ≡ false → one flag ≤ pieceIf flag at (partIf flag topicIs ++ rest) .len
       topic-long true e = some-length topicIs (and-not true (isTopicPart topicIs) e refl)
@@ -199,7 +200,7 @@ module _ (body : List ℕ) (h : Header) (routes : ℕ) (s : Sorted body h routes
       pub placeable : Placeable (length body) h topic payload
       placeable =
           record {
-            short = s .short;
+            short = s .head .short;
             topic-in = rw topic-is (piece-within body at (hasTopic (h .flags)) topicIs rest here);
             topic-some = rw topic-is (topic-long (hasTopic (h .flags)) good);
             payload-in = rw payload-is (piece-within body (topic .next) (hasPayload (h .flags)) payloadIs (final [] (partsFound body) ∷ []) behind);
@@ -211,9 +212,7 @@ module _ (body : List ℕ) (h : Header) (routes : ℕ) (s : Sorted body h routes
       routing-long : length (joined (routing m)) ≡ at
       unfolding messageIn routesIn
       routing-long =
-          let rs = beforeEmpty (front (partsFound body)) in
-          ap (λ (qs : List (List ℕ)). length (joined qs)) (kept-group (hasRoute (h .flags)) rs)
-          ∙ omega (arith, group-joined (hasRoute (h .flags)) rs (s .good), s .count)
+          ap (λ (qs : List (List ℕ)). length (joined qs)) (kept-group (hasRoute (h .flags)) (beforeEmpty (front (partsFound body)))) ∙ sym place
 
       topic-part-is : topicPart m ≡ partIf (hasTopic (h .flags)) topicIs
       unfolding messageIn
@@ -228,12 +227,12 @@ module _ (body : List ℕ) (h : Header) (routes : ℕ) (s : Sorted body h routes
 
         judged-is : judged (partsFound body) ≡ answered m
         unfolding judged
-        judged-is = rw (s .headed, ← s .same) answer-is
+        judged-is = rw (s .head .headed, ← s .head .same) answer-is
 
         frame-long : 8 + length body ≡ length (frameOf m)
         unfolding frameOf bodyOf
         frame-long =
-            let parts = split 68 body (partsFound body) b (s .found) in
+            let parts = split 68 body (partsFound body) b (s .head .over .found) in
             let same : joined (partsOf m) ≡ body = ap joined (held (partsFound body) m (bytes-part (partsFound body) _ (parts .bytes)) judged-is .same) ∙ sym (parts .same) in
             omega (arith, ap length same)
 

@@ -10,8 +10,8 @@ use Rattle.refusal.specs.Answer.{answered}
 use Rattle.frame_message.specs.Frame.{sizeBytes, partBytes, joined, partIf}
 use Rattle.frame_message.specs.Reading.{partsIn}
 use Rattle.frame_message.proofs.Parts.{join, joined-append, joined-sized}
+use Rattle.frame_parts.proofs.Passing.{part-has-size}
 use Rattle.frame_body.specs.WorkingJudging.{partsOrNone, partsFound, Found}
-use Rattle.frame_body.proofs.Stretches.{has-size}
 
 -- the parts ps begin at a place of the body, and go to its end
 pub record At (body : List ℕ) (at : ℕ) (ps : List (List ℕ)) : Type 0 where
@@ -45,7 +45,7 @@ module _ (body : List ℕ) (at : ℕ) where
     two = a .there
 
     pub at-some : 0 < length (drop at body)
-    at-some = omega (arith, ap length two, has-size p (joined ps) .short)
+    at-some = omega (arith, ap length two, length-append (partBytes p) (joined ps), part-has-size p)
 
     pub at-next : At body (at + length (partBytes p)) ps
     at-next =

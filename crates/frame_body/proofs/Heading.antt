@@ -1,4 +1,4 @@
--- The last part of a body: what its place tells, and what the walk's answer tells of the parts.
+-- The last part of a body: what its place tells, and what the counting tells of the parts.
 use mathlib.Core.Path.{_≡_, refl, sym, ap, _∙_}
 use mathlib.Core.Bool.{Bool, true, false, cond}
 use Prim.Native.Nat.{ℕ, _+_, _-_, _<_, _≤_}
@@ -18,35 +18,37 @@ use Rattle.frame_message.specs.Frame.{partBytes, joined}
 use Rattle.frame_message.specs.Reading.{partsIn, front, final, beforeEmpty, judgedAs, judged}
 use Rattle.frame_message.proofs.Lists.{front-final}
 use Rattle.frame_message.proofs.Parts.{joined-append, split, part-short, part-long}
-use Rattle.frame_parts.specs.declared.walk.Walked.{Walked}
-use Rattle.frame_parts.specs.declared.walk.Walk.the-variants.{Refused, Counted}
+use Rattle.frame_parts.specs.declared.PartCounts.{PartCounts}
+use Rattle.frame_parts.specs.declared.Counting.the-variants.{Refused, Counted}
 use Rattle.frame_header.specs.declared.Head.the-variants.{Wrong, Fields}
 use Rattle.frame_header.specs.WorkingHead.{headAs}
-use Rattle.frame_parts.specs.WorkingWalk.{walkedAs}
-use Rattle.frame_body.specs.WorkingJudging.{partsFound, WalkedOver, Headed}
+use Rattle.frame_parts.specs.WorkingCounting.{stopsAt, countedAs, countingOf}
+use Rattle.frame_parts.proofs.Passing.{before-short}
+use Rattle.frame_body.specs.WorkingJudging.{partsFound, CountsOf, Headed}
 
--- ---- what the walk found
+-- ---- what the counting tells
 
-not-both : {r : Refusal} {w : Walked} → Refused r ≡ Counted w → ⊥
+not-both : {r : Refusal} {stop : ℕ} {counts : PartCounts} → Refused r stop ≡ Counted counts → ⊥
 not-both e = let z : _≡_ {A = ℕ} 0 1 = cc in omega arith
 
-pub walk-refused : (a : Answer (List (List ℕ))) (r : Refusal) → Refused r ≡ walkedAs a → a ≡ refused r
-walk-refused (refused q) r e = cc
-walk-refused (answered ps) r e = absurd (not-both e)
+pub counting-refused : (stop : ℕ) (a : Answer (List (List ℕ))) {r : Refusal} {told : ℕ} → Refused r told ≡ countedAs stop a → a ≡ refused r
+counting-refused stop (refused q) e = cc
+counting-refused stop (answered ps) e = absurd (not-both e)
 
-pub walk-counted : (body : List ℕ) (w : Walked) → Counted w ≡ walkedAs (partsIn 68 body) → WalkedOver body w
+pub counting-done : (body : List ℕ) {counts : PartCounts} → Counted counts ≡ countingOf 68 body → CountsOf body counts
 unfolding partsFound
-walk-counted body w e = go (partsIn 68 body) refl e
+counting-done body {counts} e = go (partsIn 68 body) refl e
   where
-    go : (a : Answer (List (List ℕ))) → partsIn 68 body ≡ a → Counted w ≡ walkedAs a → WalkedOver body w
+    go : (a : Answer (List (List ℕ))) → partsIn 68 body ≡ a → Counted counts ≡ countedAs (stopsAt 68 body) a → CountsOf body counts
     go (refused r) k e = absurd (not-both (sym e))
     go (answered ps) k e =
-        let same : w ≡ record { count = length ps; empty = length (beforeEmpty ps); last = length (joined (front ps)) } = cc in
+        let same : counts ≡ record { count = length ps; empty = length (beforeEmpty ps); group = length (joined (beforeEmpty ps)); last = length (joined (front ps)) } = cc in
         record {
           found = rw k;
-          count = rw k (ap (λ (v : Walked). v .count) same);
-          empty = rw k (ap (λ (v : Walked). v .empty) same);
-          last = rw k (ap (λ (v : Walked). v .last) same);
+          count = rw k (ap (λ (c : PartCounts). c .count) same);
+          empty = rw k (ap (λ (c : PartCounts). c .empty) same);
+          group = rw k (ap (λ (c : PartCounts). c .group) same);
+          last = rw k (ap (λ (c : PartCounts). c .last) same);
         }
 
 -- ---- the last part
@@ -66,7 +68,7 @@ not-header : (p : List ℕ) → (length p ≡ 20 → ⊥) → isHeader p ≡ fal
 unfolding isHeader
 not-header p n = rw (ne-eqb (length p) 20 n)
 
-module _ (body : List ℕ) (b : Bytes body) (w : Walked) (o : WalkedOver body w) where
+module _ (body : List ℕ) (b : Bytes body) (counts : PartCounts) (o : CountsOf body counts) where
   abbrev ps : List (List ℕ)
   ps = partsFound body
 
@@ -83,19 +85,22 @@ module _ (body : List ℕ) (b : Bytes body) (w : Walked) (o : WalkedOver body w)
       ∙ ap (λ (s : List ℕ). joined (front ps) ++ s) (append-nil (partBytes (final [] ps)))
 
   -- there are parts, or there are none
-  pub last-within : w .last ≤ length body
+  pub last-within : counts .last ≤ length body
   last-within = go ps refl
     where
-      go : (qs : List (List ℕ)) → partsFound body ≡ qs → w .last ≤ length body
+      go : (qs : List (List ℕ)) → partsFound body ≡ qs → counts .last ≤ length body
       go [] e = omega (arith, o .last, ap (λ (rs : List (List ℕ)). length (joined (front rs))) e)
       go (q ∷ qs) e = omega (arith, o .last, ap length (halves (omega (arith, ap length e))), length-append (joined (front ps)) (partBytes (final [] ps)))
+
+  pub group-within : counts .group ≤ length body
+  group-within = omega (arith, o .group, before-short ps, ap length whole)
 
   header-refused : isHeader (final [] ps) ≡ false → andThen (partsIn 68 body) judged ≡ refused HeaderWrong
   unfolding judged
   header-refused e = judged-all ∙ rw e
 
   -- 6, by the bytes that are left for the last part
-  pub last-wrong : (length body - w .last ≡ 21 → ⊥) → andThen (partsIn 68 body) judged ≡ refused HeaderWrong
+  pub last-wrong : (length body - counts .last ≡ 21 → ⊥) → andThen (partsIn 68 body) judged ≡ refused HeaderWrong
   last-wrong n = header-refused (not-header (final [] ps) (λ e. go ps refl e))
     where
       go : (qs : List (List ℕ)) → partsFound body ≡ qs → length (final [] ps) ≡ 20 → ⊥
@@ -103,7 +108,7 @@ module _ (body : List ℕ) (b : Bytes body) (w : Walked) (o : WalkedOver body w)
       go (q ∷ qs) k e =
           n (omega (arith, o .last, ap length (halves (omega (arith, ap length k))), length-append (joined (front ps)) (partBytes (final [] ps)), size-of (final [] ps) .1 e))
 
-  module _ (size : length body - w .last ≡ 21) where
+  module _ (size : length body - counts .last ≡ 21) where
     some : 0 < length ps
     some = go ps refl
       where
@@ -115,24 +120,24 @@ module _ (body : List ℕ) (b : Bytes body) (w : Walked) (o : WalkedOver body w)
     head-size = size-of (final [] ps) .0 (omega (arith, o .last, ap length (halves some), length-append (joined (front ps)) (partBytes (final [] ps))))
 
     -- the header's bytes, as a part of the slice has them
-    pub head-bytes : take (length body - (w .last + 1)) (drop (w .last + 1) body) ≡ final [] ps
+    pub head-bytes : take (length body - (counts .last + 1)) (drop (counts .last + 1) body) ≡ final [] ps
     head-bytes =
-        let behind : drop (w .last) body ≡ partBytes (final [] ps) = ap (drop (w .last)) (halves some) ∙ drop-at (joined (front ps)) (partBytes (final [] ps)) (w .last) (sym (o .last)) in
-        let bytes : drop (w .last + 1) body ≡ final [] ps = sym (drop-drop 1 (w .last) body) ∙ rw (behind, part-short (final [] ps) (omega (arith, head-size))) in
-        rw bytes (take-all (length body - (w .last + 1)) (final [] ps) (omega (arith, head-size)))
+        let behind : drop (counts .last) body ≡ partBytes (final [] ps) = ap (drop (counts .last)) (halves some) ∙ drop-at (joined (front ps)) (partBytes (final [] ps)) (counts .last) (sym (o .last)) in
+        let bytes : drop (counts .last + 1) body ≡ final [] ps = sym (drop-drop 1 (counts .last) body) ∙ rw (behind, part-short (final [] ps) (omega (arith, head-size))) in
+        rw bytes (take-all (length body - (counts .last + 1)) (final [] ps) (omega (arith, head-size)))
 
-    pub head-wrong : Wrong ≡ headAs (take (length body - (w .last + 1)) (drop (w .last + 1) body)) → andThen (partsIn 68 body) judged ≡ refused HeaderWrong
+    pub head-wrong : Wrong ≡ headAs (take (length body - (counts .last + 1)) (drop (counts .last + 1) body)) → andThen (partsIn 68 body) judged ≡ refused HeaderWrong
     head-wrong e = header-refused (go (isHeader (final [] ps)) (e ∙ ap headAs head-bytes))
       where
         go : (t : Bool) → Wrong ≡ cond t (Fields (headerIn (final [] ps))) Wrong → t ≡ false
         go true e = let z : _≡_ {A = ℕ} 0 1 = cc in absurd (omega arith)
         go false e = refl
 
-    module _ (h : Header) (e : Fields h ≡ headAs (take (length body - (w .last + 1)) (drop (w .last + 1) body))) (short : length body ≤ 32768) where
-      pub headed : Headed body w h
+    module _ (h : Header) (e : Fields h ≡ headAs (take (length body - (counts .last + 1)) (drop (counts .last + 1) body))) (short : length body ≤ 32768) where
+      pub headed : Headed body counts h
       headed = go (isHeader (final [] ps)) refl (e ∙ ap headAs head-bytes)
         where
-          go : (t : Bool) → isHeader (final [] ps) ≡ t → Fields h ≡ cond t (Fields (headerIn (final [] ps))) Wrong → Headed body w h
+          go : (t : Bool) → isHeader (final [] ps) ≡ t → Fields h ≡ cond t (Fields (headerIn (final [] ps))) Wrong → Headed body counts h
           go true k e = record { over = o; short = short; headed = k; same = cc }
           go false k e = let z : _≡_ {A = ℕ} 0 1 = cc in absurd (omega arith)
 

@@ -13,7 +13,8 @@ use Rattle.frame_forms.specs.Forms.{isRoute}
 use Rattle.frame_message.specs.Writing.{allRoutes}
 use Rattle.frame_message.proofs.Parts.{part-short}
 use Rattle.frame_forms.proofs.Routes.{route-length}
-use Rattle.frame_body.proofs.Stretches.{first-byte, has-size}
+use Rattle.frame_parts.proofs.Passing.{part-has-size}
+use Rattle.frame_body.proofs.Stretches.{first-byte}
 
 -- i of the first so many parts ps are routes, and the next begins at a place of the body
 pub record Routed (body : List ℕ) (ps : List (List ℕ)) (routes i at : ℕ) : Type 0 where
@@ -56,7 +57,7 @@ module _ (body : List ℕ) (ps : List (List ℕ)) (routes i at : ℕ) (r : Route
         rw (r .same, one, next)
 
     pub routed-there : at < length body
-    routed-there = omega (arith, has-size q (joined others) .short, ap length here, length-drop at body)
+    routed-there = omega (arith, part-has-size q, length-append (partBytes q) (joined others), ap length here, length-drop at body)
 
     not-route : isRoute q ≡ false → false ≡ allRoutes (take routes ps)
     not-route e = rw (tested, e)

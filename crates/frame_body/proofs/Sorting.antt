@@ -1,7 +1,7 @@
 -- A body whose parts are as many as its header asks for: which of them is what, and where it begins.
-use mathlib.Core.Path.{_≡_, refl, sym, ap, _∙_, subst}
-use mathlib.Core.Bool.{Bool, true, false, cond, not, _&&_}
-use Prim.Native.Nat.{ℕ, suc, _+_, _*_, _<_, _≤_}
+use mathlib.Core.Path.{_≡_, refl, sym, ap, _∙_}
+use mathlib.Core.Bool.{true, false, not, _&&_}
+use Prim.Native.Nat.{ℕ, suc, _+_, _*_, _<_}
 use mathlib.Core.List.{List, [], _∷_, _++_, append-assoc}
 use native.Mathlib.Omega.{arith}
 use borrow.Author.Tests.{eqb-true}
@@ -11,17 +11,17 @@ use Rattle.frame_message.specs.declared.Header.{Header}
 use Rattle.refusal.specs.declared.Refusal.the-variants.{PartsDisagree, RouteWrong, TopicWrong, FieldWrong}
 use Rattle.refusal.specs.Answer.{refused, answered}
 use Rattle.frame_message.specs.Header.{hasTopic, hasPayload, hasRoute, partsFit, fieldsGood}
-use Rattle.frame_message.specs.Frame.{partBytes, joined, partIf, groupIf}
+use Rattle.frame_message.specs.Frame.{partBytes, joined, partIf}
 use Rattle.frame_message.specs.Writing.{routesGood}
 use Rattle.frame_forms.specs.Count.{one}
-use Rattle.frame_message.specs.Reading.{front, final, beforeEmpty, routesIn, topicPlace, payloadPlace, partsAgree, isTopicPart, messageIn, judgedAs}
+use Rattle.frame_message.specs.Reading.{front, final, routesIn, topicPlace, payloadPlace, partsAgree, isTopicPart, messageIn, judgedAs}
 use Rattle.bytes_number.proofs.Truth.{and-right}
 use Rattle.frame_message.proofs.Lists.{Each, front-final}
 use Rattle.frame_message.proofs.Headers.{header-tested}
-use Rattle.frame_message.proofs.Forms.{routes-each, routes-few}
-use Rattle.frame_message.proofs.Parts.{split, part-short, joined-append}
+use Rattle.frame_message.proofs.Parts.{split, part-short}
+use Rattle.frame_parts.specs.declared.PartCounts.{PartCounts}
 use Rattle.frame_message.proofs.Places.{before-all}
-use Rattle.frame_body.specs.WorkingJudging.{partsFound, Sorted}
+use Rattle.frame_body.specs.WorkingJudging.{partsFound, groupIn, Sorted}
 use Rattle.frame_body.proofs.Cursors.{At, at-behind}
 
 -- ---- 7 to 10, one test after the other
@@ -50,7 +50,7 @@ module _ (h : Header) (ps : List (List ℕ)) where
         unfolding judgedAs
         judged-message e = rw (agree, good, topic, e)
 
--- ---- routes and their delimiter
+-- ---- routes
 
 pub routes-joined : (rs : List (List ℕ)) → Each (λ r. length r ≡ 37) rs → length (joined rs) ≡ 38 * length rs
 routes-joined [] h = refl
@@ -58,15 +58,9 @@ routes-joined (r ∷ rs) h =
     let size : length (partBytes r) ≡ 38 = ap length (part-short r (omega (arith, h .0))) ∙ ap suc (h .0) in
     omega (arith, length-append (partBytes r) (joined rs), size, routes-joined rs (h .1))
 
--- so does the routing group, with one byte more for its delimiter
-pub group-joined : (flag : Bool) (rs : List (List ℕ)) → routesGood (cond flag rs []) ≡ true → length (joined (groupIf flag rs)) ≡ 38 * length (cond flag rs []) + one flag
-group-joined true rs good =
-    omega (arith, ap length (joined-append rs ([] ∷ [])), length-append (joined rs) (joined ([] ∷ [])), routes-joined rs (routes-each rs good))
-group-joined false rs good = refl
-
 -- ---- the parts
 
-module _ (body : List ℕ) (h : Header) (routes : ℕ) (s : Sorted body h routes) (b : Bytes body) where
+module _ (body : List ℕ) (counts : PartCounts) (h : Header) (routes : ℕ) (s : Sorted body counts h routes) (b : Bytes body) where
   abbrev pub found : List (List ℕ)
   found = partsFound body
 
@@ -84,36 +78,26 @@ module _ (body : List ℕ) (h : Header) (routes : ℕ) (s : Sorted body h routes
   behindTopic = partIf (hasPayload (h .flags)) payloadData ++ (final [] found ∷ [])
 
   pub some-parts : 0 < length found
-  some-parts = go found (header-tested _ (s .headed) .long)
+  some-parts = go found (header-tested _ (s .head .headed) .long)
     where
       go : (ps : List (List ℕ)) → length (final [] ps) ≡ 20 → 0 < length ps
       go [] e = absurd (omega arith)
       go (p ∷ ps) e = omega arith
 
-  abbrev group : List (List ℕ)
-  group = groupIf (hasRoute (h .flags)) (beforeEmpty fore)
-
-  fore-parts : group ++ (partIf (hasTopic (h .flags)) topicData ++ partIf (hasPayload (h .flags)) payloadData) ≡ fore
+  fore-parts : groupIn h fore ++ (partIf (hasTopic (h .flags)) topicData ++ partIf (hasPayload (h .flags)) payloadData) ≡ fore
   unfolding partsAgree payloadPlace topicPlace routesIn
   fore-parts =
       before-all (hasRoute (h .flags)) (hasTopic (h .flags)) (hasPayload (h .flags)) fore (topicPlace h fore) refl
       (eqb-true (length fore) (payloadPlace h fore + one (hasPayload (h .flags))) (and-right (partsFit h) _ (s .agree)))
 
-  all-parts : found ≡ group ++ (partIf (hasTopic (h .flags)) topicData ++ behindTopic)
+  all-parts : found ≡ groupIn h fore ++ (partIf (hasTopic (h .flags)) topicData ++ behindTopic)
   all-parts =
       sym (front-final [] found some-parts) ∙ ap (λ (ps : List (List ℕ)). ps ++ (final [] found ∷ [])) (sym fore-parts)
       ∙ simp append-assoc
 
-  pub few-routes : routes ≤ 64
-  few-routes = omega (arith, s .count, routes-few (routesIn h fore) (s .good))
-
   pub body-parts : body ≡ joined found
-  body-parts = split 68 body found b (s .found) .same
+  body-parts = split 68 body found b (s .head .over .found) .same
 
   -- where the topic begins, if there is one
-  pub topic-at : (at : ℕ) → at ≡ 38 * routes + one (hasRoute (h .flags)) → At body at (partIf (hasTopic (h .flags)) topicData ++ behindTopic)
-  unfolding routesIn
-  topic-at at e =
-      let place : length (joined group) ≡ at = omega (arith, group-joined (hasRoute (h .flags)) (beforeEmpty fore) (s .good), s .count) in
-      subst (λ (n : ℕ). At body n (partIf (hasTopic (h .flags)) topicData ++ behindTopic)) place
-      (at-behind body group (partIf (hasTopic (h .flags)) topicData ++ behindTopic) (body-parts ∙ ap joined all-parts))
+  pub topic-at : (at : ℕ) → at ≡ length (joined (groupIn h fore)) → At body at (partIf (hasTopic (h .flags)) topicData ++ behindTopic)
+  topic-at at e = rw e (at-behind body (groupIn h fore) (partIf (hasTopic (h .flags)) topicData ++ behindTopic) (body-parts ∙ ap joined all-parts))

@@ -7,16 +7,15 @@ use native.Mathlib.Omega.{arith}
 use borrow.Author.Tests.{lt-ltb, le-ltb, ltb-true, ltb-false}
 use lib.Dec.{ltb}
 use lib.ListN.{length, getD, take, drop, length-append, length-drop}
-use Rattle.bytes_number.specs.Number.{four, Bytes}
-use Rattle.bytes_number.proofs.Numbers.{number-four, bytes-drop, number-at}
+use Rattle.bytes_number.specs.Number.{number, four, Bytes}
+use Rattle.bytes_number.proofs.Numbers.{number-four, bytes-drop}
 use Rattle.frame_message.specs.Frame.{sizeBytes, partBytes, joined}
 use Rattle.frame_message.proofs.Lists.{Each}
 use Rattle.frame_message.proofs.Parts.{Sized, split, part-short, part-long}
 use Rattle.frame_layout.specs.declared.Stretch.{Stretch}
 use Rattle.frame_layout.specs.declared.Piece.{Piece}
 use Rattle.frame_parts.proofs.Passing.{part-from}
-use Rattle.frame_header.proofs.Heads.{NumberAt}
-use Rattle.frame_body.specs.WorkingJudging.{partsFound, Found, HasSize, stretchAt, pieceAt}
+use Rattle.frame_body.specs.WorkingJudging.{partsFound, Found, stretchAt, pieceAt}
 
 -- ---- a part at the front of bytes
 
@@ -35,13 +34,6 @@ module _ (q rest : List ℕ) where
       go true t = rw (front-short (ltb-true _ _ t)) ((λ e. e), (λ e. e))
       go false t = rw (front-long (ltb-false _ _ t)) ((λ (e : _≡_ {A = ℕ} 255 37). absurd (omega arith)), (λ (e : length q ≡ 37). absurd (omega (arith, ltb-false (length q) 255 t))))
 
-  pub has-size : HasSize (partBytes q ++ rest)
-  has-size = go (ltb (length q) 255) refl
-    where
-      go : (t : Bool) → ltb (length q) 255 ≡ t → HasSize (partBytes q ++ rest)
-      go true t = rw (front-short (ltb-true _ _ t)) (record { short = omega arith; long = λ h. absurd (omega (arith, ltb-true (length q) 255 t)) })
-      go false t = rw (front-long (ltb-false _ _ t)) (record { short = omega arith; long = λ h. omega arith })
-
   pub stretch-part : Sized q → stretchAt (partBytes q ++ rest) ≡ record { start = length (sizeBytes (length q)); len = length q }
   stretch-part sized = go (ltb (length q) 255) refl
     where
@@ -55,8 +47,8 @@ module _ (s : List ℕ) where
   pub stretch-short : getD s 0 0 < 255 → stretchAt s ≡ record { start = 1; len = getD s 0 0 }
   stretch-short h = rw (lt-ltb (getD s 0 0) 255 h)
 
-  pub stretch-long : {n : ℕ} → 255 ≤ getD s 0 0 → NumberAt s 1 n → stretchAt s ≡ record { start = 5; len = n }
-  stretch-long h e = rw (le-ltb (getD s 0 0) 255 h, e, number-at s 1)
+  pub stretch-long : 255 ≤ getD s 0 0 → stretchAt s ≡ record { start = 5; len = number (drop 1 s) }
+  stretch-long h = rw (le-ltb (getD s 0 0) 255 h)
 
 -- ---- bytes whose parts were found
 
@@ -83,9 +75,6 @@ module _ (body : List ℕ) (at : ℕ) (b : Bytes body) (f : Found (drop at body)
 
   lent : take (length body - at) (drop at body) ≡ partBytes (here .part) ++ joined (here .others)
   lent = part-from body at ∙ here .same
-
-  pub piece-size : HasSize (take (length body - at) (drop at body))
-  piece-size = rw lent (has-size (here .part) (joined (here .others)))
 
   module _ (s : Stretch) (e : s ≡ stretchAt (take (length body - at) (drop at body))) where
     found-at : s ≡ record { start = length (sizeBytes (length (here .part))); len = length (here .part) }

@@ -10,13 +10,13 @@ use Rattle.frame_message.specs.declared.Header.{Header}
 use Rattle.refusal.specs.Answer.{Answer, refused, answered}
 use Rattle.frame_forms.specs.Count.{one}
 use Rattle.frame_message.specs.Header.{hasTopic, hasPayload, hasRoute, headerIn, isHeader}
-use Rattle.frame_message.specs.Frame.{sizeBytes, partBytes, joined}
+use Rattle.frame_message.specs.Frame.{sizeBytes, partBytes, joined, groupIf}
 use Rattle.frame_message.specs.Writing.{routesGood}
 use Rattle.frame_message.specs.Reading.{partsIn, front, final, beforeEmpty, routesIn, partsAgree, isTopicPart}
 use Rattle.frame_layout.specs.declared.Stretch.{Stretch}
 use Rattle.frame_layout.specs.declared.Layout.{Layout}
 use Rattle.frame_layout.specs.Layout.{stretchIf}
-use Rattle.frame_parts.specs.declared.walk.Walked.{Walked}
+use Rattle.frame_parts.specs.declared.PartCounts.{PartCounts}
 use Rattle.frame_layout.specs.WorkingPlacing.{firstRoute}
 use Rattle.frame_layout.specs.declared.Piece.{Piece}
 
@@ -33,11 +33,7 @@ Found b = partsIn 68 b ≡ answered (partsFound b)
 
 -- ---- a part whose size is right
 
--- its size is there
-pub record HasSize (s : List ℕ) : Type 0 where
-  pub short : 1 ≤ length s
-  pub long : 255 ≤ getD s 0 0 → 5 ≤ length s
-
+-- its data, by the bytes of its size
 abbrev pub stretchAt : List ℕ → Stretch
 stretchAt s = cond (ltb (getD s 0 0) 255) (record { start = 1; len = getD s 0 0 }) (record { start = 5; len = number (drop 1 s) })
 
@@ -80,28 +76,30 @@ placedAs size h routes topic payload =
 abbrev pub partsWanted : ℕ → ℕ → ℕ
 partsWanted flags routes = routes + one (hasRoute flags) + one (hasTopic flags) + one (hasPayload flags) + 1
 
+-- the parts in front of the topic, of those in front of the header
+abbrev pub groupIn : Header → List (List ℕ) → List (List ℕ)
+groupIn h ps = groupIf (hasRoute (h .flags)) (beforeEmpty ps)
+
 -- ---- the state of the judging
 
--- the parts are counted, and it is known where the last begins
-pub record WalkedOver (body : List ℕ) (w : Walked) : Type 0 where
+-- the parts are counted, and it is known where the first empty one and the last begin
+pub record CountsOf (body : List ℕ) (counts : PartCounts) : Type 0 where
   pub found : Found body
-  pub count : w .count ≡ length (partsFound body)
-  pub empty : w .empty ≡ length (beforeEmpty (partsFound body))
-  pub last : w .last ≡ length (joined (front (partsFound body)))
+  pub count : counts .count ≡ length (partsFound body)
+  pub empty : counts .empty ≡ length (beforeEmpty (partsFound body))
+  pub group : counts .group ≡ length (joined (beforeEmpty (partsFound body)))
+  pub last : counts .last ≡ length (joined (front (partsFound body)))
 
--- the parts are counted, and the last is a header with the fields h
-pub record Headed (body : List ℕ) (w : Walked) (h : Header) : Type 0 where
-  pub over : WalkedOver body w
+-- the same, and the last part is a header with the fields h
+pub record Headed (body : List ℕ) (counts : PartCounts) (h : Header) : Type 0 where
+  pub over : CountsOf body counts
   pub short : length body ≤ 32768
   pub headed : isHeader (final [] (partsFound body)) ≡ true
   pub same : h ≡ headerIn (final [] (partsFound body))
 
--- the parts are those that the header asks for, and the first so many are routes
-pub record Sorted (body : List ℕ) (h : Header) (routes : ℕ) : Type 0 where
-  pub found : Found body
-  pub short : length body ≤ 32768
-  pub headed : isHeader (final [] (partsFound body)) ≡ true
-  pub same : h ≡ headerIn (final [] (partsFound body))
+-- the same, and the parts are those that the header asks for, and the first so many are routes
+pub record Sorted (body : List ℕ) (counts : PartCounts) (h : Header) (routes : ℕ) : Type 0 where
+  pub head : Headed body counts h
   pub agree : partsAgree h (front (partsFound body)) ≡ true
   pub count : routes ≡ length (routesIn h (front (partsFound body)))
   pub good : routesGood (routesIn h (front (partsFound body))) ≡ true

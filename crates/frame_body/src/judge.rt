@@ -8,9 +8,9 @@ use frame_layout::Reading;
 use frame_layout::Stretch;
 use frame_layout::placed;
 use frame_message::Header;
-use frame_parts::walk::Walk;
-use frame_parts::walk::Walked;
-use frame_parts::walk::count_parts;
+use frame_parts::Counting;
+use frame_parts::PartCounts;
+use frame_parts::count_parts;
 use refusal::Refusal;
 ghost use mathlib.Core.Path.{_≡_};
 ghost use mathlib.Core.Bool.{true};
@@ -20,14 +20,17 @@ ghost use Rattle.refusal.specs.Answer.{andThen};
 ghost use Rattle.frame_message.specs.Writing.{allRoutes};
 ghost use Rattle.frame_message.specs.Reading.{partsIn, front, judged, judgedAs};
 ghost use Rattle.frame_layout.specs.Layout.{readAs};
-ghost use Rattle.frame_body.specs.WorkingJudging.{partsFound, Found, HasSize, stretchAt, pieceIf, Within, topicWrong, WalkedOver, Headed, Sorted};
+ghost use Rattle.frame_body.specs.WorkingJudging.{partsFound, Found, stretchAt, pieceIf, Within, topicWrong, CountsOf, Headed, Sorted};
+
+// The most parts that a body has: 64 routes, the delimiter, the topic, the payload and the header.
+const MOST_PARTS: usize = 68;
 
 // The size byte of a route's part.
 const ROUTE_SIZE: u8 = 37;
 
 // The data of the part that begins s, whose size is known to be right.
 fn stretch_at(s: &[u8]) -> Stretch
-    requires { ⌜ HasSize (now s) ⌝ }
+    requires { ⌜ 0 < length (now s) ⌝ }
     ensures { λ r. ⌜ r ≡ stretchAt (now (s .entry)) ⌝ }
 {
     let short = bytes_number::wide(s[0]) as usize;
@@ -39,7 +42,7 @@ fn stretch_at(s: &[u8]) -> Stretch
     }
     Stretch {
         start: 5,
-        len: bytes_number::number_of(s[1], s[2], s[3], s[4]) as usize,
+        len: bytes_number::number_at(s, 1) as usize,
     }
 }
 
@@ -102,12 +105,13 @@ fn topic_wrong(body: &[u8], flags: u8, topic: Piece) -> bool
     }
 }
 
-// 9 and 10, and then the message: the parts are as many as they should be, and the routes are right.
-fn judge_rest(body: &[u8], h: Header, routes: usize) -> Reading
-    requires { ⌜ Sorted (now body) h routes ⌝ }
+// 9 and 10, and then the message: the parts are as many as they should be, and the routes are right. The topic begins behind the
+// delimiter, or at the front where there is none.
+fn judge_rest(body: &[u8], counts: PartCounts, h: Header, routes: usize) -> Reading
+    requires { ⌜ Sorted (now body) counts h routes ⌝ }
     ensures { λ r. ⌜ r ≡ readAs (judgedAs h (front (partsFound (now (body .entry))))) ⌝ }
 {
-    let at = frame_message::ROUTE_PART * routes + if_set(frame_flags::has_route(h.flags), 1);
+    let at = if_set(frame_flags::has_route(h.flags), counts.group + 1);
     let topic = piece_if(body, frame_flags::has_topic(h.flags), at);
     let wrong = topic_wrong(body, h.flags, topic);
     let good = frame_header_rules::fields_good(h);
@@ -123,12 +127,12 @@ fn judge_rest(body: &[u8], h: Header, routes: usize) -> Reading
 }
 
 // 7 and 8: whether the parts are those that type and flags ask for, and then the routes, which are the parts in front of the delimiter.
-fn judge_parts(body: &[u8], w: Walked, h: Header) -> Reading
-    requires { ⌜ Headed (now body) w h ⌝ }
+fn judge_parts(body: &[u8], counts: PartCounts, h: Header) -> Reading
+    requires { ⌜ Headed (now body) counts h ⌝ }
     ensures { λ r. ⌜ r ≡ readAs (judgedAs h (front (partsFound (now (body .entry))))) ⌝ }
 {
-    let routes = if_set(frame_flags::has_route(h.flags), w.empty);
-    let agree = parts_agree(h, w.count, routes);
+    let routes = if_set(frame_flags::has_route(h.flags), counts.empty);
+    let agree = parts_agree(h, counts.count, routes);
     if !agree {
         return Reading::Refused(Refusal::PartsDisagree);
     }
@@ -136,25 +140,25 @@ fn judge_parts(body: &[u8], w: Walked, h: Header) -> Reading
         return Reading::Refused(Refusal::RouteWrong);
     }
     if are_routes(body, routes) {
-        judge_rest(body, h, routes)
+        judge_rest(body, counts, h, routes)
     } else {
         Reading::Refused(Refusal::RouteWrong)
     }
 }
 
-// 6, and then the rest: the header is the last of the parts that the walk counted.
-fn judge_counted(body: &[u8], w: Walked) -> Reading
-    requires { ⌜ (length (now body) ≤ 32768) × WalkedOver (now body) w ⌝ }
+// 6, and then the rest: the header is the last of the parts that were counted.
+fn judge_counted(body: &[u8], counts: PartCounts) -> Reading
+    requires { ⌜ (length (now body) ≤ 32768) × CountsOf (now body) counts ⌝ }
     ensures { λ r. ⌜ r ≡ readAs (andThen (partsIn 68 (now (body .entry))) judged) ⌝ }
 {
-    let last = w.last;
+    let last = counts.last;
     if body.len() - last != frame_message::HEADER_PART {
         return Reading::Refused(Refusal::HeaderWrong);
     }
     let start = last + 1;
     match read_header(&body[start..]) {
         Head::Wrong => Reading::Refused(Refusal::HeaderWrong),
-        Head::Fields(h) => judge_parts(body, w, h),
+        Head::Fields(h) => judge_parts(body, counts, h),
     }
 }
 
@@ -163,8 +167,8 @@ pub(crate) fn judge(body: &[u8]) -> Reading
     requires { ⌜ length (now body) ≤ 32768 ⌝ }
     ensures { λ r. ⌜ r ≡ readAs (andThen (partsIn 68 (now (body .entry))) judged) ⌝ }
 {
-    match count_parts(body) {
-        Walk::Refused(r) => Reading::Refused(r),
-        Walk::Counted(w) => judge_counted(body, w),
+    match count_parts(body, MOST_PARTS) {
+        Counting::Refused(r, _) => Reading::Refused(r),
+        Counting::Counted(counts) => judge_counted(body, counts),
     }
 }

@@ -1,10 +1,10 @@
--- The walk over a body's parts: what is known after some of them, and what each way out of the walk shows.
+-- The parts of a body, counted as they come: what is known after some of them, and what each way out of the loop shows.
 use mathlib.Core.Path.{_≡_, refl, sym, ap, _∙_}
-use mathlib.Core.Bool.{Bool, true, false, cond, not, _&&_}
-use Prim.Native.Nat.{ℕ, zero, suc, _+_, _-_, _≤_}
+use mathlib.Core.Bool.{Bool, true, false}
+use Prim.Native.Nat.{ℕ, zero, suc, _+_, _-_, _<_, _≤_}
 use mathlib.Core.List.{List, [], _∷_, _++_, append-assoc, append-nil}
 use native.Mathlib.Omega.{arith}
-use lib.Dec.{eqb, eqb·suc-suc, eqb·zero-suc, eqb·suc-zero}
+use lib.Dec.{ltb}
 use lib.ListN.{length, getD, take, drop, length-append, length-drop, drop-of-length-le}
 use lib.Seq.{drop-drop, drop-at, drop-cons, append-snoc, take-all}
 use Rattle.bytes_number.specs.Number.{Bytes}
@@ -16,11 +16,10 @@ use Rattle.frame_message.specs.Reading.{firstPart, partsIn, front, beforeEmpty}
 use Rattle.frame_message.proofs.Lists.{front-snoc}
 use Rattle.frame_message.proofs.Parts.{first-split}
 use Rattle.frame_part_size.specs.declared.Size.the-variants.{Wrong, Data}
-use Rattle.frame_parts.specs.declared.walk.Walk.the-variants.{Refused, Counted}
 use Rattle.frame_part_size.specs.WorkingSizes.{sizeAt}
-use Rattle.frame_parts.specs.WorkingWalk.{walkedAs}
-use Rattle.frame_parts.specs.Working.{nextEmpty}
 use Rattle.frame_part_size.proofs.Sizes.{CutBy, part-wrong, part-cut}
+use Rattle.frame_parts.specs.declared.Counting.the-variants.{Refused, Counted}
+use Rattle.frame_parts.specs.WorkingCounting.{stopsAt, countingOf}
 
 -- what is left behind a place, as a part of a slice has it
 pub part-from : (b : List ℕ) (at : ℕ) → take (length b - at) (drop at b) ≡ drop at b
@@ -36,16 +35,48 @@ pub joined-snoc : (ps : List (List ℕ)) (p : List ℕ) → joined (ps ++ (p ∷
 joined-snoc [] p = append-nil (partBytes p)
 joined-snoc (q ∷ ps) p = rw (joined-snoc ps p) (sym (append-assoc (partBytes q) (joined ps) (partBytes p)))
 
--- one part more, and the parts in front of the first empty one
-suc-cond : (t : Bool) (n : ℕ) → suc (cond t (n + 1) n) ≡ cond t (suc n + 1) (suc n)
-suc-cond true n = omega arith
-suc-cond false n = refl
+-- each part has a size, so there are no more parts than bytes
+pub part-has-size : (p : List ℕ) → 0 < length (partBytes p)
+part-has-size p = go (ltb (length p) 255) refl
+  where
+    go : (t : Bool) → ltb (length p) 255 ≡ t → 0 < length (partBytes p)
+    go true e = rw e (omega arith)
+    go false e = rw e (omega arith)
 
-pub empty-snoc : (ps : List (List ℕ)) (p : List ℕ) → length (beforeEmpty (ps ++ (p ∷ []))) ≡ nextEmpty (length ps) (length (beforeEmpty ps)) (length p)
-empty-snoc [] [] = refl
-empty-snoc [] (x ∷ p) = rw (eqb·suc-zero (length p))
-empty-snoc ([] ∷ ps) p = rw (eqb·zero-suc (length ps))
-empty-snoc ((x ∷ q) ∷ ps) p = rw (empty-snoc ps p, eqb·suc-suc) (suc-cond (eqb (length (beforeEmpty ps)) (length ps) && not (eqb (length p) 0)) (length (beforeEmpty ps)))
+joined-many : (ps : List (List ℕ)) → length ps ≤ length (joined ps)
+joined-many [] = omega arith
+joined-many (p ∷ ps) = omega (arith, length-append (partBytes p) (joined ps), part-has-size p, joined-many ps)
+
+-- ---- the parts in front of the first empty one
+
+pub before-few : (ps : List (List ℕ)) → length (beforeEmpty ps) ≤ length ps
+before-few [] = omega arith
+before-few ([] ∷ ps) = omega arith
+before-few ((x ∷ p) ∷ ps) = omega (arith, before-few ps)
+
+pub before-short : (ps : List (List ℕ)) → length (joined (beforeEmpty ps)) ≤ length (joined ps)
+before-short [] = omega arith
+before-short ([] ∷ ps) = omega arith
+before-short ((x ∷ p) ∷ ps) =
+    omega (arith, length-append (partBytes (x ∷ p)) (joined (beforeEmpty ps)), length-append (partBytes (x ∷ p)) (joined ps), before-short ps)
+
+-- with one part more: no part was empty, nor is this one; it is empty; one was empty already
+pub before-none : (ps : List (List ℕ)) (p : List ℕ) → length (beforeEmpty ps) ≡ length ps → (length p ≡ 0 → ⊥) → beforeEmpty (ps ++ (p ∷ [])) ≡ ps ++ (p ∷ [])
+before-none [] [] e n = absurd (n refl)
+before-none [] (x ∷ p) e n = refl
+before-none ([] ∷ ps) p e n = absurd (omega arith)
+before-none ((x ∷ q) ∷ ps) p e n = rw (before-none ps p (omega arith) n)
+
+before-this : (ps : List (List ℕ)) (p : List ℕ) → length p ≡ 0 → beforeEmpty (ps ++ (p ∷ [])) ≡ beforeEmpty ps
+before-this [] [] e = refl
+before-this [] (x ∷ p) e = absurd (omega arith)
+before-this ([] ∷ ps) p e = refl
+before-this ((x ∷ q) ∷ ps) p e = rw (before-this ps p e)
+
+pub before-earlier : (ps : List (List ℕ)) (p : List ℕ) → (length (beforeEmpty ps) ≡ length ps → ⊥) → beforeEmpty (ps ++ (p ∷ [])) ≡ beforeEmpty ps
+before-earlier [] p n = absurd (n refl)
+before-earlier ([] ∷ ps) p n = refl
+before-earlier ((x ∷ q) ∷ ps) p n = rw (before-earlier ps p (λ e. n (omega arith)))
 
 -- parts in front of none, and of one more
 behind-none : (rest : Answer (List (List ℕ))) → behindOf [] rest ≡ rest
@@ -56,55 +87,81 @@ behind-one : (done : List (List ℕ)) (p : List ℕ) (rest : Answer (List (List 
 behind-one done p (refused r) = refl
 behind-one done p (answered ps) = ap answered (sym (append-snoc done p ps))
 
--- ---- one turn of `partsIn`
+-- ---- one turn of `partsIn`, and of `stopsAt`
 
 no-more : (most : ℕ) → partsIn most [] ≡ answered []
 unfolding partsIn
 no-more zero = refl
 no-more (suc most) = refl
 
-one-too-many : (x : ℕ) (xs : List ℕ) → partsIn 0 (x ∷ xs) ≡ refused PartsMany
-unfolding partsIn
-one-too-many x xs = refl
+module _ (x : ℕ) (xs : List ℕ) where
+  one-too-many : partsIn 0 (x ∷ xs) ≡ refused PartsMany
+  unfolding partsIn
+  one-too-many = refl
 
-one-wrong : (most x : ℕ) (xs : List ℕ) → firstPart x xs ≡ refused PartWrong → partsIn (suc most) (x ∷ xs) ≡ refused PartWrong
-unfolding partsIn
-one-wrong most x xs e = rw e
+  stops-many : stopsAt 0 (x ∷ xs) ≡ 0
+  unfolding stopsAt
+  stops-many = refl
 
-one-more : (most x : ℕ) (xs : List ℕ) (cut : List ℕ × List ℕ) → firstPart x xs ≡ answered cut → partsIn (suc most) (x ∷ xs) ≡ andThen (partsIn most (cut .1)) (λ ps. answered (cut .0 ∷ ps))
-unfolding partsIn
-one-more most x xs cut e = rw e
+  module _ (most : ℕ) where
+    one-wrong : firstPart x xs ≡ refused PartWrong → partsIn (suc most) (x ∷ xs) ≡ refused PartWrong
+    unfolding partsIn
+    one-wrong e = rw e
 
--- ---- the walk
+    stops-wrong : firstPart x xs ≡ refused PartWrong → stopsAt (suc most) (x ∷ xs) ≡ 0
+    unfolding stopsAt
+    stops-wrong e = rw e
 
--- some parts of a body are passed
-pub record Passed (body : List ℕ) (at count empty last : ℕ) : Type 0 where
+    module _ (cut : List ℕ × List ℕ) (e : firstPart x xs ≡ answered cut) where
+      one-more : partsIn (suc most) (x ∷ xs) ≡ andThen (partsIn most (cut .1)) (λ ps. answered (cut .0 ∷ ps))
+      unfolding partsIn
+      one-more = rw e
+
+      stops-more : stopsAt (suc most) (x ∷ xs) ≡ length (partBytes (cut .0)) + stopsAt most (cut .1)
+      unfolding stopsAt
+      stops-more = rw e
+
+-- ---- the loop
+
+-- some parts of a body are passed, of at most so many
+pub record Passed (most : ℕ) (body : List ℕ) (at count empty group last : ℕ) : Type 0 where
   pub done : List (List ℕ)
-  pub rest : partsIn 68 body ≡ behindOf done (partsIn (68 - count) (drop at body))
+  pub rest : partsIn most body ≡ behindOf done (partsIn (most - count) (drop at body))
+  pub stops : stopsAt most body ≡ at + stopsAt (most - count) (drop at body)
   pub counted : count ≡ length done
-  pub few : count ≤ 68
+  pub few : count ≤ most
   pub emptied : empty ≡ length (beforeEmpty done)
+  pub grouped : group ≡ length (joined (beforeEmpty done))
   pub lasted : last ≡ length (joined (front done))
   pub here : at ≡ length (joined done)
   pub within : at ≤ length body
 
-pub before-few : (ps : List (List ℕ)) → length (beforeEmpty ps) ≤ length ps
-before-few [] = omega arith
-before-few ([] ∷ ps) = omega arith
-before-few ((x ∷ p) ∷ ps) = omega (arith, before-few ps)
+pub passed-none : (most : ℕ) (body : List ℕ) → Passed most body 0 0 0 0 0
+passed-none most body =
+    let all : most - 0 ≡ most = omega arith in
+    record {
+      done = [];
+      rest = rw all (sym (behind-none (partsIn most body)));
+      stops = rw all (omega arith);
+      counted = refl;
+      few = omega arith;
+      emptied = refl;
+      grouped = refl;
+      lasted = refl;
+      here = refl;
+      within = omega arith;
+    }
 
-pub empty-few : (body : List ℕ) (at count empty last : ℕ) → Passed body at count empty last → empty ≤ count
-empty-few body at count empty last p = omega (arith, before-few (p .done), p .counted, p .emptied)
+module _ {most : ℕ} {body : List ℕ} {at count empty group last : ℕ} (p : Passed most body at count empty group last) where
+  -- so one part more can be counted
+  pub passed-low : count ≤ at
+  passed-low = omega (arith, joined-many (p .done), p .counted, p .here)
 
-pub passed-none : (body : List ℕ) → Passed body 0 0 0 0
-passed-none body = record { done = []; rest = sym (behind-none (partsIn 68 body)); counted = refl; few = omega arith; emptied = refl; lasted = refl; here = refl; within = omega arith }
-
-module _ (body : List ℕ) (at count empty last : ℕ) (p : Passed body at count empty last) where
-  pub passed-all : at ≡ length body → Counted (record { count = count; empty = empty; last = last }) ≡ walkedAs (partsIn 68 body)
+  pub passed-all : at ≡ length body → Counted (record { count = count; empty = empty; group = group; last = last }) ≡ countingOf most body
   passed-all e =
       let none : drop at body ≡ [] = drop-of-length-le body {i = at} (omega arith) in
-      let all : partsIn 68 body ≡ answered (p .done) = p .rest ∙ rw (none, no-more (68 - count), append-nil (p .done)) in
-      rw (all, p .counted, p .emptied, p .lasted)
+      let all : partsIn most body ≡ answered (p .done) = p .rest ∙ rw (none, no-more (most - count), append-nil (p .done)) in
+      rw (all, p .counted, p .emptied, p .grouped, p .lasted)
 
   module _ (more : at ≡ length body → ⊥) where
     x : ℕ
@@ -117,36 +174,93 @@ module _ (body : List ℕ) (at count empty last : ℕ) (p : Passed body at count
     unfolding x xs
     left = drop-cons body at 0 (omega (arith, p .within))
 
-    pub passed-many : count ≡ 68 → Refused PartsMany ≡ walkedAs (partsIn 68 body)
+    pub passed-many : count ≡ most → Refused PartsMany at ≡ countingOf most body
     passed-many e =
-        let full : 68 - count ≡ 0 = omega arith in
-        rw (p .rest, full, left, one-too-many x xs)
+        let full : most - count ≡ 0 = omega arith in
+        let stop : stopsAt most body ≡ at = p .stops ∙ rw (full, left, stops-many x xs) (omega arith) in
+        rw (stop, p .rest, full, left, one-too-many x xs)
 
-    module _ (room : count ≡ 68 → ⊥) where
-      most : 68 - count ≡ suc (67 - count)
-      most = omega (arith, p .few)
+    -- there is room for one part more
+    abbrev Room : Type 0
+    Room = count ≡ most → ⊥
 
-      pub passed-wrong : Wrong ≡ sizeAt (drop at body) → Refused PartWrong ≡ walkedAs (partsIn 68 body)
-      passed-wrong e = rw (p .rest, most, left, one-wrong (67 - count) x xs (part-wrong x xs (rw left at e)))
+    fewer : Room → most - count ≡ suc (most - (count + 1))
+    fewer room = omega (arith, p .few)
 
-      pub passed-more : Bytes body → (start len : ℕ) → Data start len ≡ sizeAt (drop at body) → Passed body (at + start + len) (count + 1) (nextEmpty count empty len) at
-      passed-more b start len e = with-cut (part-cut x xs start len (rw left at e))
-        where
-          with-cut : CutBy x xs start len → Passed body (at + start + len) (count + 1) (nextEmpty count empty len) at
-          with-cut c =
-              let part = c .cut .0 in
-              let same : drop at body ≡ partBytes part ++ c .cut .1 = left ∙ first-split x xs (c .cut) (rw left at (bytes-drop at body b)) (c .first) .same in
-              let long : length (partBytes part) ≡ start + len = omega (arith, c .starts, c .long, length-append (sizeBytes (length part)) part) in
-              let there : at + start + len ≡ at + (start + len) = omega arith in
-              let behind : drop (at + start + len) body ≡ c .cut .1 = rw (there, ← drop-drop (start + len) at body, same) (drop-at (partBytes part) (c .cut .1) (start + len) long) in
-              let fewer : 68 - (count + 1) ≡ 67 - count = omega arith in
-              record {
-                done = p .done ++ (part ∷ []);
-                rest = p .rest ∙ rw (most, left, one-more (67 - count) x xs (c .cut) (c .first), fewer, behind) (behind-one (p .done) part (partsIn (67 - count) (c .cut .1)));
-                counted = omega (arith, p .counted, length-append (p .done) (part ∷ []));
-                few = omega (arith, p .few);
-                emptied = rw (p .counted, p .emptied, c .long) (sym (empty-snoc (p .done) part));
-                lasted = p .here ∙ ap (λ (ps : List (List ℕ)). length (joined ps)) (sym (front-snoc (p .done) part));
-                here = omega (arith, p .here, ap length (joined-snoc (p .done) part), length-append (joined (p .done)) (partBytes part));
-                within = omega (arith, p .within, ap length same, length-append (partBytes part) (c .cut .1), length-drop at body);
-              }
+    pub passed-wrong : Room → Wrong ≡ sizeAt (drop at body) → Refused PartWrong at ≡ countingOf most body
+    passed-wrong room e =
+        let wrong = part-wrong x xs (rw left at e) in
+        let stop : stopsAt most body ≡ at = p .stops ∙ rw (fewer room, left, stops-wrong x xs (most - (count + 1)) wrong) (omega arith) in
+        rw (stop, p .rest, fewer room, left, one-wrong x xs (most - (count + 1)) wrong)
+
+    -- a part that follows
+    module _ (b : Bytes body) {start len : ℕ} (size : Data start len ≡ sizeAt (drop at body)) where
+      c : CutBy x xs start len
+      c = part-cut x xs start len (rw left at size)
+
+      part : List ℕ
+      part = c .cut .0
+
+      abbrev next : ℕ
+      next = at + start + len
+
+      same : drop at body ≡ partBytes part ++ c .cut .1
+      unfolding part
+      same = left ∙ first-split x xs (c .cut) (rw left at (bytes-drop at body b)) (c .first) .same
+
+      long : length (partBytes part) ≡ start + len
+      unfolding part
+      long = omega (arith, c .starts, c .long, length-append (sizeBytes (length part)) part)
+
+      pub passed-within : next ≤ length body
+      passed-within = omega (arith, p .within, ap length same, length-append (partBytes part) (c .cut .1), length-drop at body, long)
+
+      behind : drop next body ≡ c .cut .1
+      behind =
+          let there : next ≡ at + (start + len) = omega arith in
+          rw (there, ← drop-drop (start + len) at body, same) (drop-at (partBytes part) (c .cut .1) (start + len) long)
+
+      abbrev passed : List (List ℕ)
+      passed = p .done ++ (part ∷ [])
+
+      counts : length passed ≡ count + 1
+      counts = omega (arith, p .counted, length-append (p .done) (part ∷ []))
+
+      joins : length (joined passed) ≡ next
+      joins = omega (arith, p .here, ap length (joined-snoc (p .done) part), length-append (joined (p .done)) (partBytes part), long)
+
+      module _ (room : Room) {e g : ℕ} where
+        passed-part : e ≡ length (beforeEmpty passed) → g ≡ length (joined (beforeEmpty passed)) → Passed most body next (count + 1) e g at
+        unfolding part
+        passed-part emptied grouped =
+            let still = most - (count + 1) in
+            record {
+              done = passed;
+              rest = p .rest ∙ rw (fewer room, left, one-more x xs still (c .cut) (c .first), behind) (behind-one (p .done) part (partsIn still (c .cut .1)));
+              stops = p .stops ∙ rw (fewer room, left, stops-more x xs still (c .cut) (c .first), behind) (omega (arith, long));
+              counted = sym counts;
+              few = omega (arith, p .few);
+              emptied = emptied;
+              grouped = grouped;
+              lasted = p .here ∙ ap (λ (ps : List (List ℕ)). length (joined ps)) (sym (front-snoc (p .done) part));
+              here = sym joins;
+              within = passed-within;
+            }
+
+        -- by the tests of the code
+        pub passed-none-empty : empty ≡ count → (len ≡ 0 → ⊥) → e ≡ empty + 1 → g ≡ next → Passed most body next (count + 1) e g at
+        unfolding part
+        passed-none-empty same n k l =
+            let all = before-none (p .done) part (omega (arith, p .counted, p .emptied)) (λ z. n (omega (arith, c .long))) in
+            passed-part (rw all (omega (arith, counts))) (rw all (omega (arith, joins)))
+
+        pub passed-this-empty : len ≡ 0 → e ≡ empty → g ≡ group → Passed most body next (count + 1) e g at
+        unfolding part
+        passed-this-empty z k l =
+            let none = before-this (p .done) part (omega (arith, c .long)) in
+            passed-part (rw none (k ∙ p .emptied)) (rw none (l ∙ p .grouped))
+
+        pub passed-earlier-empty : (empty ≡ count → ⊥) → e ≡ empty → g ≡ group → Passed most body next (count + 1) e g at
+        passed-earlier-empty n k l =
+            let none = before-earlier (p .done) part (λ e. n (omega (arith, p .counted, p .emptied))) in
+            passed-part (rw none (k ∙ p .emptied)) (rw none (l ∙ p .grouped))

@@ -1,14 +1,23 @@
 -- `frame_body::judge::judge` meets its contract.
 use borrow.Author.Needs.{needs}
-use mathlib.Core.Path.{sym, ap, _∙_}
+use mathlib.Core.Path.{_≡_, sym, ap, _∙_}
 use mathlib.Core.List.{List}
 use Prim.Native.Nat.{ℕ}
 use Rattle.refusal.specs.Answer.{Answer, andThen}
 use Rattle.frame_message.specs.Reading.{partsIn, judged}
-use Rattle.frame_body.proofs.Heading.{walk-refused, walk-counted}
+use Rattle.frame_body.proofs.Heading.{counting-refused, counting-done}
 use Rattle.frame_layout.specs.Layout.{readAs}
+use Rattle.frame_parts.specs.WorkingCounting.{countingOf}
 use Rattle.frame_body.proofs.judge.judge.Statement.{statement}
 use Rattle.frame_body.proofs.judge.judge.Tie as tie
+
+-- at most 68 parts
+module _ (c : tie.After-count-parts) where
+  abbrev body : List ℕ
+  body = c .before .before .args .body .now
+
+  counted : c .count-parts .result ≡ countingOf 68 body
+  counted = c .count-parts .ensures
 
 count-parts-requires : tie.Need-count-parts-requires
 count-parts-requires c κs = search needs
@@ -16,19 +25,20 @@ count-parts-requires c κs = search needs
 enum-known-r : tie.Need-enum-known-r
 enum-known-r c = search needs
 
-enum-known-w : tie.Need-enum-known-w
-enum-known-w c = search needs
+enum-known-counts : tie.Need-enum-known-counts
+enum-known-counts c = search needs
 
 judge-counted-requires : tie.Need-judge-counted-requires
-judge-counted-requires c κs = let start = c .before .before .before .before .before in
-    (start .pre, walk-counted _ _ (sym (c .before .w .given .1) ∙ c .before .before .before .count-parts .ensures))
+judge-counted-requires c κs = let k = c .before .before .before in
+    (k .before .before .pre, counting-done _ (sym (c .before .counts .given .1) ∙ counted k))
 
 returns : tie.Need-returns
-returns c = let walk = walk-refused (partsIn 68 (c .before .before .before .before .before .args .body .now)) (c .before .r .given .0 .0) (sym (c .before .r .given .1) ∙ c .before .before .before .count-parts .ensures) in
-    sym (ap (λ (a : Answer (List (List ℕ))). readAs (andThen a judged)) walk)
+returns c = let k = c .before .before .before in
+    let refusal = counting-refused _ (partsIn 68 (body k)) (sym (c .before .r .given .1) ∙ counted k) in
+    sym (ap (λ (a : Answer (List (List ℕ))). readAs (andThen a judged)) refusal)
 
 returns-2 : tie.Need-returns-2
 returns-2 c = c .judge-counted .ensures
 
 pub judge-spec : {M : Type 1} → statement M
-judge-spec = tie.close (tie.spec count-parts-requires enum-known-r enum-known-w judge-counted-requires returns returns-2)
+judge-spec = tie.close (tie.spec count-parts-requires enum-known-r enum-known-counts judge-counted-requires returns returns-2)

@@ -16,9 +16,9 @@ use Rattle.bytes_number.proofs.Numbers.{bytes-of}
 use Rattle.frame_body.proofs.judge.judge_parts.Statement.{statement}
 use Rattle.frame_body.proofs.judge.judge_parts.Tie as tie
 
--- the routes are those that the walk found in front of the first empty part, where there is a routing group
-routes : (c : tie.After-if-set) → c .if-set .result ≡ cond (hasRoute (c .before .before .before .args .h .flags)) (c .before .before .before .args .w .empty) 0
-routes c = c .if-set .ensures ∙ ap (λ (t : Bool). cond t (c .before .before .before .args .w .empty) 0) (c .before .has-route .ensures)
+-- the routes are the parts that were counted in front of the first empty one, where there is a routing group
+routes : (c : tie.After-if-set) → c .if-set .result ≡ cond (hasRoute (c .before .before .before .args .h .flags)) (c .before .before .before .args .counts .empty) 0
+routes c = c .if-set .ensures ∙ ap (λ (t : Bool). cond t (c .before .before .before .args .counts .empty) 0) (c .before .has-route .ensures)
 
 module _ (c : tie.After-parts-agree) where
   abbrev body : List ℕ
@@ -40,7 +40,7 @@ if-set-requires c κs = search needs
 
 parts-agree-requires : tie.Need-parts-agree-requires
 parts-agree-requires c κs = let s = c .before .before .before in
-    omega (arith, routes c, empty-low (s .args .body .now) (s .args .w) (s .args .h) (s .pre) (bytes-of (s .args .body .now) (λ i. c .before .before .shared-slice-known .given i .fits)))
+    omega (arith, routes c, empty-low (s .args .body .now) (s .args .counts) (s .args .h) (s .pre) (bytes-of (s .args .body .now) (λ i. c .before .before .shared-slice-known .given i .fits)))
 
 returns : tie.Need-returns
 returns c = sym (ap readAs (judged-parts _ _ (tested (c .before) ∙ not-true _ (c .if1 .taken))))

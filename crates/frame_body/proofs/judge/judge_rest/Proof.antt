@@ -2,46 +2,64 @@
 use borrow.Author.Needs.{needs}
 use native.Mathlib.Omega.{arith}
 use mathlib.Core.Path.{_≡_, sym, ap, _∙_}
-use mathlib.Core.Bool.{Bool, true, false, not, _&&_}
+use mathlib.Core.Bool.{Bool, true, false, cond, not, _&&_}
 use mathlib.Core.List.{List}
-use Prim.Native.Nat.{ℕ, _+_, _*_}
-use lib.ListN.{drop}
+use Prim.Native.Nat.{ℕ, _+_}
+use lib.ListN.{length, drop}
 use Rattle.frame_body.proofs.Accepting.{topic-in, topic-found, topic-some, topic-within, topic-tested, payload-in, payload-found, payload-some, placeable, placed-in, answer-is, placed-is}
-use Rattle.frame_body.proofs.Sorting.{judged-topic, judged-field, topicData, few-routes}
-use Rattle.frame_body.specs.WorkingJudging.{Sorted, partsFound, pieceIf}
+use Rattle.frame_body.proofs.Agreeing.{group-long}
+use Rattle.frame_body.proofs.Heading.{group-within}
+use Rattle.frame_body.proofs.Sorting.{judged-topic, judged-field, topicData}
+use Rattle.frame_body.specs.WorkingJudging.{Sorted, partsFound, groupIn, pieceIf}
 use Rattle.frame_layout.specs.Layout.{readAs}
 use Rattle.frame_layout.specs.declared.Reading.the-variants.{Accepted}
 use Rattle.frame_message.specs.declared.Header.{Header}
-use Rattle.frame_message.specs.Reading.{isTopicPart}
-use Rattle.frame_message.specs.Header.{hasTopic, hasPayload, hasRoute, fieldsGood}
-use Rattle.frame_forms.specs.Count.{one}
+use Rattle.frame_message.specs.Frame.{joined}
+use Rattle.frame_message.specs.Reading.{front, isTopicPart}
+use Rattle.frame_message.specs.Header.{hasTopic, hasPayload, fieldsGood}
+use Rattle.frame_parts.specs.declared.PartCounts.{PartCounts}
 use Rattle.bytes_number.specs.Number.{Bytes}
 use Rattle.bytes_number.proofs.Numbers.{bytes-of}
 use Rattle.frame_body.proofs.judge.judge_rest.Statement.{statement}
 use Rattle.frame_body.proofs.judge.judge_rest.Tie as tie
 
+-- the bytes of the body, before anything is known of the topic
+module _ (c : tie.After-struct-known) where
+  abbrev start : tie.Start
+  start = c .before .before .before
+
+  bytes-are : Bytes (start .args .body .now)
+  bytes-are = bytes-of (start .args .body .now) (λ i. c .before .before .shared-slice-known .given i .fits)
+
 -- where the topic is to begin
 module _ (c : tie.After-if-set) where
   abbrev body : List ℕ
-  body = c .before .before .before .args .body .now
+  body = start (c .before) .args .body .now
 
   abbrev h : Header
-  h = c .before .before .before .args .h
+  h = start (c .before) .args .h
 
   abbrev routes : ℕ
-  routes = c .before .before .before .args .routes
+  routes = start (c .before) .args .routes
+
+  abbrev counts : PartCounts
+  counts = start (c .before) .args .counts
 
   abbrev at : ℕ
-  at = 38 * routes + c .if-set .result
+  at = c .if-set .result
 
-  sorted : Sorted body h routes
-  sorted = c .before .before .before .pre
+  sorted : Sorted body counts h routes
+  sorted = start (c .before) .pre
 
-  bytes : Bytes body
-  bytes = bytes-of body (λ i. c .before .before .shared-slice-known .given i .fits)
+  abbrev bytes : Bytes body
+  bytes = bytes-are (c .before)
 
-  place : at ≡ 38 * routes + one (hasRoute (h .flags))
-  place = ap (λ (n : ℕ). 38 * routes + n) (c .if-set .ensures ∙ ap one (c .before .has-route .ensures))
+  -- behind the delimiter, or at the front where there is none
+  behind : at ≡ cond (c .before .before .has-route .result) (counts .group + 1) 0
+  behind = c .if-set .ensures
+
+  place : at ≡ length (joined (groupIn h (front (partsFound body))))
+  place = behind ∙ ap (λ (t : Bool). cond t (counts .group + 1) 0) (c .before .before .has-route .ensures) ∙ sym (group-long _ _ _ (sorted .head) (sorted .agree))
 
 -- the topic's piece
 is-topic : (c : tie.After-piece-if) → (let p = c .before .before in c .piece-if .result ≡ pieceIf (hasTopic (h p .flags)) (at p) (partsFound (drop (at p) (body p))))
@@ -50,12 +68,12 @@ is-topic c =
     c .piece-if .ensures ∙ ap (λ (t : Bool). pieceIf t (at p) (partsFound (drop (at p) (body p)))) (c .before .has-topic .ensures)
 
 -- 9 is what was tested
-tested : (c : tie.After-topic-wrong) → (let p = c .before .before .before in (hasTopic (h p .flags) && not (isTopicPart (topicData (body p) (h p) (routes p) (sorted p) (bytes p)))) ≡ c .topic-wrong .result)
+tested : (c : tie.After-topic-wrong) → (let p = c .before .before .before in (hasTopic (h p .flags) && not (isTopicPart (topicData (body p) (counts p) (h p) (routes p) (sorted p) (bytes p)))) ≡ c .topic-wrong .result)
 tested c =
     let p = c .before .before .before in
-    sym (topic-tested _ _ _ (sorted p) (bytes p) (at p) (place p) _ (is-topic (c .before))) ∙ sym (c .topic-wrong .ensures)
+    sym (topic-tested _ _ _ _ (sorted p) (bytes p) (at p) (place p) _ (is-topic (c .before))) ∙ sym (c .topic-wrong .ensures)
 
-good : (c : tie.Else1) → (let p = c .before .before .before .before .before in (hasTopic (h p .flags) && not (isTopicPart (topicData (body p) (h p) (routes p) (sorted p) (bytes p)))) ≡ false)
+good : (c : tie.Else1) → (let p = c .before .before .before .before .before in (hasTopic (h p .flags) && not (isTopicPart (topicData (body p) (counts p) (h p) (routes p) (sorted p) (bytes p)))) ≡ false)
 good c = tested (c .before .before) ∙ c .if1 .left
 
 -- 10 is what was tested, and the test is passed
@@ -68,17 +86,14 @@ is-payload c =
     let q = c .before .before .before .before .before .before in
     c .piece-if2 .ensures ∙ ap (λ (t : Bool). pieceIf t (q .piece-if .result .next) (partsFound (drop (q .piece-if .result .next) (body (q .before .before))))) (c .before .has-payload .ensures)
 
-mul-at : tie.Need-mul-at
-mul-at c = omega (arith, few-routes _ _ _ (c .before .pre) (bytes-of (c .before .args .body .now) (λ i. c .shared-slice-known .given i .fits)))
-
 has-route-requires : tie.Need-has-route-requires
 has-route-requires c κs = search needs
 
+add-if-set : tie.Need-add-if-set
+add-if-set c = omega (arith, start c .pre .head .short, group-within _ (bytes-are c) _ (start c .pre .head .over))
+
 if-set-requires : tie.Need-if-set-requires
 if-set-requires c κs = search needs
-
-add-at : tie.Need-add-at
-add-at c = omega (arith, topic-in _ _ _ (sorted c) (bytes c) (at c) (place c), sorted c .short)
 
 has-topic-requires : tie.Need-has-topic-requires
 has-topic-requires c κs = search needs
@@ -86,12 +101,12 @@ has-topic-requires c κs = search needs
 piece-if-requires : tie.Need-piece-if-requires
 piece-if-requires c κs =
     let p = c .before in
-    ((topic-in _ _ _ (sorted p) (bytes p) (at p) (place p), sorted p .short), (topic-found _ _ _ (sorted p) (bytes p) (at p) (place p), (λ _. topic-some _ _ _ (sorted p) (bytes p) (at p) (place p))))
+    ((topic-in _ _ _ _ (sorted p) (bytes p) (at p) (place p), sorted p .head .short), (topic-found _ _ _ _ (sorted p) (bytes p) (at p) (place p), (λ _. topic-some _ _ _ _ (sorted p) (bytes p) (at p) (place p))))
 
 topic-wrong-requires : tie.Need-topic-wrong-requires
 topic-wrong-requires c κs =
     let p = c .before .before in
-    topic-within _ _ _ (sorted p) (bytes p) (at p) (place p) _ (is-topic c)
+    topic-within _ _ _ _ (sorted p) (bytes p) (at p) (place p) _ (is-topic c)
 
 fields-good-requires : tie.Need-fields-good-requires
 fields-good-requires c κs = search needs
@@ -108,8 +123,8 @@ piece-if-requires-2 : tie.Need-piece-if-requires-2
 piece-if-requires-2 c κs =
     let q = c .before .before .before .before .before in
     let p = q .before .before in
-    let inside = payload-in _ _ _ (sorted p) (bytes p) (at p) (place p) _ (is-topic q) in
-    ((inside, sorted p .short), (payload-found _ _ _ (sorted p) (bytes p) (at p) (place p) _ (is-topic q), (λ _. payload-some _ _ _ (sorted p) (bytes p) (at p) (place p) _ (is-topic q))))
+    let inside = payload-in _ _ _ _ (sorted p) (bytes p) (at p) (place p) _ (is-topic q) in
+    ((inside, sorted p .head .short), (payload-found _ _ _ _ (sorted p) (bytes p) (at p) (place p) _ (is-topic q), (λ _. payload-some _ _ _ _ (sorted p) (bytes p) (at p) (place p) _ (is-topic q))))
 
 placed-requires : tie.Need-placed-requires
 placed-requires c κs = search needs
@@ -120,9 +135,9 @@ returns-2 c =
     let q = e .before .before .before in
     let p = q .before .before in
     let f = fields (c .before .before .before) in
-    let answer = answer-is _ _ _ (sorted p) (bytes p) (at p) (place p) _ (is-topic q) _ (is-payload (c .before)) (good e) f in
-    let fits = placeable _ _ _ (sorted p) (bytes p) (at p) (place p) _ (is-topic q) _ (is-payload (c .before)) (good e) in
-    ap Accepted (c .placed .ensures ∙ placed-in _ _ _ _ _ fits ∙ placed-is _ _ _ (sorted p) (bytes p) (at p) (place p) _ (is-topic q) _ (is-payload (c .before)) (good e) f) ∙ sym (ap readAs answer)
+    let answer = answer-is _ _ _ _ (sorted p) (bytes p) (at p) (place p) _ (is-topic q) _ (is-payload (c .before)) (good e) f in
+    let fits = placeable _ _ _ _ (sorted p) (bytes p) (at p) (place p) _ (is-topic q) _ (is-payload (c .before)) (good e) in
+    ap Accepted (c .placed .ensures ∙ placed-in _ _ _ _ _ fits ∙ placed-is _ _ _ _ (sorted p) (bytes p) (at p) (place p) _ (is-topic q) _ (is-payload (c .before)) (good e) f) ∙ sym (ap readAs answer)
 
 returns-3 : tie.Need-returns-3
 returns-3 c =
@@ -134,10 +149,9 @@ pub judge-rest-spec : {M : Type 1} → statement M
 judge-rest-spec =
     tie.close
     (tie.spec
-    mul-at
     has-route-requires
+    add-if-set
     if-set-requires
-    add-at
     has-topic-requires
     piece-if-requires
     topic-wrong-requires

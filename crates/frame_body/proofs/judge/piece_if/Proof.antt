@@ -6,7 +6,8 @@ use Prim.Native.Nat.{ℕ, _+_, _<_, _≤_}
 use lib.ListN.{length, drop}
 use Rattle.bytes_number.specs.Number.{Bytes}
 use Rattle.bytes_number.proofs.Numbers.{bytes-of}
-use Rattle.frame_body.proofs.Stretches.{piece-size, piece-fits, piece-there}
+use Rattle.frame_parts.proofs.Passing.{part-from}
+use Rattle.frame_body.proofs.Stretches.{piece-fits, piece-there}
 use Rattle.frame_body.specs.WorkingJudging.{Found}
 use Rattle.frame_body.proofs.judge.piece_if.Statement.{statement}
 use Rattle.frame_body.proofs.judge.piece_if.Tie as tie
@@ -42,7 +43,7 @@ part-stretch-at-end : tie.Need-part-stretch-at-end
 part-stretch-at-end c = search needs
 
 stretch-at-requires : tie.Need-stretch-at-requires
-stretch-at-requires c κs = let p = c .before in piece-size (body p) (at p) (bytes p) (found p) (some p)
+stretch-at-requires c κs = let p = c .before in rw (part-from (body p) (at p)) (some p)
 
 add-data : tie.Need-add-data
 add-data c = omega (arith, fits (c .before))

@@ -18,39 +18,14 @@ cast-short c = search needs
 returns : tie.Need-returns
 returns c = rw (c .before .wide .ensures) (sym (stretch-short (c .before .before .before .before .args .s .now) (omega arith)))
 
-shared-slice-read-number-of : tie.Need-shared-slice-read-number-of
-shared-slice-read-number-of c = omega (arith, c .before .before .before .before .before .pre .long (omega arith))
+number-at-requires : tie.Need-number-at-requires
+number-at-requires c κs = search needs
 
-shared-slice-read-number-of-2 : tie.Need-shared-slice-read-number-of-2
-shared-slice-read-number-of-2 c = omega (arith, c .before .before .before .before .before .before .pre .long (omega arith))
-
-shared-slice-read-number-of-3 : tie.Need-shared-slice-read-number-of-3
-shared-slice-read-number-of-3 c = omega (arith, c .before .before .before .before .before .before .before .pre .long (omega arith))
-
-shared-slice-read-number-of-4 : tie.Need-shared-slice-read-number-of-4
-shared-slice-read-number-of-4 c = omega (arith, c .before .before .before .before .before .before .before .before .pre .long (omega arith))
-
-number-of-requires : tie.Need-number-of-requires
-number-of-requires c κs = search needs
-
-cast-t14 : tie.Need-cast-t14
-cast-t14 c = search needs
+cast-t7 : tie.Need-cast-t7
+cast-t7 c = search needs
 
 returns-2 : tie.Need-returns-2
-returns-2 c = sym (stretch-long (c .before .before .before .before .before .before .before .before .before .args .s .now) (omega arith) (c .number-of .ensures))
+returns-2 c = rw (c .number-at .ensures) (sym (stretch-long (c .before .before .before .before .before .args .s .now) (omega arith)))
 
 pub stretch-at-spec : {M : Type 1} → statement M
-stretch-at-spec =
-    tie.close
-    (tie.spec
-    shared-slice-read-wide
-    wide-requires
-    cast-short
-    returns
-    shared-slice-read-number-of
-    shared-slice-read-number-of-2
-    shared-slice-read-number-of-3
-    shared-slice-read-number-of-4
-    number-of-requires
-    cast-t14
-    returns-2)
+stretch-at-spec = tie.close (tie.spec shared-slice-read-wide wide-requires cast-short returns number-at-requires cast-t7 returns-2)
