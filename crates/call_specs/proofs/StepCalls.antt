@@ -22,7 +22,8 @@ use Rattle.step_routing.specs.Routed.{Tables, Outcome, delivered, forwarded, re
 use Rattle.step_routing.specs.declared.Stepped.{Stepped}
 use Rattle.step_pass.specs.Step.{stepOf, leftBy, toldAs}
 use Rattle.step_pass.proofs.Passing.{step-took}
-use Rattle.call_step_record.specs.Steps.{refusalIn, stepRow, frameLength}
+use Rattle.call_step_record.specs.Steps.{stepRow, frameLength}
+use Rattle.call_step_record.specs.WorkingRows.{refusalIn}
 use Rattle.call_specs.specs.Calls.{stepCall, Tells}
 use Rattle.call_specs.proofs.Telling.{Done}
 

@@ -10,7 +10,8 @@ use Rattle.bytes_number.proofs.Buffers.{laid-room}
 use Rattle.refusal.specs.declared.Refusal.the-variants.{OutputShort}
 use Rattle.refusal.specs.Refusals.{numberOf}
 use Rattle.frame_stream.specs.declared.Stopped.{Stopped}
-use Rattle.frame_stream.specs.Stream.{streamOf, Streams}
+use Rattle.frame_stream.specs.Stream.{streamOf}
+use Rattle.frame_stream.specs.WorkingStream.{Streams}
 use Rattle.call_specs.specs.Calls.{streamNumbers, ReadsStream}
 
 -- a short record

@@ -21,9 +21,11 @@ use Rattle.step_routing.specs.declared.Stepped.{Stepped}
 use Rattle.step_routing.specs.declared.Stepped.the-variants.{Refused, Delivered, Forwarded, Replied, Silenced, Home}
 use Rattle.step_pass.specs.Step.{toldAs}
 use Rattle.walk.specs.declared.Walked.{Walked}
-use Rattle.walk.specs.Walk.{Walk, walkOf, Walks}
+use Rattle.walk.specs.Walk.{Walk, walkOf}
+use Rattle.walk.specs.WorkingPasses.{Walks}
 use Rattle.walk.proofs.Walking.{walk-short}
-use Rattle.call_step_record.specs.Steps.{refusalIn, stepRow, walkRow, frameLength}
+use Rattle.call_step_record.specs.Steps.{stepRow, frameLength}
+use Rattle.call_step_record.specs.WorkingRows.{refusalIn, walkRow}
 use Rattle.call_specs.specs.Calls.{returned, walkNumbers, Reports, Plays}
 use Rattle.call_specs.proofs.StepCalls.{no-refusal}
 

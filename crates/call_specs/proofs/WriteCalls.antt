@@ -11,7 +11,8 @@ use Rattle.refusal.specs.declared.Refusal.the-variants.{OutputShort}
 use Rattle.refusal.specs.Answer.{Answer, refused, answered}
 use Rattle.frame_message.specs.Message.{Message}
 use Rattle.frame_message.specs.Frame.{frameOf}
-use Rattle.frame_message.specs.Writing.{writing, writingInto, writtenAs}
+use Rattle.frame_message.specs.Writing.{writing, writingInto}
+use Rattle.frame_message.specs.Working.{writtenAs}
 use Rattle.refusal.proofs.Answers.{passed, both}
 use Rattle.frame_message.proofs.Messages.{Written, written}
 use Rattle.frame_message.specs.declared.Written.the-variants.{Refused, Frame}

@@ -2,7 +2,8 @@
 use step_routing::Stepped;
 use walk::Walked;
 ghost use mathlib.Core.Path.{_≡_};
-ghost use Rattle.call_step_record.specs.Steps.{refusalIn, stepRow, walkRow};
+ghost use Rattle.call_step_record.specs.Steps.{stepRow};
+ghost use Rattle.call_step_record.specs.WorkingRows.{refusalIn, walkRow};
 
 // The number of a step's refusal, or 0.
 pub fn refusal_in(s: Stepped) -> u32

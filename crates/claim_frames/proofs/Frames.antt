@@ -10,7 +10,8 @@ use Rattle.bytes_number.specs.Laid.{laid}
 use Rattle.bytes_number.proofs.Numbers.{number-four}
 use Rattle.frame_message.specs.declared.Header.{Header}
 use Rattle.refusal.specs.Answer.{Answer, answered, writtenOver}
-use Rattle.frame_message.specs.Message.{Message, FieldsFit}
+use Rattle.frame_message.specs.Message.{Message}
+use Rattle.frame_message.specs.Working.{FieldsFit}
 use Rattle.frame_message.specs.Frame.{frameOf}
 use Rattle.frame_message.specs.Reading.{readingOf}
 use Rattle.frame_message.specs.Writing.{cut, givenMessage}

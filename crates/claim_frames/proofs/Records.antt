@@ -12,7 +12,8 @@ use Rattle.bytes_number.specs.Laid.{laid}
 use Rattle.bytes_number.proofs.Rows.{row-number}
 use Rattle.frame_message.specs.declared.Header.{Header}
 use Rattle.frame_message.specs.Header.{isType, isKnown}
-use Rattle.frame_message.specs.Message.{Message, FieldsFit}
+use Rattle.frame_message.specs.Message.{Message}
+use Rattle.frame_message.specs.Working.{FieldsFit}
 use Rattle.frame_message.specs.Frame.{frameOf}
 use Rattle.bytes_number.proofs.Truth.{and-left, and-right, true-false}
 use Rattle.frame_message.proofs.Lists.{Each, each-at}

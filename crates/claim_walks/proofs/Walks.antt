@@ -13,7 +13,8 @@ use Rattle.bytes_number.proofs.Truth.{and-left, and-right, outcome, true-false}
 use Rattle.frame_forms.specs.Forms.{isRoute, isTopic}
 use Rattle.refusal.specs.Answer.{Answer, refused, answered}
 use Rattle.frame_message.specs.Header.{noResponse, isKnown, partsFit, fieldsGood, headerBytes}
-use Rattle.frame_message.specs.Message.{Message, FieldsFit}
+use Rattle.frame_message.specs.Message.{Message}
+use Rattle.frame_message.specs.Working.{FieldsFit}
 use Rattle.frame_message.specs.Frame.{partsOf, bodyOf, frameOf}
 use Rattle.frame_message.specs.Reading.{final}
 use Rattle.frame_message.specs.Writing.{partsGivenFit, routesGood, writing}

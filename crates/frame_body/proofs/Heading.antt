@@ -22,7 +22,7 @@ use Rattle.frame_parts.specs.declared.PartCounts.{PartCounts}
 use Rattle.frame_parts.specs.declared.Counting.the-variants.{Refused, Counted}
 use Rattle.frame_header.specs.declared.Head.the-variants.{Wrong, Fields}
 use Rattle.frame_header.specs.WorkingHead.{headAs}
-use Rattle.frame_parts.specs.WorkingCounting.{stopsAt, countedAs, countingOf}
+use Rattle.frame_parts.specs.WorkingCounting.{stopByte, countedAs, countingOf}
 use Rattle.frame_parts.proofs.Passing.{before-short}
 use Rattle.frame_body.specs.WorkingJudging.{partsFound, CountsOf, Headed}
 
@@ -39,7 +39,7 @@ pub counting-done : (body : List ℕ) {counts : PartCounts} → Counted counts �
 unfolding partsFound
 counting-done body {counts} e = go (partsIn 68 body) refl e
   where
-    go : (a : Answer (List (List ℕ))) → partsIn 68 body ≡ a → Counted counts ≡ countedAs (stopsAt 68 body) a → CountsOf body counts
+    go : (a : Answer (List (List ℕ))) → partsIn 68 body ≡ a → Counted counts ≡ countedAs (stopByte 68 body) a → CountsOf body counts
     go (refused r) k e = absurd (not-both (sym e))
     go (answered ps) k e =
         let same : counts ≡ record { count = length ps; empty = length (beforeEmpty ps); group = length (joined (beforeEmpty ps)); last = length (joined (front ps)) } = cc in

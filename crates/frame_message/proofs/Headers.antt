@@ -12,7 +12,7 @@ use Rattle.bytes_number.specs.Number.{number, four, Bytes}
 use Rattle.bytes_number.proofs.Numbers.{number-four, four-number, number-lt, bytes-drop}
 use Rattle.frame_message.specs.declared.Header.{Header}
 use Rattle.frame_message.specs.Header.{headerBytes, headerIn, isHeader, isKnown}
-use Rattle.frame_message.specs.Message.{FieldsFit}
+use Rattle.frame_message.specs.Working.{FieldsFit}
 use Rattle.bytes_number.proofs.Truth.{and-left, and-right}
 
 -- the fields read from their bytes are the fields

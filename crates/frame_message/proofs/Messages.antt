@@ -12,7 +12,8 @@ use Rattle.frame_message.specs.declared.Header.{Header}
 use Rattle.refusal.specs.Answer.{answered}
 use Rattle.frame_message.specs.Header.{hasTopic, hasPayload, hasRoute, isKnown, partsFit, fieldsGood, headerBytes, headerIn, isHeader}
 use Rattle.frame_forms.specs.Forms.{isTopic}
-use Rattle.frame_message.specs.Message.{Message, FieldsFit}
+use Rattle.frame_message.specs.Message.{Message}
+use Rattle.frame_message.specs.Working.{FieldsFit}
 use Rattle.frame_message.specs.Frame.{partsOf, bodyOf, frameOf}
 use Rattle.frame_message.specs.Writing.{isEmpty, partsGivenFit, routesGood, writing}
 use Rattle.frame_forms.specs.Count.{one}

@@ -9,7 +9,8 @@ use lib.ListN.{length, take, drop}
 use Rattle.bytes_number.specs.Number.{Bytes}
 use Rattle.bytes_number.proofs.Numbers.{bytes-take, bytes-drop}
 use Rattle.refusal.specs.Answer.{Answer, answered, andThen}
-use Rattle.frame_message.specs.Message.{Message, FieldsFit}
+use Rattle.frame_message.specs.Message.{Message}
+use Rattle.frame_message.specs.Working.{FieldsFit}
 use Rattle.frame_message.specs.Frame.{joined, partsOf, bodyOf, frameOf}
 use Rattle.frame_message.specs.Writing.{writing}
 use Rattle.frame_message.specs.Reading.{partsIn, judged, bodyLength, readingOf}

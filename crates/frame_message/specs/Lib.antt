@@ -4,3 +4,5 @@ pub mod Message
 pub mod Frame
 pub mod Writing
 pub mod Reading
+-- What begins with Working serves the proofs alone: nothing there has to be believed.
+pub mod Working

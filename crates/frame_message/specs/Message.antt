@@ -1,5 +1,5 @@
 -- A message: everything that a reader must believe is said about these.
-use Prim.Native.Nat.{ℕ, _<_}
+use Prim.Native.Nat.{ℕ}
 use mathlib.Core.List.{List}
 use Rattle.frame_message.specs.declared.Header.{Header}
 
@@ -9,10 +9,3 @@ pub record Message : Type 0 where
   pub routes : List (List ℕ)
   pub topic : List ℕ
   pub payload : List ℕ
-
--- userid, rolemask and the last two fields have four bytes each
-pub record FieldsFit (h : Header) : Type 0 where
-  pub userid : h .userid < 4294967296
-  pub rolemask : h .rolemask < 4294967296
-  pub first : h .first < 4294967296
-  pub second : h .second < 4294967296

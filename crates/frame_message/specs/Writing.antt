@@ -5,10 +5,8 @@ use mathlib.Core.List.{List, [], _∷_}
 use lib.Dec.{ltb, leb}
 use lib.ListN.{length, take, drop}
 use Rattle.frame_message.specs.declared.Header.{Header}
-use Rattle.frame_message.specs.declared.Written.{Written}
-use Rattle.frame_message.specs.declared.Written.the-variants.{Refused, Frame}
 use Rattle.refusal.specs.declared.Refusal.the-variants.{BodyLong, HeaderWrong, PartsDisagree, RouteWrong, TopicWrong, FieldWrong, OutputShort}
-use Rattle.refusal.specs.Answer.{Answer, refused, answered, refuseIf, andThen}
+use Rattle.refusal.specs.Answer.{Answer, answered, refuseIf, andThen}
 use Rattle.frame_message.specs.Header.{hasTopic, hasPayload, hasRoute, isKnown, partsFit, fieldsGood}
 use Rattle.frame_forms.specs.Forms.{routeLength, isRoute, isTopic}
 use Rattle.frame_message.specs.Message.{Message}
@@ -64,8 +62,3 @@ cut routes = cutRoutes (length routes) routes
 -- the message that the writer is given
 unfoldable pub givenMessage : Header → List ℕ → List ℕ → List ℕ → Message
 givenMessage h routes topic payload = record { header = h; routes = cut routes; topic = topic; payload = payload }
-
--- the result of a write: the refusal, or the frame's length
-abbrev pub writtenAs : Answer (List ℕ) → Written
-writtenAs (refused r) = Refused r
-writtenAs (answered frame) = Frame (length frame)

@@ -19,7 +19,7 @@ use Rattle.frame_part_size.specs.declared.Size.the-variants.{Wrong, Data}
 use Rattle.frame_part_size.specs.WorkingSizes.{sizeAt}
 use Rattle.frame_part_size.proofs.Sizes.{CutBy, part-wrong, part-cut}
 use Rattle.frame_parts.specs.declared.Counting.the-variants.{Refused, Counted}
-use Rattle.frame_parts.specs.WorkingCounting.{stopsAt, countingOf}
+use Rattle.frame_parts.specs.WorkingCounting.{stopByte, countingOf}
 
 -- what is left behind a place, as a part of a slice has it
 pub part-from : (b : List ℕ) (at : ℕ) → take (length b - at) (drop at b) ≡ drop at b
@@ -87,7 +87,7 @@ behind-one : (done : List (List ℕ)) (p : List ℕ) (rest : Answer (List (List 
 behind-one done p (refused r) = refl
 behind-one done p (answered ps) = ap answered (sym (append-snoc done p ps))
 
--- ---- one turn of `partsIn`, and of `stopsAt`
+-- ---- one turn of `partsIn`, and of `stopByte`
 
 no-more : (most : ℕ) → partsIn most [] ≡ answered []
 unfolding partsIn
@@ -99,8 +99,8 @@ module _ (x : ℕ) (xs : List ℕ) where
   unfolding partsIn
   one-too-many = refl
 
-  stops-many : stopsAt 0 (x ∷ xs) ≡ 0
-  unfolding stopsAt
+  stops-many : stopByte 0 (x ∷ xs) ≡ 0
+  unfolding stopByte
   stops-many = refl
 
   module _ (most : ℕ) where
@@ -108,8 +108,8 @@ module _ (x : ℕ) (xs : List ℕ) where
     unfolding partsIn
     one-wrong e = rw e
 
-    stops-wrong : firstPart x xs ≡ refused PartWrong → stopsAt (suc most) (x ∷ xs) ≡ 0
-    unfolding stopsAt
+    stops-wrong : firstPart x xs ≡ refused PartWrong → stopByte (suc most) (x ∷ xs) ≡ 0
+    unfolding stopByte
     stops-wrong e = rw e
 
     module _ (cut : List ℕ × List ℕ) (e : firstPart x xs ≡ answered cut) where
@@ -117,8 +117,8 @@ module _ (x : ℕ) (xs : List ℕ) where
       unfolding partsIn
       one-more = rw e
 
-      stops-more : stopsAt (suc most) (x ∷ xs) ≡ length (partBytes (cut .0)) + stopsAt most (cut .1)
-      unfolding stopsAt
+      stops-more : stopByte (suc most) (x ∷ xs) ≡ length (partBytes (cut .0)) + stopByte most (cut .1)
+      unfolding stopByte
       stops-more = rw e
 
 -- ---- the loop
@@ -127,7 +127,7 @@ module _ (x : ℕ) (xs : List ℕ) where
 pub record Passed (most : ℕ) (body : List ℕ) (at count empty group last : ℕ) : Type 0 where
   pub done : List (List ℕ)
   pub rest : partsIn most body ≡ behindOf done (partsIn (most - count) (drop at body))
-  pub stops : stopsAt most body ≡ at + stopsAt (most - count) (drop at body)
+  pub stops : stopByte most body ≡ at + stopByte (most - count) (drop at body)
   pub counted : count ≡ length done
   pub few : count ≤ most
   pub emptied : empty ≡ length (beforeEmpty done)
@@ -177,7 +177,7 @@ module _ {most : ℕ} {body : List ℕ} {at count empty group last : ℕ} (p : P
     pub passed-many : count ≡ most → Refused PartsMany at ≡ countingOf most body
     passed-many e =
         let full : most - count ≡ 0 = omega arith in
-        let stop : stopsAt most body ≡ at = p .stops ∙ rw (full, left, stops-many x xs) (omega arith) in
+        let stop : stopByte most body ≡ at = p .stops ∙ rw (full, left, stops-many x xs) (omega arith) in
         rw (stop, p .rest, full, left, one-too-many x xs)
 
     -- there is room for one part more
@@ -190,7 +190,7 @@ module _ {most : ℕ} {body : List ℕ} {at count empty group last : ℕ} (p : P
     pub passed-wrong : Room → Wrong ≡ sizeAt (drop at body) → Refused PartWrong at ≡ countingOf most body
     passed-wrong room e =
         let wrong = part-wrong x xs (rw left at e) in
-        let stop : stopsAt most body ≡ at = p .stops ∙ rw (fewer room, left, stops-wrong x xs (most - (count + 1)) wrong) (omega arith) in
+        let stop : stopByte most body ≡ at = p .stops ∙ rw (fewer room, left, stops-wrong x xs (most - (count + 1)) wrong) (omega arith) in
         rw (stop, p .rest, fewer room, left, one-wrong x xs (most - (count + 1)) wrong)
 
     -- a part that follows

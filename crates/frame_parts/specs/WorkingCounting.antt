@@ -14,10 +14,10 @@ behindPart (refused r) more = 0
 behindPart (answered cut) more = length (partBytes (cut .0)) + more (cut .1)
 
 -- the byte at which the part begins that `partsIn` refuses, counted from the front of the bytes; the byte behind all parts where it refuses none
-unfoldable pub stopsAt : ℕ → List ℕ → ℕ
-stopsAt zero bytes = 0
-stopsAt (suc most) [] = 0
-stopsAt (suc most) (x ∷ xs) = behindPart (firstPart x xs) (stopsAt most)
+unfoldable pub stopByte : ℕ → List ℕ → ℕ
+stopByte zero bytes = 0
+stopByte (suc most) [] = 0
+stopByte (suc most) (x ∷ xs) = behindPart (firstPart x xs) (stopByte most)
 
 -- the parts, counted: all of them, those in front of the first empty one and their bytes, and the bytes in front of the last
 abbrev pub countedAs : ℕ → Answer (List (List ℕ)) → Counting
@@ -27,4 +27,4 @@ countedAs stop (answered ps) =
 
 -- what is answered of bytes in which at most so many parts may come
 abbrev pub countingOf : ℕ → List ℕ → Counting
-countingOf most bytes = countedAs (stopsAt most bytes) (partsIn most bytes)
+countingOf most bytes = countedAs (stopByte most bytes) (partsIn most bytes)

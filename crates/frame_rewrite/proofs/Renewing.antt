@@ -21,7 +21,7 @@ use Rattle.frame_message.specs.Frame.{frameStart, partBytes, framed}
 use Rattle.frame_message.proofs.Parts.{part-short}
 use Rattle.bytes_move.specs.WorkingMoved.{zeros, movedIfRoom}
 use Rattle.bytes_move.proofs.Moving.{moved-room}
-use Rattle.frame_rewrite.specs.Renewed.{bodyIn, renewed, withPart, withoutFront, withHeader}
+use Rattle.frame_rewrite.specs.WorkingRenewed.{bodyIn, renewed, withPart, withoutFront, withHeader}
 
 module _ (b : List ℕ) (size : ℕ) (fits : 8 + size ≤ length b) where
   abbrev front : List ℕ

@@ -1,2 +1,4 @@
 -- A frame changed in its buffer.
 pub mod Renewed
+-- What begins with Working serves the proofs alone: nothing there has to be believed.
+pub mod WorkingRenewed

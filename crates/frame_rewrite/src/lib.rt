@@ -5,7 +5,7 @@ use frame_message::Header;
 ghost use mathlib.Core.Path.{_≡_};
 ghost use Prim.Native.Nat.{_+_, _≤_, _<_};
 ghost use lib.ListN.{length};
-ghost use Rattle.frame_rewrite.specs.Renewed.{bodyIn, renewed, withPart, withoutFront, withHeader};
+ghost use Rattle.frame_rewrite.specs.WorkingRenewed.{bodyIn, renewed, withPart, withoutFront, withHeader};
 
 // The eight bytes in front of a body that is in its place, and zeros behind it.
 fn renew(buffer: &mut [u8], size: usize)

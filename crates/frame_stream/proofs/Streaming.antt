@@ -25,7 +25,8 @@ use Rattle.frame_layout.specs.declared.Layout.{Layout}
 use Rattle.frame_layout.specs.Layout.{layoutOf}
 use Rattle.frame_body.proofs.Readings.{Read}
 use Rattle.frame_stream.specs.declared.Stopped.{Stopped}
-use Rattle.frame_stream.specs.Stream.{Entry, Stream, stopsAt, frameThen, afterReading, streamFrom, streamOf, listRow, Streams}
+use Rattle.frame_stream.specs.Stream.{Entry, Stream, stopsAt, frameThen, afterReading, streamFrom, streamOf, listRow}
+use Rattle.frame_stream.specs.WorkingStream.{Streams}
 
 -- ---- what comes of a reading
 

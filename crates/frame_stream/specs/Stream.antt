@@ -1,18 +1,14 @@
 -- "One call writes each whole frame's start and length, 4 bytes each, to a lent buffer until the first refusal, and says which refusal stopped it and
 -- where that frame starts." (paper 02, ticket 1) It cites the single reader and says nothing of what is inside a frame.
-use mathlib.Core.Path.{_≡_}
 use Prim.Native.Nat.{ℕ, zero, suc, _+_, _/_}
 use mathlib.Core.List.{List, [], _∷_}
-use lib.ListN.{length, take, drop}
-use Rattle.bytes_number.specs.Number.{rowBytes}
-use Rattle.bytes_number.specs.Laid.{laid}
+use lib.ListN.{take, drop}
 use Rattle.refusal.specs.declared.Refusal.{Refusal}
 use Rattle.refusal.specs.declared.Refusal.the-variants.{OutputShort}
 use Rattle.refusal.specs.Answer.{Answer, refused, answered}
 use Rattle.frame_message.specs.Message.{Message}
 use Rattle.frame_message.specs.Reading.{readingOf}
 use Rattle.frame_layout.specs.Layout.{layoutOf}
-use Rattle.frame_stream.specs.declared.Stopped.{Stopped}
 
 -- a whole frame of the input: where it starts, and how many bytes it took
 pub record Entry : Type 0 where
@@ -63,8 +59,3 @@ streamOf room bytes = streamFrom (room / entrySize) 0 (seen bytes)
 abbrev pub listRow : List Entry → List ℕ
 listRow [] = []
 listRow (p ∷ ps) = p .start ∷ p .len ∷ listRow ps
-
--- a stream that comes to s says r, and leaves the list so: "it tells how many entries it wrote, and bytes behind them stay" (paper 01)
-pub record Streams (s : Stream) (list : List ℕ) (r : Stopped) (filled : List ℕ) : Type 0 where
-  pub told : r ≡ record { entries = length (s .frames); refusal = s .stopped; start = s .stop }
-  pub fills : filled ≡ laid (rowBytes (listRow (s .frames))) list

@@ -4,7 +4,8 @@ use refusal::Refusal;
 ghost use mathlib.Core.Path.{_≡_};
 ghost use Prim.Native.Nat.{min, _/_};
 ghost use lib.ListN.{length};
-ghost use Rattle.frame_stream.specs.Stream.{mostInput, entrySize, streamFrom, streamOf, Streams};
+ghost use Rattle.frame_stream.specs.Stream.{mostInput, entrySize, streamFrom, streamOf};
+ghost use Rattle.frame_stream.specs.WorkingStream.{Streams};
 
 // Bytes past these count as absent.
 const MOST_INPUT: usize = 1048576;

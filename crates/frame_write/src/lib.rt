@@ -1,7 +1,8 @@
 // The writer: a message's frame into a lent output, or the refusal that the paper's table names.
 ghost use mathlib.Core.Path.{_≡_};
 ghost use lib.ListN.{length};
-ghost use Rattle.frame_message.specs.Writing.{writingInto, givenMessage, writtenAs};
+ghost use Rattle.frame_message.specs.Writing.{writingInto, givenMessage};
+ghost use Rattle.frame_message.specs.Working.{writtenAs};
 ghost use Rattle.refusal.specs.Answer.{writtenOver};
 use frame_message::Header;
 use frame_message::Written;

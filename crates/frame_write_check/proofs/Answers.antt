@@ -15,7 +15,8 @@ use Rattle.frame_message.specs.declared.Header.{Header}
 use Rattle.frame_message.specs.Header.{hasTopic, isKnown, partsFit, fieldsGood}
 use Rattle.frame_forms.specs.Forms.{isTopic}
 use Rattle.frame_message.specs.Frame.{bodyOf, frameOf}
-use Rattle.frame_message.specs.Writing.{partsGivenFit, routesGood, cut, writingInto, givenMessage, writtenAs}
+use Rattle.frame_message.specs.Writing.{partsGivenFit, routesGood, cut, writingInto, givenMessage}
+use Rattle.frame_message.specs.Working.{writtenAs}
 use Rattle.frame_message.specs.declared.Written.the-variants.{Refused, Frame}
 use Rattle.frame_write_check.specs.Working.{measured}
 use Rattle.frame_write_given.proofs.Cuts.{good-whole}

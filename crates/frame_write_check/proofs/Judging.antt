@@ -16,7 +16,8 @@ use Rattle.frame_message.specs.Header.{hasTopic, hasPayload, hasRoute, isKnown,
 use Rattle.frame_message.specs.Message.{Message}
 use Rattle.frame_forms.specs.Forms.{isTopic}
 use Rattle.frame_message.specs.Frame.{bodyOf, frameOf}
-use Rattle.frame_message.specs.Writing.{isEmpty, partsGivenFit, routesGood, cut, writing, writingInto, givenMessage, writtenAs}
+use Rattle.frame_message.specs.Writing.{isEmpty, partsGivenFit, routesGood, cut, writing, writingInto, givenMessage}
+use Rattle.frame_message.specs.Working.{writtenAs}
 use Rattle.frame_message.specs.declared.Written.the-variants.{Refused, Frame}
 use Rattle.frame_write_check.specs.Working.{measured}
 use Rattle.frame_forms.proofs.Topics.{topic-long}

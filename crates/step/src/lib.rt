@@ -3,7 +3,8 @@ use refusal::Refusal;
 use step_routing::Broker;
 use step_routing::Stepped;
 ghost use Rattle.step_routing.specs.Routed.{tablesOf};
-ghost use Rattle.step_pass.specs.Step.{stepOf, Makes};
+ghost use Rattle.step_pass.specs.Step.{stepOf};
+ghost use Rattle.step_pass.specs.Working.{Makes};
 
 // The whole step: 14, 15 and 16 in front. Each table is checked once.
 pub fn step(

@@ -10,7 +10,7 @@ use Rattle.bytes_number.proofs.Truth.{or-neither}
 use Rattle.refusal.specs.declared.Refusal.{Refusal}
 use Rattle.refusal.specs.declared.Refusal.the-variants.{OutputShort, ForwardLong}
 use Rattle.refusal.specs.Answer.{Answer, refused, answered}
-use Rattle.frame_rewrite.specs.Renewed.{withPart}
+use Rattle.frame_rewrite.specs.WorkingRenewed.{withPart}
 use Rattle.step_routing.specs.declared.Stepped.{Stepped}
 use Rattle.step_routing.specs.declared.Stepped.the-variants.{Refused, Forwarded}
 use Rattle.step_apply.specs.WorkingApply.{grownTo, forwardTold, forwardLeft, AppliesForward}

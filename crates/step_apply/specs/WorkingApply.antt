@@ -12,7 +12,7 @@ use Rattle.refusal.specs.Answer.{Answer, refused, answered, refuseIf}
 use Rattle.frame_message.specs.Header.{noResponse}
 use Rattle.frame_message.specs.Frame.{mostBody}
 use Rattle.frame_message.specs.Writing.{mostRoutes}
-use Rattle.frame_rewrite.specs.Renewed.{withPart, withHeader}
+use Rattle.frame_rewrite.specs.WorkingRenewed.{withPart, withHeader}
 use Rattle.step_routing.specs.declared.Broker.{Broker}
 use Rattle.step_routing.specs.Messages.{replyHeader}
 use Rattle.step_routing.specs.declared.Stepped.{Stepped}

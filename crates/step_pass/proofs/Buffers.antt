@@ -15,7 +15,8 @@ use Rattle.frame_message.proofs.Frames.{frame-long}
 use Rattle.frame_message.proofs.Messages.{written}
 use Rattle.frame_message.proofs.RoundTrip.{WrittenBack}
 use Rattle.frame_message.proofs.Parts.{part-short, joined-append}
-use Rattle.frame_rewrite.specs.Renewed.{cleared, bodyIn, renewed, withPart, withoutFront, withHeader}
+use Rattle.frame_rewrite.specs.Renewed.{cleared}
+use Rattle.frame_rewrite.specs.WorkingRenewed.{bodyIn, renewed, withPart, withoutFront, withHeader}
 use Rattle.step_routing.specs.Messages.{pushed, popped, replyHeader, errorReply}
 use Rattle.step_routing.proofs.Bodies.{body-on-top}
 use Rattle.step_pass.proofs.Bodies.{popped-body, frontOf, front-body, reply-body}

@@ -12,7 +12,8 @@ use Rattle.bytes_number.specs.Number.{Bytes}
 use Rattle.bytes_number.proofs.Truth.{or-left, or-right}
 use Rattle.refusal.specs.Answer.{answered}
 use Rattle.frame_message.specs.Header.{hasRoute}
-use Rattle.frame_message.specs.Message.{Message, FieldsFit}
+use Rattle.frame_message.specs.Message.{Message}
+use Rattle.frame_message.specs.Working.{FieldsFit}
 use Rattle.frame_message.specs.Frame.{bodyOf, frameOf}
 use Rattle.frame_message.specs.Writing.{writing}
 use Rattle.frame_message.specs.Reading.{readingOf}

@@ -25,7 +25,8 @@ use Rattle.frame_layout.specs.declared.Layout.{Layout}
 use Rattle.frame_layout.specs.Layout.{stretch, dataAt, layoutOf}
 use Rattle.frame_body.proofs.Holding.{FrameBegins, begins-read, topic-told, topic-within, route-told, route-most}
 use Rattle.table_identities.specs.Identities.{brokerOf}
-use Rattle.frame_rewrite.specs.Renewed.{cleared, withPart, withoutFront, withHeader}
+use Rattle.frame_rewrite.specs.Renewed.{cleared}
+use Rattle.frame_rewrite.specs.WorkingRenewed.{withPart, withoutFront, withHeader}
 use Rattle.step_routing.specs.declared.Broker.{Broker}
 use Rattle.step_routing.specs.declared.Way.{Way}
 use Rattle.step_routing.specs.Requests.{requestWay}
@@ -38,8 +39,8 @@ use Rattle.step_routing.specs.declared.Stepped.{Stepped}
 use Rattle.step_routing.specs.declared.Stepped.the-variants.{Refused, Replied, Silenced}
 use Rattle.step_apply.specs.WorkingApply.{grownTo, forwardTold, forwardLeft, AppliesForward, replyIn, AppliesError}
 use Rattle.step_apply.proofs.Growing.{or-right-holds, grown-many, grown-long, grown-tight, grown-fits}
-use Rattle.step_pass.specs.Step.{roomFor, leftBy, toldAs, Makes}
-use Rattle.step_pass.specs.Working.{heldIn, Lies}
+use Rattle.step_pass.specs.Step.{roomFor, leftBy, toldAs}
+use Rattle.step_pass.specs.Working.{Makes, heldIn, Lies}
 use Rattle.step_routing.proofs.Bodies.{body-on-top}
 use Rattle.step_routing.proofs.Made.{has-group, has-topic as names-topic}
 use Rattle.step_routing.proofs.Outcomes.{failed-loud, failed-quiet}

@@ -1,6 +1,5 @@
 -- One broker's step on a buffer: "Given the tables, the broker's rank, whether the message came from a local client, and a buffer with the frame at its
 -- front." The step on the message itself is `routed` (step_routing/specs/Routed.antt).
-use mathlib.Core.Path.{_≡_}
 use Prim.Native.Nat.{ℕ}
 use mathlib.Core.Bool.{not}
 use mathlib.Core.List.{List}
@@ -71,8 +70,3 @@ toldAs (answered (forwarded next m)) = Forwarded next
 toldAs (answered (replied errnum m)) = Replied errnum
 toldAs (answered (silenced errnum)) = Silenced errnum
 toldAs (answered home) = Home
-
--- a step that ends with this answer says r, and leaves its buffer so
-pub record Makes (answer : Answer Outcome) (buffer : List ℕ) (r : Stepped) (left : List ℕ) : Type 0 where
-  pub told : r ≡ toldAs answer
-  pub leaves : left ≡ leftBy answer buffer

@@ -13,7 +13,8 @@ use Rattle.step_routing.specs.declared.Broker.{Broker}
 use Rattle.step_routing.specs.Requests.{requestWay}
 use Rattle.step_routing.specs.Responses.{responseWay}
 use Rattle.step_routing.specs.Routed.{Tables, Outcome, requested, responded}
-use Rattle.step_pass.specs.Step.{roomFor}
+use Rattle.step_pass.specs.Step.{roomFor, leftBy, toldAs}
+use Rattle.step_routing.specs.declared.Stepped.{Stepped}
 
 -- the message of bytes that are known to hold one
 abbrev pub messageOrNone : Answer Message → Message
@@ -40,3 +41,8 @@ abbrev pub responseOutcome : List ℕ → List ℕ → ℕ → List ℕ → Answ
 responseOutcome tree identities rank buffer =
     let m = heldIn buffer in
     andThen (responded m (responseWay tree identities rank (m .routes))) (roomFor (length buffer))
+
+-- a step that ends with this answer says r, and leaves its buffer so
+pub record Makes (answer : Answer Outcome) (buffer : List ℕ) (r : Stepped) (left : List ℕ) : Type 0 where
+  pub told : r ≡ toldAs answer
+  pub leaves : left ≡ leftBy answer buffer

@@ -10,8 +10,8 @@ use step_routing::Broker;
 use step_routing::Stepped;
 use step_routing::Way;
 ghost use Rattle.step_routing.specs.Routed.{tablesOf};
-ghost use Rattle.step_pass.specs.Step.{passOf, Makes};
-ghost use Rattle.step_pass.specs.Working.{Lies, requestOutcome, responseOutcome};
+ghost use Rattle.step_pass.specs.Step.{passOf};
+ghost use Rattle.step_pass.specs.Working.{Makes, Lies, requestOutcome, responseOutcome};
 
 // A request: delivered, forwarded, or an error.
 fn request(

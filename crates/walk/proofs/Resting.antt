@@ -15,8 +15,8 @@ use Rattle.step_routing.proofs.Stepped.{the-type}
 use Rattle.step_routing.specs.declared.Stepped.the-variants.{Forwarded}
 use Rattle.step_pass.specs.Step.{passOf, leftBy, toldAs}
 use Rattle.walk.specs.declared.Walked.{Walked}
-use Rattle.walk.specs.Onward.{Walk, onward, restsAt, afterStep, Walks}
-use Rattle.walk.specs.WorkingPasses.{passesFrom}
+use Rattle.walk.specs.Onward.{Walk, onward, restsAt, afterStep}
+use Rattle.walk.specs.WorkingPasses.{Walks, passesFrom}
 
 -- the numbers of the answers at which a walk rests, as the code tells them apart: all but the third, Forwarded
 abbrev pub restingTags : List ℕ

@@ -1,14 +1,12 @@
 -- What comes of a step in a walk, whichever broker makes it: "until an answer other than 2 or a refusal. It reports that answer, the rank and the links
 -- crossed; its buffer is what the steps in turn leave." The walk itself is walk/specs/Walk.antt.
-use mathlib.Core.Path.{_≡_}
 use Prim.Native.Nat.{ℕ, _+_}
 use mathlib.Core.Bool.{false}
 use mathlib.Core.List.{List}
 use Rattle.refusal.specs.Answer.{Answer, refused, answered}
 use Rattle.step_routing.specs.declared.Broker.{Broker}
 use Rattle.step_routing.specs.Routed.{Outcome, delivered, forwarded, replied, silenced, home}
-use Rattle.step_pass.specs.Step.{leftAfter, leftBy, toldAs}
-use Rattle.walk.specs.declared.Walked.{Walked}
+use Rattle.step_pass.specs.Step.{leftAfter, leftBy}
 
 -- what a walk comes to: the last step's answer or refusal, the rank of the broker that made it, the links crossed, and what is left in the buffer
 pub record Walk : Type 0 where
@@ -33,8 +31,3 @@ afterStep goOn b links buffer (answered (forwarded next m)) = goOn (onward next 
 afterStep goOn b links buffer (answered (replied errnum m)) = restsAt (answered (replied errnum m)) b links buffer
 afterStep goOn b links buffer (answered (silenced errnum)) = restsAt (answered (silenced errnum)) b links buffer
 afterStep goOn b links buffer (answered home) = restsAt (answered home) b links buffer
-
--- a walk that comes to w says r, and leaves its buffer so
-pub record Walks (w : Walk) (r : Walked) (left : List ℕ) : Type 0 where
-  pub told : r ≡ record { step = toldAs (w .answer); rank = w .rank; links = w .links }
-  pub leaves : left ≡ w .left

@@ -1,6 +1,6 @@
 -- "A walk repeats steps, the first as from a local client, the others not, until an answer other than 2 or a refusal. It reports that answer, the rank
--- and the links crossed; its buffer is what the steps in turn leave." What comes of one step (`Walk`, `onward`, `restsAt`, `afterStep`, `Walks`) is
--- said in walk/specs/Onward.antt, and passed on here.
+-- and the links crossed; its buffer is what the steps in turn leave." What comes of one step (`Walk`, `onward`, `restsAt`, `afterStep`) is said in
+-- walk/specs/Onward.antt, and passed on here.
 use Prim.Native.Nat.{ℕ, zero, suc}
 use mathlib.Core.Bool.{cond}
 use mathlib.Core.List.{List}
@@ -11,7 +11,7 @@ use Rattle.refusal.specs.Answer.{refused}
 use Rattle.step_routing.specs.declared.Broker.{Broker}
 use Rattle.step_routing.specs.Routed.{Tables}
 use Rattle.step_pass.specs.Step.{stepOf}
-pub use Rattle.walk.specs.Onward.{Walk, onward, restsAt, afterStep, Walks}
+pub use Rattle.walk.specs.Onward.{Walk, onward, restsAt, afterStep}
 
 -- so many steps at the most, from a broker that has the buffer, with so many links behind it. A walk never comes to the end of its steps: the law
 -- `walk-settles` (proofs/Running.antt) says that 65 are enough for whatever the buffer holds.

@@ -3,7 +3,8 @@ use refusal::Refusal;
 use step_routing::Broker;
 use step_routing::Stepped;
 ghost use Rattle.step_routing.specs.Routed.{tablesOf};
-ghost use Rattle.walk.specs.Walk.{walkOf, Walks};
+ghost use Rattle.walk.specs.Walk.{walkOf};
+ghost use Rattle.walk.specs.WorkingPasses.{Walks};
 
 mod passes;
 

@@ -4,8 +4,8 @@ use refusal::Refusal;
 use step_routing::Broker;
 use step_routing::Stepped;
 ghost use Rattle.step_routing.specs.Routed.{tablesOf};
-ghost use Rattle.walk.specs.Onward.{onward, Walks};
-ghost use Rattle.walk.specs.WorkingPasses.{passesFrom};
+ghost use Rattle.walk.specs.Onward.{onward};
+ghost use Rattle.walk.specs.WorkingPasses.{Walks, passesFrom};
 
 // So many steps are enough for any message: at each link a request gains a route and a response loses one.
 const MOST_STEPS: u32 = 65;

@@ -2,7 +2,7 @@
 use borrow.Author.Needs.{needs}
 use native.Mathlib.Omega.{arith}
 use mathlib.Core.Path.{sym, ap}
-use Rattle.call_step_record.specs.Steps.{refusalIn}
+use Rattle.call_step_record.specs.WorkingRows.{refusalIn}
 use Rattle.call_step_record.proofs.refusal_in.Statement.{statement}
 use Rattle.call_step_record.proofs.refusal_in.Tie as tie
 

@@ -4,7 +4,8 @@ use mathlib.Core.List.{List}
 use Prim.Native.Nat.{ℕ}
 use lib.ListN.{length}
 use Rattle.refusal.specs.Answer.{Answer, writtenOver}
-use Rattle.frame_message.specs.Writing.{writingInto, givenMessage, writtenAs}
+use Rattle.frame_message.specs.Writing.{writingInto, givenMessage}
+use Rattle.frame_message.specs.Working.{writtenAs}
 use Rattle.frame_message.specs.declared.Written.the-variants.{Frame}
 use Rattle.frame_write_check.proofs.Answers.{Told, told-refused, told-given}
 use borrow.Author.Needs.{needs}

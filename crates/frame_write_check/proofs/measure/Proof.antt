@@ -8,7 +8,8 @@ use Rattle.refusal.specs.declared.Refusal.the-variants.{BodyLong, OutputShort}
 use Rattle.refusal.specs.Answer.{Answer}
 use Rattle.frame_message.specs.Message.{Message}
 use Rattle.frame_message.specs.Frame.{bodyOf}
-use Rattle.frame_message.specs.Writing.{givenMessage, writtenAs}
+use Rattle.frame_message.specs.Writing.{givenMessage}
+use Rattle.frame_message.specs.Working.{writtenAs}
 use Rattle.frame_message.specs.declared.Written.the-variants.{Refused, Frame}
 use Rattle.frame_write_check.specs.Working.{measured}
 use Rattle.frame_write_given.proofs.Cuts.{good-few, good-whole}

@@ -3,7 +3,7 @@ use borrow.Author.Needs.{needs}
 use native.Mathlib.Omega.{arith}
 use mathlib.Core.Path.{sym, ap, _∙_}
 use Rattle.frame_message.specs.declared.Header.{Header}
-use Rattle.frame_rewrite.specs.Renewed.{withHeader}
+use Rattle.frame_rewrite.specs.WorkingRenewed.{withHeader}
 use Rattle.step_apply.proofs.Failing.{fails-silent, fails-replied}
 use Rattle.step_apply.proofs.fail.Statement.{statement}
 use Rattle.step_apply.proofs.fail.Tie as tie

@@ -9,7 +9,7 @@ use Rattle.refusal.specs.Answer.{Answer}
 use Rattle.step_routing.specs.declared.Broker.{Broker}
 use Rattle.step_routing.specs.Routed.{Tables, Outcome, tablesOf}
 use Rattle.step_pass.specs.Step.{stepOf}
-use Rattle.call_step_record.specs.Steps.{refusalIn}
+use Rattle.call_step_record.specs.WorkingRows.{refusalIn}
 use Rattle.call_specs.specs.Calls.{hostBroker}
 use Rattle.call_specs.proofs.StepCalls.{step-short, step-on, tells-on, tells-refused, tells-no, tells-yes, frame-there}
 use Rattle.call_step.proofs.steps.step.Statement.{statement}

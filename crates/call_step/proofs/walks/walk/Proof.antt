@@ -8,7 +8,7 @@ use lib.ListN.{length}
 use Rattle.step_routing.specs.declared.Broker.{Broker}
 use Rattle.step_routing.specs.Routed.{Tables, tablesOf}
 use Rattle.walk.specs.Walk.{Walk, walkOf}
-use Rattle.call_step_record.specs.Steps.{refusalIn}
+use Rattle.call_step_record.specs.WorkingRows.{refusalIn}
 use Rattle.call_specs.specs.Calls.{hostBroker}
 use Rattle.call_specs.proofs.WalkCalls.{plays-short, plays-on, reports-no, reports-yes, walk-long}
 use Rattle.call_step.proofs.walks.walk.Statement.{statement}
