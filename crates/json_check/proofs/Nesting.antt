@@ -13,15 +13,16 @@ use Rattle.json_scan.specs.declared.Verdict.{Verdict}
 use Rattle.json_scan.specs.declared.Verdict.the-variants.{TooDeep}
 use Rattle.json_scan.specs.declared.Token.{Token}
 use Rattle.json_scan.specs.Scan.{isWhite, Kind, inObject, inArray, firstName, firstValue, name, value, behind, State, between, text, to, valueStep, behindStep, tokenMove, betweenMove, moveOf, goOn, scan}
-use Rattle.json_scan.specs.WorkingReads.{Came, Behind, Stopped, Deeper, resumed, tokenBy, valueBy, ReadsOn, TokenAt}
+use Rattle.json_scan.specs.WorkingReads.{Came, Behind, Stopped, Deeper, resumed, valueBy, ReadsOn}
 use Rattle.json_scan.proofs.Scanning.{scan-at, go-on, go-deeper}
 use Rattle.json_scan.proofs.Reading.{Fails, scan-alike}
-use Rattle.json_scan.proofs.Settled.{reads-placed, value-token, value-place, value-stop, value-deeper}
-use Rattle.json_scan.proofs.White.{token-begins, scan-white, token-further, token-there, token-dark, scan-on}
+use Rattle.json_scan.proofs.Settled.{value-place, value-stop, value-deeper}
+use Rattle.json_scan.proofs.White.{TokenAt, token-begins, scan-white, token-further, token-there, token-dark, scan-on}
 use Rattle.json_separators.specs.declared.Next.{Next}
 use Rattle.json_separators.specs.declared.Next.the-variants.{More, Closed, Neither}
-use Rattle.json_separators.specs.WorkingSeparators.{closing, again, Separates}
-use Rattle.json_separators.proofs.Steps.{no-zero-closes}
+use Rattle.json_separators.specs.WorkingSeparators.{nextOf}
+use Rattle.json_separators.proofs.Steps.{closing, again, no-zero-closes}
+use Rattle.json_separators.proofs.Nexts.{next-told}
 use Rattle.json_check.specs.WorkingNested.{first, Nests, Opened}
 
 -- ---- bytes
@@ -112,19 +113,19 @@ module _ {bytes : List ℕ} {room at : ℕ} {kind : Kind} where
   inside-failed (Deeper j) fails inside one = record { same = λ around. inside .same around ∙ one .same (kind ∷ around); onward = omega (arith, inside .onward, one .onward) }
 
   -- what stands behind it
-  pub held-more : {j k : ℕ} {r : Next} → r ≡ More k → Held bytes room at kind j → Separates bytes j (closing kind) r → Inside bytes room at kind k
-  held-more {j} {k} e held marks =
-      let m = subst (Separates bytes j (closing kind)) e marks in
+  pub held-more : {j k : ℕ} {r : Next} → r ≡ More k → Held bytes room at kind j → r ≡ nextOf (closing kind) bytes j → Inside bytes room at kind k
+  held-more {j} e held told =
+      let m = next-told (closing kind) bytes j told e in
       record { same = λ around. held .same around ∙ m .same kind refl room around; onward = omega (arith, held .onward, m .further .0) }
 
-  pub held-closed : {j k : ℕ} {r : Next} → r ≡ Closed k → Held bytes room at kind j → Separates bytes j (closing kind) r → Nests bytes room at kind (Behind k)
-  held-closed {j} {k} e held marks =
-      let m = subst (Separates bytes j (closing kind)) e marks in
+  pub held-closed : {j k : ℕ} {r : Next} → r ≡ Closed k → Held bytes room at kind j → r ≡ nextOf (closing kind) bytes j → Nests bytes room at kind (Behind k)
+  held-closed {j} e held told =
+      let m = next-told (closing kind) bytes j told e in
       record { same = λ around. held .same around ∙ m .same kind refl room around; onward = omega (arith, held .onward, m .further) }
 
-  pub held-neither : {j k : ℕ} {r : Next} → r ≡ Neither k → Held bytes room at kind j → Separates bytes j (closing kind) r → Nests bytes room at kind (Stopped k)
-  held-neither {j} {k} e held marks =
-      let m = subst (Separates bytes j (closing kind)) e marks in
+  pub held-neither : {j k : ℕ} {r : Next} → r ≡ Neither k → Held bytes room at kind j → r ≡ nextOf (closing kind) bytes j → Nests bytes room at kind (Stopped k)
+  held-neither {j} e held told =
+      let m = next-told (closing kind) bytes j told e in
       record { same = λ around. held .same around ∙ m .same kind refl room around; onward = omega (arith, held .onward, m .further) }
 
 -- ---- a value that is an object or an array
@@ -161,9 +162,13 @@ module _ {bytes : List ℕ} (kind : Kind) (room at : ℕ) (l : at < length bytes
       (λ t. let some : 0 < room = omega (arith, eqb-false room 0 t) in nested some (opened .nests some))
       (outcome (eqb room 0))
 
--- a comma lies further on, and within the bytes
-pub more-further : {bytes : List ℕ} {j k close : ℕ} {r : Next} → r ≡ More k → Separates bytes j close r → (j < k) × (k ≤ length bytes)
-more-further {bytes} {j} {k} {close} e marks = subst (Separates bytes j close) e marks .further
+-- a comma lies further on, and within the bytes; a closing byte lies behind something
+module _ (close : ℕ) (bytes : List ℕ) (j : ℕ) {k : ℕ} {r : Next} (told : r ≡ nextOf close bytes j) where
+  pub more-further : r ≡ More k → (j < k) × (k ≤ length bytes)
+  more-further e = next-told close bytes j told e .further
+
+  pub closed-further : r ≡ Closed k → j < k
+  closed-further e = next-told close bytes j told e .further
 
 -- ---- the same with numbers for how far it came
 
@@ -172,13 +177,6 @@ pub value-fails : (r place : ℕ) → r < 2 → Fails (valueBy r place)
 value-fails r place l = ⊎-elim (λ t. subst Fails (sym (value-stop r place (eqb-true r 0 t))) tt) (λ t. subst Fails (sym (value-deeper r place (omega (arith, l, eqb-false r 0 t)))) tt) (outcome (eqb r 0))
 
 module _ {bytes : List ℕ} {room at : ℕ} {state next : State} where
-  -- a token that is a value
-  reads-token : (r place : ℕ) → (r ≡ 1 → ⊥) → ReadsOn bytes room at state next (tokenBy r place) → ReadsOn bytes room at state next (valueBy r place)
-  reads-token r place f = subst (ReadsOn bytes room at state next) (value-token r place f)
-
-  pub reads-far : (r place : ℕ) → 1 < at → ReadsOn bytes room at state next (tokenBy r place) → ReadsOn bytes room at state next (valueBy r place)
-  reads-far r place l one = reads-token r place (λ e. omega (arith, e, l, reads-placed r place (omega (arith, e)) one .onward)) one
-
   pub reads-as-placed : (i place : ℕ) → 1 < i → ReadsOn bytes room at state next (valueBy i place) → ReadsOn bytes room at state next (Behind i)
   reads-as-placed i place l = subst (ReadsOn bytes room at state next) (value-place i place l)
 
@@ -189,7 +187,3 @@ module _ {bytes : List ℕ} {room at : ℕ} {kind : Kind} (some : 0 < room) wher
 
   pub opened-stop : (r place i : ℕ) → r ≡ 0 → place ≡ i → Nests bytes (room - 1) (at + 1) kind (Stopped i) → Opened bytes room at kind (valueBy r place)
   opened-stop r place i e is nests = opened-nest some (subst (Nests bytes (room - 1) (at + 1) kind) (ap Stopped (sym is) ∙ sym (value-stop r place e)) nests)
-
--- a closing byte lies behind something
-pub closed-further : {bytes : List ℕ} {j k close : ℕ} {r : Next} → r ≡ Closed k → Separates bytes j close r → j < k
-closed-further {bytes} {j} {k} {close} e marks = subst (Separates bytes j close) e marks .further

@@ -8,9 +8,9 @@ use borrow.Author.Tests.{ne-eqb}
 use lib.ListN.{length, drop, getD}
 use Rattle.json_scan.specs.declared.Verdict.the-variants.{Json, NotJson}
 use Rattle.json_scan.specs.Scan.{isWhite, outer, value, behind, between, ended, nowhere, to, valueStep, behindStep, tokenMove, betweenMove, moveOf, goOn, scan, depthLimit, verdictOf}
+use Rattle.json_scan.specs.WorkingEnds.{endOf}
 use Rattle.json_scan.specs.WorkingReads.{Came, resumed, ReadsOn}
 use Rattle.json_scan.proofs.Scanning.{scan-at, scan-over}
-use Rattle.json_scan.proofs.Leading.{endOf}
 use Rattle.json_scan.proofs.Reading.{scan-alike}
 use Rattle.json_scan.proofs.White.{token-begins, dark-at, scan-white}
 use Rattle.json_check.proofs.Nesting.{leads}

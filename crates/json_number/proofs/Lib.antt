@@ -1,2 +1,3 @@
 pub mod Steps
-pub mod Digits
+pub mod Figures
+pub mod Numbers

@@ -2,12 +2,10 @@
 use mathlib.Core.Path.{_≡_, refl, ap, _∙_}
 use mathlib.Core.Bool.{Bool, true, false, cond}
 use mathlib.Core.List.{List}
-use Prim.Native.Nat.{ℕ, _<_}
+use Prim.Native.Nat.{ℕ}
 use borrow.Author.Tests.{ne-eqb}
-use lib.ListN.{length, getD}
-use Rattle.json_scan.specs.Scan.{isDigit, isE, isSign, Kind, Figure, minus, leadingZero, whole, point, fraction, exponent, sign, power, behind, between, number, nowhere, to, betweenMove, numberMove, moveOf}
+use Rattle.json_scan.specs.Scan.{isDigit, isE, isSign, Kind, Figure, minus, leadingZero, whole, point, fraction, exponent, sign, power, behind, between, number, nowhere, to, numberMove, moveOf}
 use Rattle.json_scan.proofs.Bytes.{no-zero}
-use Rattle.json_number.specs.WorkingFigures.{MayEnd}
 
 -- ---- int
 
@@ -34,13 +32,17 @@ whole-over around c e = rw e refl
 
 -- ---- frac
 
+-- where a number may end, an e begins its exponent, and any other byte is as behind a value
+abbrev pub Ends : Figure → ℕ → Type 0
+Ends figure c = (around : List Kind) → moveOf (number figure) around c ≡ cond (isE c) (to (number exponent) around) (moveOf (between behind) around c)
+
 pub zero-point : (around : List Kind) (c : ℕ) → c ≡ 46 → moveOf (number leadingZero) around c ≡ to (number point) around
 unfolding moveOf numberMove
 zero-point around c e = ap (moveOf (number leadingZero) around) e
 
-pub zero-ends : (bytes : List ℕ) (at : ℕ) → (at < length bytes → getD bytes at 0 ≡ 46 → ⊥) → MayEnd leadingZero bytes at
-unfolding numberMove
-zero-ends bytes at f l around = rw (ne-eqb (getD bytes at 0) 46 (f l)) refl
+pub zero-ends : (c : ℕ) → (c ≡ 46 → ⊥) → Ends leadingZero c
+unfolding moveOf numberMove
+zero-ends c f around = rw (ne-eqb c 46 f) refl
 
 pub point-digit : (around : List Kind) (c : ℕ) → isDigit c ≡ true → moveOf (number point) around c ≡ to (number fraction) around
 unfolding moveOf numberMove
@@ -54,24 +56,17 @@ pub fraction-digit : (around : List Kind) (c : ℕ) → isDigit c ≡ true → m
 unfolding moveOf numberMove
 fraction-digit around c e = rw e refl
 
-pub fraction-ends : (bytes : List ℕ) (at : ℕ) → (at < length bytes → isDigit (getD bytes at 0) ≡ false) → MayEnd fraction bytes at
-unfolding numberMove
-fraction-ends bytes at f l around = rw (f l) refl
+pub fraction-ends : (c : ℕ) → isDigit c ≡ false → Ends fraction c
+unfolding moveOf numberMove
+fraction-ends c e around = rw e refl
 
 -- ---- exp
 
--- where a number may end, an e begins its exponent, and any other byte is as behind a value
-pub ends-e :
-    (figure : Figure) (bytes : List ℕ) (at : ℕ) → MayEnd figure bytes at → at < length bytes → isE (getD bytes at 0) ≡ true →
-    (around : List Kind) → moveOf (number figure) around (getD bytes at 0) ≡ to (number exponent) around
-unfolding moveOf
-ends-e figure bytes at may l e around = may l around ∙ ap (λ (t : Bool). cond t (to (number exponent) around) (betweenMove behind around (getD bytes at 0))) e
+pub ends-e : (figure : Figure) (c : ℕ) → Ends figure c → isE c ≡ true → (around : List Kind) → moveOf (number figure) around c ≡ to (number exponent) around
+ends-e figure c ends e around = ends around ∙ ap (λ (t : Bool). cond t (to (number exponent) around) (moveOf (between behind) around c)) e
 
-pub ends-here :
-    (figure : Figure) (bytes : List ℕ) (at : ℕ) → MayEnd figure bytes at → (at < length bytes → isE (getD bytes at 0) ≡ false) → at < length bytes →
-    (around : List Kind) → moveOf (number figure) around (getD bytes at 0) ≡ moveOf (between behind) around (getD bytes at 0)
-unfolding moveOf
-ends-here figure bytes at may e l around = may l around ∙ ap (λ (t : Bool). cond t (to (number exponent) around) (betweenMove behind around (getD bytes at 0))) (e l)
+pub ends-here : (figure : Figure) (c : ℕ) → Ends figure c → isE c ≡ false → (around : List Kind) → moveOf (number figure) around c ≡ moveOf (between behind) around c
+ends-here figure c ends e around = ends around ∙ ap (λ (t : Bool). cond t (to (number exponent) around) (moveOf (between behind) around c)) e
 
 pub exponent-sign : (around : List Kind) (c : ℕ) → isSign c ≡ true → moveOf (number exponent) around c ≡ to (number sign) around
 unfolding moveOf numberMove

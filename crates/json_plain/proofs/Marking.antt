@@ -15,7 +15,7 @@ use lib.ListN.{length}
 use Rattle.bytes_number.specs.Number.{Bytes}
 use Rattle.bytes_number.proofs.Truth.{and-left, and-right}
 use Rattle.json_scan.specs.Scan.{isWithin}
-use Rattle.json_scan.specs.WorkingReads.{leading}
+use Rattle.json_scan.specs.WorkingEnds.{leading}
 use Rattle.json_plain.specs.WorkingPlain.{isPlain}
 use Rattle.json_plain.specs.WorkingWords.{wordOf, lowestMark, Marks}
 use Rattle.json_plain.proofs.Words.{each, each-low, each-high, Less, less-low, less-high, byte-past, byte-here}

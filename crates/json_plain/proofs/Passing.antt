@@ -9,8 +9,8 @@ use lib.ListN.{length, take, drop, length-drop}
 use lib.Seq.{length-take-le}
 use Rattle.bytes_number.specs.Number.{Bytes}
 use Rattle.bytes_number.proofs.Numbers.{bytes-take, bytes-drop}
-use Rattle.json_scan.specs.WorkingReads.{leading}
-use Rattle.json_scan.proofs.Leading.{endOf, end-past}
+use Rattle.json_scan.specs.WorkingEnds.{leading, endOf}
+use Rattle.json_scan.proofs.Leading.{end-past}
 use Rattle.json_plain.specs.WorkingPlain.{isPlain}
 use Rattle.json_plain.specs.WorkingWords.{wordOf, lowestMark, Marks}
 use Rattle.json_plain.proofs.Words.{trailing-lt}

@@ -5,7 +5,7 @@ use Prim.Native.Nat.{ℕ, _+_, _*_, _/_}
 use lib.Count.{trailingZeros}
 use lib.ListN.{length}
 use Rattle.bytes_number.specs.Number.{Bytes}
-use Rattle.json_scan.specs.WorkingReads.{leading}
+use Rattle.json_scan.specs.WorkingEnds.{leading}
 use Rattle.json_plain.specs.WorkingPlain.{isPlain}
 
 -- the first byte is the lowest

@@ -2,7 +2,7 @@
 ghost use mathlib.Core.Path.{_≡_};
 ghost use Prim.Native.Nat.{_+_, _<_, _≤_};
 ghost use lib.ListN.{length, take, drop};
-ghost use Rattle.json_scan.specs.WorkingReads.{leading};
+ghost use Rattle.json_scan.specs.WorkingEnds.{endOf};
 ghost use Rattle.json_plain.specs.WorkingPlain.{isPlain};
 ghost use Rattle.json_plain.specs.WorkingWords.{wordOf, lowestMark, Marks};
 
@@ -61,7 +61,7 @@ fn marked(marks: u64) -> usize
 
 // The first place from `at` on whose byte does not stand for itself.
 pub fn plain_end(bytes: &[u8], at: usize) -> usize
-    ensures { λ r. ⌜ r ≡ at + leading isPlain (drop at (now (bytes .entry))) ⌝ }
+    ensures { λ r. ⌜ r ≡ endOf isPlain (now (bytes .entry)) at ⌝ }
 {
     let mut i = at;
     if bytes.len() >= WORDS {

@@ -1,17 +1,22 @@
--- The first byte of a number or a literal name, where a value is due.
-use mathlib.Core.Path.{_≡_, refl, ap, _∙_}
+-- The first byte of a number or a literal name, and where such a value ends then.
+use mathlib.Core.Path.{_≡_, refl, sym, ap, _∙_}
 use mathlib.Core.Bool.{Bool, true, false, cond, _||_}
 use mathlib.Core.List.{List, [], _∷_}
-use Prim.Native.Nat.{ℕ, _+_, _<_}
+use Prim.Native.Nat.{ℕ, _+_, _<_, _≤_}
 use native.Mathlib.Omega.{arith}
-use borrow.Author.Tests.{eqb-true, eq-eqb, ne-eqb}
+use borrow.Author.Tests.{eqb-true, eqb-false, eq-eqb, ne-eqb}
 use lib.Dec.{eqb}
-use lib.ListN.{length, getD}
-use Rattle.json_scan.specs.WorkingReads.{Came, ReadsOn}
-use Rattle.json_scan.proofs.Reading.{reads-more, reads-alike}
-use Rattle.json_scan.specs.Scan.{isWhite, isWithin, isDigit, exactly, holds, Kind, value, behind, minus, between, number, rest, nowhere, to, valueStep, tokenMove, betweenMove, numberMove, moveOf}
+use lib.ListN.{length, drop, getD, drop-of-length-le}
+use Rattle.bytes_number.proofs.Truth.{or-left, or-right}
+use Rattle.json_scan.specs.declared.Reached.the-variants.{Stopped}
+use Rattle.json_scan.specs.Scan.{isWithin, isDigit, exactly, holds, inObject, inArray, firstName, firstValue, behind, minus, leadingZero, whole, between, number, text, nowhere, to, valueStep}
+use Rattle.json_scan.specs.WorkingEnds.{restEnd}
 use Rattle.json_scan.proofs.Bytes.{is-within, no-zero}
-use Rattle.json_scalar.specs.WorkingScalars.{Bare}
+use Rattle.json_scan.proofs.Scanning.{drop-at}
+use Rattle.json_number.specs.WorkingFigures.{numberEnd}
+use Rattle.json_number.proofs.Steps.{minus-zero, minus-digit}
+use Rattle.json_number.proofs.Figures.{number-on}
+use Rattle.json_scalar.specs.WorkingScalars.{spelling, scalarOn, scalarEnd}
 
 -- ---- the bytes of a name
 
@@ -25,51 +30,66 @@ not-exactly x c f = ne-eqb c x f
 
 -- ---- the first byte
 
-bare : (around : List Kind) (c : ℕ) → isWhite c ≡ false → moveOf (between value) around c ≡ valueStep around c
-unfolding moveOf betweenMove tokenMove
-bare around c e = rw e refl
+pub scalar-over : (bytes : List ℕ) (at : ℕ) → length bytes ≤ at → scalarEnd at (drop at bytes) ≡ Stopped at
+unfolding scalarEnd
+scalar-over bytes at l = ap (scalarEnd at) (drop-of-length-le bytes l)
 
--- a digit begins a number, as it does behind a minus
-pub begins-digit : (around : List Kind) (c : ℕ) → Bare c → isDigit c ≡ true → moveOf (between value) around c ≡ moveOf (number minus) around c
-unfolding moveOf valueStep numberMove
-begins-digit around c b e =
-    let l = is-within 48 57 c e .0 in
-    bare around c (b .dark) ∙ rw (ne-eqb c 34 (b .no-string), ne-eqb c 123 (b .no-object), ne-eqb c 91 (b .no-array), ne-eqb c 45 (λ m. omega (arith, l, m)), e) refl
+module _ (bytes : List ℕ) (at : ℕ) (l : at < length bytes) where
+  abbrev x : ℕ
+  x = getD bytes at 0
 
-pub begins-minus : (around : List Kind) (c : ℕ) → c ≡ 45 → moveOf (between value) around c ≡ to (number minus) around
-unfolding moveOf betweenMove tokenMove valueStep isWhite
-begins-minus around c e = ap (moveOf (between value) around) e
+  pub scalar-at : scalarEnd at (drop at bytes) ≡ scalarOn at (drop (at + 1) bytes) (valueStep [] x)
+  unfolding scalarEnd
+  scalar-at = ap (scalarEnd at) (drop-at bytes at l)
 
--- a literal name
-pub begins-false : (around : List Kind) (c : ℕ) → c ≡ 102 → moveOf (between value) around c ≡ to (rest (exactly 97) (exactly 108 ∷ exactly 115 ∷ exactly 101 ∷ []) (between behind)) around
-unfolding moveOf betweenMove tokenMove valueStep isWhite isWithin
-begins-false around c e = ap (moveOf (between value) around) e
+  -- a literal name
+  pub scalar-false : x ≡ 102 → scalarEnd at (drop at bytes) ≡ restEnd (spelling (97 ∷ 108 ∷ 115 ∷ 101 ∷ [])) (at + 1) (drop (at + 1) bytes)
+  unfolding valueStep isWithin
+  scalar-false e = scalar-at ∙ ap (λ (c : ℕ). scalarOn at (drop (at + 1) bytes) (valueStep [] c)) e
 
-pub begins-null : (around : List Kind) (c : ℕ) → c ≡ 110 → moveOf (between value) around c ≡ to (rest (exactly 117) (exactly 108 ∷ exactly 108 ∷ []) (between behind)) around
-unfolding moveOf betweenMove tokenMove valueStep isWhite isWithin
-begins-null around c e = ap (moveOf (between value) around) e
+  pub scalar-null : x ≡ 110 → scalarEnd at (drop at bytes) ≡ restEnd (spelling (117 ∷ 108 ∷ 108 ∷ [])) (at + 1) (drop (at + 1) bytes)
+  unfolding valueStep isWithin
+  scalar-null e = scalar-at ∙ ap (λ (c : ℕ). scalarOn at (drop (at + 1) bytes) (valueStep [] c)) e
 
-pub begins-true : (around : List Kind) (c : ℕ) → c ≡ 116 → moveOf (between value) around c ≡ to (rest (exactly 114) (exactly 117 ∷ exactly 101 ∷ []) (between behind)) around
-unfolding moveOf betweenMove tokenMove valueStep isWhite isWithin
-begins-true around c e = ap (moveOf (between value) around) e
+  pub scalar-true : x ≡ 116 → scalarEnd at (drop at bytes) ≡ restEnd (spelling (114 ∷ 117 ∷ 101 ∷ [])) (at + 1) (drop (at + 1) bytes)
+  unfolding valueStep isWithin
+  scalar-true e = scalar-at ∙ ap (λ (c : ℕ). scalarOn at (drop (at + 1) bytes) (valueStep [] c)) e
 
--- no value begins so
-pub begins-none :
-    (around : List Kind) (c : ℕ) → Bare c → isDigit c ≡ false → (c ≡ 45 → ⊥) → (c ≡ 102 → ⊥) → (c ≡ 110 → ⊥) → (c ≡ 116 → ⊥) → moveOf (between value) around c ≡ nowhere
-unfolding valueStep
-begins-none around c b e m f n t =
-    bare around c (b .dark)
-    ∙ rw (ne-eqb c 34 (b .no-string), ne-eqb c 123 (b .no-object), ne-eqb c 91 (b .no-array), ne-eqb c 45 m, ne-eqb c 48 (no-zero c e), e, ne-eqb c 102 f, ne-eqb c 110 n, ne-eqb c 116 t) refl
+  -- a number, behind its minus or without one: a digit leads into it as it does behind a minus
+  scalar-minus : x ≡ 45 → scalarEnd at (drop at bytes) ≡ numberEnd minus (at + 1) (drop (at + 1) bytes)
+  unfolding valueStep isWithin
+  scalar-minus e = scalar-at ∙ ap (λ (c : ℕ). scalarOn at (drop (at + 1) bytes) (valueStep [] c)) e
 
--- ---- a number, behind its minus or without one
+  scalar-zero : x ≡ 48 → scalarEnd at (drop at bytes) ≡ numberEnd minus at (drop at bytes)
+  unfolding valueStep isWithin
+  scalar-zero e =
+      scalar-at ∙ ap (λ (c : ℕ). scalarOn at (drop (at + 1) bytes) (valueStep [] c)) e ∙ sym (number-on minus bytes at leadingZero l (minus-zero [] _ e))
 
-pub numeral-reads :
-    {bytes : List ℕ} {room : ℕ} {r : Came} (at : ℕ) → at < length bytes → Bare (getD bytes at 0) → (eqb (getD bytes at 0) 45 || isDigit (getD bytes at 0)) ≡ true →
-    ReadsOn bytes room (cond (eqb (getD bytes at 0) 45) (at + 1) at) (number minus) (between behind) r → ReadsOn bytes room at (between value) (between behind) r
-numeral-reads {bytes} {room} {r} at l dark = go (eqb (getD bytes at 0) 45) refl
-  where
-    go :
-        (t : Bool) → eqb (getD bytes at 0) 45 ≡ t → (t || isDigit (getD bytes at 0)) ≡ true → ReadsOn bytes room (cond t (at + 1) at) (number minus) (between behind) r →
-        ReadsOn bytes room at (between value) (between behind) r
-    go true e numeral one = reads-more (number minus) l (λ around. begins-minus around _ (eqb-true (getD bytes at 0) 45 e)) one
-    go false e numeral one = reads-alike (number minus) refl (λ m around. begins-digit around _ dark numeral) one
+  scalar-digit : isDigit x ≡ true → (x ≡ 48 → ⊥) → scalarEnd at (drop at bytes) ≡ numberEnd minus at (drop at bytes)
+  unfolding valueStep
+  scalar-digit e z =
+      let w = is-within 48 57 x e in
+      let leads : valueStep [] x ≡ to (number whole) [] =
+      rw (ne-eqb x 34 (λ q. omega (arith, w .0, q)), ne-eqb x 123 (λ q. omega (arith, w .1, q)), ne-eqb x 91 (λ q. omega (arith, w .1, q)), ne-eqb x 45 (λ q. omega (arith, w .0, q)), ne-eqb x 48 z, e) refl in
+      scalar-at ∙ ap (scalarOn at (drop (at + 1) bytes)) leads ∙ sym (number-on minus bytes at whole l (minus-digit [] _ z e))
+
+  pub scalar-numeral : {j : ℕ} → (eqb x 45 || isDigit x) ≡ true → j ≡ cond (eqb x 45) (at + 1) at → scalarEnd at (drop at bytes) ≡ numberEnd minus j (drop j bytes)
+  scalar-numeral is place = go (eqb x 45) (eqb x 48) refl refl is ∙ ap (λ (i : ℕ). numberEnd minus i (drop i bytes)) (sym place)
+    where
+      go : (t z : Bool) → eqb x 45 ≡ t → eqb x 48 ≡ z → (t || isDigit x) ≡ true → scalarEnd at (drop at bytes) ≡ numberEnd minus (cond t (at + 1) at) (drop (cond t (at + 1) at) bytes)
+      go true z e f is = scalar-minus (eqb-true x 45 e)
+      go false true e f is = scalar-zero (eqb-true x 48 f)
+      go false false e f is = scalar-digit is (eqb-false x 48 f)
+
+  -- neither of them
+  pub scalar-none : (eqb x 45 || isDigit x) ≡ false → (x ≡ 102 → ⊥) → (x ≡ 110 → ⊥) → (x ≡ 116 → ⊥) → scalarEnd at (drop at bytes) ≡ Stopped at
+  unfolding valueStep
+  scalar-none is f n t =
+      let e = or-right (eqb x 45) (isDigit x) is in
+      scalar-at ∙ rw (or-left (eqb x 45) (isDigit x) is, ne-eqb x 48 (no-zero x e), e, ne-eqb x 102 f, ne-eqb x 110 n, ne-eqb x 116 t) (go (eqb x 34) (eqb x 123) (eqb x 91))
+    where
+      go : (a b c : Bool) → scalarOn at (drop (at + 1) bytes) (cond a (to (text behind) []) (cond b (to (between firstName) (inObject ∷ [])) (cond c (to (between firstValue) (inArray ∷ [])) nowhere))) ≡ Stopped at
+      go true b c = refl
+      go false true c = refl
+      go false false true = refl
+      go false false false = refl

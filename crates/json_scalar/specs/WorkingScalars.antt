@@ -1,33 +1,27 @@
--- A number or a literal name, where a value is due.
-use mathlib.Core.Path.{_≡_}
-use mathlib.Core.Bool.{false, _||_}
+-- Where a number or a literal name ends, from its first byte on.
 use mathlib.Core.List.{List, [], _∷_}
-use Prim.Native.Nat.{ℕ, _<_}
-use lib.Dec.{eqb}
-use lib.ListN.{length, getD}
-use Rattle.json_scan.specs.Scan.{isWhite, isDigit, Class, exactly, between, value, behind}
-use Rattle.json_scan.specs.WorkingReads.{Came, Stopped, ReadsToken}
+use Prim.Native.Nat.{ℕ, _+_}
+use Rattle.json_scan.specs.declared.Reached.{Reached}
+use Rattle.json_scan.specs.declared.Reached.the-variants.{Stopped}
+use Rattle.json_scan.specs.Scan.{Class, exactly, between, number, text, escape, rest, ended, Move, nowhere, to, valueStep}
+use Rattle.json_scan.specs.WorkingEnds.{restEnd}
+use Rattle.json_number.specs.WorkingFigures.{numberEnd}
 
 -- these bytes are still to come
 abbrev pub spelling : List ℕ → List Class
 spelling [] = []
 spelling (x ∷ xs) = exactly x ∷ spelling xs
 
--- at a byte that is no white space and begins no string, object or array
-pub record Bare (c : ℕ) : Type 0 where
-  pub dark : isWhite c ≡ false
-  pub no-string : c ≡ 34 → ⊥
-  pub no-object : c ≡ 123 → ⊥
-  pub no-array : c ≡ 91 → ⊥
+-- by where the first byte leads: into a number, into a name, or, to stop there at once, into any other value or nowhere
+abbrev pub scalarOn : ℕ → List ℕ → Move → Reached
+scalarOn at cs nowhere = Stopped at
+scalarOn at cs (to (number figure) around) = numberEnd figure (at + 1) cs
+scalarOn at cs (to (rest k ks next) around) = restEnd (k ∷ ks) (at + 1) cs
+scalarOn at cs (to (between due) around) = Stopped at
+scalarOn at cs (to (text due) around) = Stopped at
+scalarOn at cs (to (escape due) around) = Stopped at
+scalarOn at cs (to ended around) = Stopped at
 
--- at a byte with which neither a number nor a literal name begins
-pub record Other (c : ℕ) : Type 0 where
-  pub no-number : (eqb c 45 || isDigit c) ≡ false
-  pub no-false : c ≡ 102 → ⊥
-  pub no-null : c ≡ 110 → ⊥
-  pub no-true : c ≡ 116 → ⊥
-
--- it reads on as a value is read where that is one of those, and elsewhere it stops at once
-pub record ReadsScalar (bytes : List ℕ) (at : ℕ) (r : Came) : Type 0 where
-  pub reads : (at < length bytes → Bare (getD bytes at 0)) → ReadsToken bytes at (between value) (between behind) r
-  pub other : at < length bytes → Other (getD bytes at 0) → r ≡ Stopped at
+unfoldable pub scalarEnd : ℕ → List ℕ → Reached
+scalarEnd at [] = Stopped at
+scalarEnd at (c ∷ cs) = scalarOn at cs (valueStep [] c)

@@ -7,14 +7,14 @@ ghost use mathlib.Core.Path.{_≡_};
 ghost use mathlib.Core.Bool.{cond, _||_};
 ghost use Prim.Native.Nat.{_+_, _<_};
 ghost use lib.Dec.{eqb};
-ghost use lib.ListN.{getD};
+ghost use lib.ListN.{drop, getD};
 ghost use Rattle.json_scan.specs.Scan.{isDigit};
-ghost use Rattle.json_scan.specs.WorkingReads.{Takes, came, tokenBy, Keeps, ReadsRest};
-ghost use Rattle.json_scalar.specs.WorkingScalars.{spelling, ReadsScalar};
+ghost use Rattle.json_scan.specs.WorkingEnds.{settledAs, placeLeft, restEnd};
+ghost use Rattle.json_scalar.specs.WorkingScalars.{spelling, scalarEnd};
 
 // These bytes, one after another.
 fn literal_end(bytes: &[u8], at: usize, word: &[u8]) -> Reached
-    ensures { λ r. ⌜ ReadsRest (now (bytes .entry)) at (spelling (now (word .entry))) (came r) ⌝ }
+    ensures { λ r. ⌜ r ≡ restEnd (spelling (now (word .entry))) at (drop at (now (bytes .entry))) ⌝ }
 {
     let mut i = at;
     let mut j = 0;
@@ -54,8 +54,7 @@ fn behind_minus(bytes: &[u8], at: usize) -> usize
 
 // Where a value is due and no string, object or array begins.
 fn scalar_read(bytes: &[u8], at: usize) -> Reached
-    ensures read { λ r. ⌜ ReadsScalar (now (bytes .entry)) at (came r) ⌝ }
-    ensures takes { λ r. ⌜ Takes at (came r) ⌝ }
+    ensures { λ r. ⌜ r ≡ scalarEnd at (drop at (now (bytes .entry))) ⌝ }
 {
     if at >= bytes.len() {
         return Reached::Stopped(at);
@@ -74,8 +73,8 @@ fn scalar_read(bytes: &[u8], at: usize) -> Reached
 
 // The same, told as a number.
 pub fn scalar_end(bytes: &[u8], at: usize, place: &mut usize) -> usize
-    ensures read { λ r. ⌜ ReadsScalar (now (bytes .entry)) at (tokenBy r (now (place .exit))) ⌝ }
-    ensures keeps { λ r. ⌜ Keeps r (now (place .entry)) (now (place .exit)) ⌝ }
+    ensures told { λ r. ⌜ r ≡ settledAs (scalarEnd at (drop at (now (bytes .entry)))) ⌝ }
+    ensures stops { λ _. ⌜ now (place .exit) ≡ placeLeft (scalarEnd at (drop at (now (bytes .entry)))) (now (place .entry)) ⌝ }
 {
     settle(scalar_read(bytes, at), place)
 }

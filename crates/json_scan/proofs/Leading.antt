@@ -8,12 +8,8 @@ use native.Mathlib.Nat.{le-of-suc-le-suc}
 use lib.ListN.{length, drop, getD, drop-of-length-le, length-drop}
 use lib.Seq.{drop-drop, getD-drop}
 use Rattle.json_scan.specs.Scan.{Kind, State, to, moveOf, goOn, scan}
-use Rattle.json_scan.specs.WorkingReads.{leading}
+use Rattle.json_scan.specs.WorkingEnds.{leading, endOf}
 use Rattle.json_scan.proofs.Scanning.{drop-at, go-on}
-
--- where the bytes that pass end, if they begin at a place
-abbrev pub endOf : (ℕ → Bool) → List ℕ → ℕ → ℕ
-endOf test bytes at = at + leading test (drop at bytes)
 
 -- the byte there passes
 pub end-more : (test : ℕ → Bool) (bytes : List ℕ) (at : ℕ) → at < length bytes → test (getD bytes at 0) ≡ true → endOf test bytes at ≡ endOf test bytes (at + 1)
@@ -55,30 +51,33 @@ end-stops test bytes at l =
     ap test (sym (getD-drop at bytes (leading test (drop at bytes)) 0))
     ∙ stops test (drop at bytes) (omega (arith, length-drop at bytes))
 
--- if such a byte leaves the reading where it stands, then all of them do
-passes :
-    (most : ℕ) (state : State) (around : List Kind) (test : ℕ → Bool) → ((c : ℕ) → test c ≡ true → moveOf state around c ≡ to state around) → length around ≤ most →
-    (at : ℕ) (xs : List ℕ) → scan most state around at xs ≡ scan most state around (at + leading test xs) (drop (leading test xs) xs)
-unfolding scan leading
-passes most state around test stays room at [] = ap (λ (i : ℕ). scan most state around i []) (omega arith)
-passes most state around test stays room at (x ∷ xs) = go (passes most state around test stays room (at + 1) xs) (test x) refl
+-- whatever is read of bytes from a place on: if such a byte in front does not change it, then all of them do not
+passes : {A : Type 0} (f : ℕ → List ℕ → A) (test : ℕ → Bool) → ((at c : ℕ) (cs : List ℕ) → test c ≡ true → f at (c ∷ cs) ≡ f (at + 1) cs) → (at : ℕ) (xs : List ℕ) → f at xs ≡ f (at + leading test xs) (drop (leading test xs) xs)
+unfolding leading
+passes f test same at [] = ap (λ (i : ℕ). f i []) (omega arith)
+passes f test same at (x ∷ xs) = go (passes f test same (at + 1) xs) (test x) refl
   where
     go :
-        scan most state around (at + 1) xs ≡ scan most state around (at + 1 + leading test xs) (drop (leading test xs) xs) → (t : Bool) → test x ≡ t →
-        scan most state around at (x ∷ xs) ≡ scan most state around (at + cond t (suc (leading test xs)) 0) (drop (cond t (suc (leading test xs)) 0) (x ∷ xs))
-    go again true e =
-        ap (goOn most at (λ state₂ open₂. scan most state₂ open₂ (at + 1) xs)) (stays x e)
-        ∙ go-on most at (λ state₂ open₂. scan most state₂ open₂ (at + 1) xs) state around room
-        ∙ again
-        ∙ ap (λ (i : ℕ). scan most state around i (drop (leading test xs) xs)) (omega arith)
-    go again false e = ap (λ (i : ℕ). scan most state around i (x ∷ xs)) (omega arith)
+        f (at + 1) xs ≡ f (at + 1 + leading test xs) (drop (leading test xs) xs) → (t : Bool) → test x ≡ t →
+        f at (x ∷ xs) ≡ f (at + cond t (suc (leading test xs)) 0) (drop (cond t (suc (leading test xs)) 0) (x ∷ xs))
+    go again true e = same at x xs e ∙ again ∙ ap (λ (i : ℕ). f i (drop (leading test xs) xs)) (omega arith)
+    go again false e = ap (λ (i : ℕ). f i (x ∷ xs)) (omega arith)
 
+pub passes-to :
+    {A : Type 0} (f : ℕ → List ℕ → A) (test : ℕ → Bool) → ((at c : ℕ) (cs : List ℕ) → test c ≡ true → f at (c ∷ cs) ≡ f (at + 1) cs) → (bytes : List ℕ) (at : ℕ) →
+    f at (drop at bytes) ≡ f (endOf test bytes at) (drop (endOf test bytes at) bytes)
+passes-to f test same bytes at = passes f test same at (drop at bytes) ∙ ap (f (endOf test bytes at)) (drop-drop (leading test (drop at bytes)) at bytes)
+
+-- so it is with bytes that leave the reading where it stands
 pub scan-passes :
     (most : ℕ) (state : State) (around : List Kind) (test : ℕ → Bool) (bytes : List ℕ) (at : ℕ) → ((c : ℕ) → test c ≡ true → moveOf state around c ≡ to state around) →
     length around ≤ most → scan most state around at (drop at bytes) ≡ scan most state around (endOf test bytes at) (drop (endOf test bytes at) bytes)
+unfolding scan
 scan-passes most state around test bytes at stays room =
-    passes most state around test stays room at (drop at bytes)
-    ∙ ap (scan most state around (endOf test bytes at)) (drop-drop (leading test (drop at bytes)) at bytes)
+    passes-to (scan most state around) test
+    (λ i c cs e.
+    ap (goOn most i (λ state₁ around₁. scan most state₁ around₁ (i + 1) cs)) (stays c e) ∙ go-on most i (λ state₁ around₁. scan most state₁ around₁ (i + 1) cs) state around room)
+    bytes at
 
 -- ---- so many of them, and then the others
 

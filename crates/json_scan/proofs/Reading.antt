@@ -1,5 +1,5 @@
 -- How a reader's promise is put together: a byte more in front, a place to stop, two readers one behind the other.
-use mathlib.Core.Path.{_≡_, refl, sym, ap, subst, _∙_}
+use mathlib.Core.Path.{_≡_, refl, sym, ap, _∙_}
 use mathlib.Core.Bool.{Bool, true, false, cond}
 use mathlib.Core.List.{List}
 use mathlib.Core.Logic.{⊎-elim}
@@ -10,10 +10,33 @@ use lib.Dec.{ltb}
 use lib.ListN.{length, drop, getD}
 use Rattle.bytes_number.proofs.Truth.{outcome}
 use Rattle.json_scan.specs.declared.Verdict.the-variants.{Json, NotJson}
-use Rattle.json_scan.specs.Scan.{Kind, State, nowhere, to, moveOf, isEnded, goOn, scan}
-use Rattle.json_scan.specs.WorkingReads.{Came, Behind, Stopped, Deeper, placeOf, Takes, ReadsOn}
+use Rattle.json_scan.specs.declared.Reached.{Reached}
+use Rattle.json_scan.specs.declared.Reached.the-variants as told
+use Rattle.json_scan.specs.Scan.{Class, Kind, Due, State, nowhere, to, remaining, moveOf, isEnded, goOn, scan}
+use Rattle.json_scan.specs.WorkingEnds.{endOf, followed}
+use Rattle.json_scan.specs.WorkingReads.{Came, Behind, Stopped, Deeper, placeOf, came, ReadsOn}
 use Rattle.json_scan.proofs.Scanning.{scan-at, scan-over, go-on}
-use Rattle.json_scan.proofs.Leading.{endOf, scan-passes}
+use Rattle.json_scan.proofs.Leading.{scan-passes}
+
+-- a token, however many levels are left
+abbrev pub ReadsToken : List ℕ → ℕ → State → State → Came → Type 0
+ReadsToken bytes at state next r = (room : ℕ) → ReadsOn bytes room at state next r
+
+-- the rest of a token, whatever comes behind it
+abbrev pub ReadsRest : List ℕ → ℕ → List Class → Came → Type 0
+ReadsRest bytes at ks r = (next : State) → ReadsToken bytes at (remaining ks next) next r
+
+-- a string or a part of one, whatever is due behind it
+abbrev pub ReadsText : List ℕ → ℕ → (Due → State) → (Due → State) → Came → Type 0
+ReadsText bytes at state next r = (due : Due) → ReadsToken bytes at (state due) (next due) r
+
+-- if it came behind what it read, that was a byte at least
+abbrev pub Takes : ℕ → Came → Type 0
+Takes at (Behind i) = at < i
+Takes at (Stopped i) = Unit {0}
+Takes at (Deeper i) = Unit {0}
+
+-- ---- one byte
 
 -- nothing more is read
 pub reads-none : {bytes : List ℕ} {room at : ℕ} {state : State} → ReadsOn bytes room at state state (Behind at)
@@ -32,12 +55,6 @@ reads-more {bytes} {room} {at} {state} {next} {r} state₁ l e rest =
           ∙ rest .same around;
       onward = omega (arith, rest .onward);
     }
-
--- the same however the place behind it was come by
-pub reads-on :
-    {bytes : List ℕ} {room at : ℕ} {state next : State} {r : Came} (state₁ : State) {n : ℕ} → n ≡ at + 1 →
-    at < length bytes → ((around : List Kind) → moveOf state around (getD bytes at 0) ≡ to state₁ around) → ReadsOn bytes room n state₁ next r → ReadsOn bytes room at state next r
-reads-on {bytes} {room} {next = next} {r = r} state₁ is l e rest = reads-more state₁ l e (subst (λ (n : ℕ). ReadsOn bytes room n state₁ next r) is rest)
 
 -- the byte is the last one
 pub reads-last :
@@ -91,6 +108,17 @@ pub reads-failed : {bytes : List ℕ} {room at : ℕ} {state middle next : State
 reads-failed (Behind j) fails one = absurd fails
 reads-failed (Stopped j) fails one = record { same = λ around. one .same around; onward = one .onward }
 reads-failed (Deeper j) fails one = record { same = λ around. one .same around; onward = one .onward }
+
+-- a second one behind the first, as long as that does not stop
+pub reads-followed :
+    {bytes : List ℕ} {room at : ℕ} {state middle next : State} (r : Reached) (f : ℕ → Reached) → ReadsOn bytes room at state middle (came r) → ((i : ℕ) → r ≡ told.Behind i → ReadsOn bytes room i middle next (came (f i))) →
+    ReadsOn bytes room at state next (came (followed r f))
+reads-followed (told.Behind i) f one two = reads-then one (two i refl)
+reads-followed (told.Stopped i) f one two = reads-failed (Stopped i) tt one
+
+pub takes-followed : (at : ℕ) (r : Reached) (f : ℕ → Reached) → ((i : ℕ) → r ≡ told.Behind i → Takes at (came (f i))) → Takes at (came (followed r f))
+takes-followed at (told.Behind i) f two = two i refl
+takes-followed at (told.Stopped i) f two = tt
 
 -- bytes at the front that leave the reading where it stands
 pub reads-passes :

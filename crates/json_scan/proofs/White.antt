@@ -12,9 +12,10 @@ use Rattle.bytes_number.proofs.Truth.{outcome}
 use Rattle.json_scan.specs.declared.Verdict.{Verdict}
 use Rattle.json_scan.specs.declared.Verdict.the-variants.{NotJson}
 use Rattle.json_scan.specs.Scan.{isWhite, Kind, Due, State, between, nowhere, to, tokenMove, betweenMove, moveOf, goOn, scan}
-use Rattle.json_scan.specs.WorkingReads.{Came, Stopped, ReadsOn, TokenAt}
+use Rattle.json_scan.specs.WorkingEnds.{endOf, tokenAt}
+use Rattle.json_scan.specs.WorkingReads.{Came, Stopped, ReadsOn}
 use Rattle.json_scan.specs.declared.Token.{Token}
-use Rattle.json_scan.proofs.Leading.{endOf, end-here, end-stops, scan-passes}
+use Rattle.json_scan.proofs.Leading.{end-here, end-stops, scan-passes}
 use Rattle.json_scan.proofs.Bytes.{white-none}
 use Rattle.json_scan.proofs.Scanning.{inside, scan-at, scan-over, go-on}
 use Rattle.json_scan.proofs.Reading.{reads-passes}
@@ -52,6 +53,20 @@ white-above bytes at l =
     sym (end-here isWhite bytes at (inside bytes at (λ e. omega (arith, l, e))) (sym (white-none c (λ e. omega (arith, l, e)) (λ e. omega (arith, l, e)) (λ e. omega (arith, l, e)) (λ e. omega (arith, l, e)))))
 
 -- ---- a place where a token may begin, with the byte there
+
+pub record TokenAt (bytes : List ℕ) (from : ℕ) (t : Token) : Type 0 where
+  pub end : t .at ≡ endOf isWhite bytes from
+  pub there : t .byte ≡ getD bytes (t .at) 0
+
+pub token-is : (bytes : List ℕ) (from : ℕ) {at byte : ℕ} → at ≡ endOf isWhite bytes from → byte ≡ getD bytes at 0 → record { at = at; byte = byte } ≡ tokenAt bytes from
+unfolding tokenAt
+token-is bytes from end there = let is = there ∙ ap (λ (j : ℕ). getD bytes j 0) end in λ i. record { at = end i; byte = is i }
+
+pub token-told : (bytes : List ℕ) (from : ℕ) {t : Token} → t ≡ tokenAt bytes from → TokenAt bytes from t
+unfolding tokenAt
+token-told bytes from {t} e =
+    let end : t .at ≡ endOf isWhite bytes from = ap (λ (x : Token). x .at) e in
+    record { end = end; there = ap (λ (x : Token). x .byte) e ∙ ap (λ (j : ℕ). getD bytes j 0) (sym end) }
 
 module _ {bytes : List ℕ} {from : ℕ} {t : Token} (b : TokenAt bytes from t) where
   pub token-further : from ≤ t .at

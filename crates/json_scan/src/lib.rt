@@ -1,10 +1,8 @@
 // A payload read one byte after another: what it comes to, and how far a reader of one of its tokens came.
 use bytes_number::byte_at;
 ghost use mathlib.Core.Path.{_≡_};
-ghost use Prim.Native.Nat.{_+_};
-ghost use lib.ListN.{drop};
 ghost use Rattle.json_scan.specs.Scan.{isWhite, isDigit};
-ghost use Rattle.json_scan.specs.WorkingReads.{leading, settledAs, placeLeft, TokenAt};
+ghost use Rattle.json_scan.specs.WorkingEnds.{endOf, tokenAt, settledAs, placeLeft};
 
 // Whether a payload is JSON; if not, the first byte at which no continuation is allowed, or the opening byte of the level that is one too deep.
 pub enum Verdict {
@@ -54,7 +52,7 @@ pub fn is_digit(c: u8) -> bool
 
 // The first place from `at` on that has no white space.
 pub fn white_end(bytes: &[u8], at: usize) -> usize
-    ensures { λ r. ⌜ r ≡ at + leading isWhite (drop at (now (bytes .entry))) ⌝ }
+    ensures { λ r. ⌜ r ≡ endOf isWhite (now (bytes .entry)) at ⌝ }
 {
     let mut i = at;
     while i < bytes.len() {
@@ -68,7 +66,7 @@ pub fn white_end(bytes: &[u8], at: usize) -> usize
 
 // The first place from `at` on that has no digit.
 pub fn digits_end(bytes: &[u8], at: usize) -> usize
-    ensures { λ r. ⌜ r ≡ at + leading isDigit (drop at (now (bytes .entry))) ⌝ }
+    ensures { λ r. ⌜ r ≡ endOf isDigit (now (bytes .entry)) at ⌝ }
 {
     let mut j = at;
     while j < bytes.len() {
@@ -88,7 +86,7 @@ pub struct Token {
 
 // The first place from `at` on that has no white space. Mostly that is `at` itself.
 pub fn token_at(bytes: &[u8], at: usize) -> Token
-    ensures { λ r. ⌜ TokenAt (now (bytes .entry)) at r ⌝ }
+    ensures { λ r. ⌜ r ≡ tokenAt (now (bytes .entry)) at ⌝ }
 {
     let byte = byte_at(bytes, at);
     if byte > b' ' {

@@ -1,39 +1,29 @@
--- What comes behind a value within an object or an array.
-use mathlib.Core.Path.{_≡_}
-use mathlib.Core.List.{List, _∷_}
-use Prim.Native.Nat.{ℕ, _+_, _<_, _≤_}
-use lib.ListN.{length, drop}
-use Rattle.json_scan.specs.declared.Verdict.{Verdict}
-use Rattle.json_scan.specs.declared.Verdict.the-variants.{NotJson}
-use Rattle.json_scan.specs.Scan.{Kind, inObject, inArray, Due, name, value, behind, between, scan}
+-- Where a name with its colon ends, and what stands behind a value within an object or an array.
+use mathlib.Core.Bool.{cond}
+use mathlib.Core.List.{List, [], _∷_}
+use Prim.Native.Nat.{ℕ, _+_}
+use lib.Dec.{eqb}
+use lib.ListN.{drop}
+use Rattle.json_scan.specs.declared.Reached.{Reached}
+use Rattle.json_scan.specs.declared.Reached.the-variants.{Behind, Stopped}
+use Rattle.json_scan.specs.Scan.{isWhite}
+use Rattle.json_scan.specs.WorkingEnds.{endOf, tokenAt, followed}
+use Rattle.json_string.specs.WorkingText.{textEnd}
 use Rattle.json_separators.specs.declared.Next.{Next}
 use Rattle.json_separators.specs.declared.Next.the-variants.{More, Closed, Neither}
 
--- the byte that closes it
-abbrev pub closing : Kind → ℕ
-closing inObject = 125
-closing inArray = 93
+-- this byte, behind white space
+unfoldable pub markEnd : ℕ → List ℕ → ℕ → Reached
+markEnd mark bytes at = let t = tokenAt bytes at in cond (eqb (t .byte) mark) (Behind (t .at + 1)) (Stopped (t .at))
 
--- what is due behind a comma
-abbrev pub again : Kind → Due
-again inObject = name
-again inArray = value
+-- a quotation mark, what stands up to the closing one, and a colon
+unfoldable pub nameEnd : List ℕ → ℕ → Reached
+nameEnd bytes at = followed (markEnd 34 bytes at) (λ i. followed (textEnd i (drop i bytes)) (λ j. markEnd 58 bytes j))
 
--- what the whole comes to then
-abbrev pub separated : List ℕ → ℕ → Kind → List Kind → Next → Verdict
-separated bytes most kind around (More k) = scan most (between (again kind)) (kind ∷ around) k (drop k bytes)
-separated bytes most kind around (Closed k) = scan most (between behind) around k (drop k bytes)
-separated bytes most kind around (Neither k) = NotJson k
+-- at a byte that is no white space, by the byte that closes what the value stands in
+unfoldable pub nextAt : ℕ → ℕ → List ℕ → Next
+nextAt close at [] = Neither at
+nextAt close at (c ∷ cs) = cond (eqb c close) (Closed (at + 1)) (cond (eqb c 44) (More (at + 1)) (Neither at))
 
--- it was read on by so much: the comma lies within the bytes
-abbrev pub Further : List ℕ → ℕ → Next → Type 0
-Further bytes at (More k) = (at < k) × (k ≤ length bytes)
-Further bytes at (Closed k) = at < k
-Further bytes at (Neither k) = at ≤ k
-
--- whatever is open around it, as long as this byte closes it
-pub record Separates (bytes : List ℕ) (at close : ℕ) (r : Next) : Type 0 where
-  pub same :
-      (kind : Kind) → close ≡ closing kind → (room : ℕ) (around : List Kind) →
-      scan (length (kind ∷ around) + room) (between behind) (kind ∷ around) at (drop at bytes) ≡ separated bytes (length (kind ∷ around) + room) kind around r
-  pub further : Further bytes at r
+unfoldable pub nextOf : ℕ → List ℕ → ℕ → Next
+nextOf close bytes at = let i = endOf isWhite bytes at in nextAt close i (drop i bytes)

@@ -3,10 +3,9 @@ use json_scan::Reached;
 use json_scan::settle;
 use json_scan::token_at;
 use json_string::text_end;
-ghost use Prim.Native.Nat.{_+_};
-ghost use Rattle.json_scan.specs.Scan.{between, name, value};
-ghost use Rattle.json_scan.specs.WorkingReads.{Takes, tokenBy, Keeps, ReadsToken};
-ghost use Rattle.json_separators.specs.WorkingSeparators.{Separates};
+ghost use mathlib.Core.Path.{_≡_};
+ghost use Rattle.json_scan.specs.WorkingEnds.{settledAs, placeLeft};
+ghost use Rattle.json_separators.specs.WorkingSeparators.{nameEnd, nextOf};
 
 // Behind a value within an object or an array: behind the comma, behind the closing byte, or at a byte that is neither.
 pub enum Next {
@@ -17,9 +16,8 @@ pub enum Next {
 
 // The name of a member and the colon behind it.
 pub fn name_end(bytes: &[u8], at: usize, place: &mut usize) -> usize
-    ensures read { λ r. ⌜ ReadsToken (now (bytes .entry)) at (between name) (between value) (tokenBy r (now (place .exit))) ⌝ }
-    ensures takes { λ r. ⌜ Takes (at + 1) (tokenBy r (now (place .exit))) ⌝ }
-    ensures keeps { λ r. ⌜ Keeps r (now (place .entry)) (now (place .exit)) ⌝ }
+    ensures told { λ r. ⌜ r ≡ settledAs (nameEnd (now (bytes .entry)) at) ⌝ }
+    ensures stops { λ _. ⌜ now (place .exit) ≡ placeLeft (nameEnd (now (bytes .entry)) at) (now (place .entry)) ⌝ }
 {
     let first = token_at(bytes, at);
     let from = first.at;
@@ -40,7 +38,7 @@ pub fn name_end(bytes: &[u8], at: usize, place: &mut usize) -> usize
 
 // What comes behind a value, where this byte closes what it stands in.
 pub fn next_value(bytes: &[u8], at: usize, close: u8) -> Next
-    ensures { λ r. ⌜ Separates (now (bytes .entry)) at close r ⌝ }
+    ensures { λ r. ⌜ r ≡ nextOf close (now (bytes .entry)) at ⌝ }
 {
     let mark = token_at(bytes, at);
     let i = mark.at;

@@ -1,2 +1,3 @@
 pub mod Bytes
 pub mod Steps
+pub mod Texts

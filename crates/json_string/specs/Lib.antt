@@ -1,1 +1,2 @@
--- Nothing: what this crate's promises cite is json_scan's.
+-- What begins with Working serves the proofs alone: nothing there has to be believed.
+pub mod WorkingText

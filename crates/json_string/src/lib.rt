@@ -4,9 +4,10 @@ use json_plain::plain_end;
 use json_scan::Reached;
 use json_scan::settle;
 ghost use mathlib.Core.Path.{_≡_};
-ghost use lib.ListN.{replicate};
-ghost use Rattle.json_scan.specs.Scan.{isHexDigit, isEscape, hex, between, text, escape};
-ghost use Rattle.json_scan.specs.WorkingReads.{came, tokenBy, Keeps, ReadsRest, ReadsText};
+ghost use lib.ListN.{drop, replicate};
+ghost use Rattle.json_scan.specs.Scan.{isHexDigit, isEscape, hex};
+ghost use Rattle.json_scan.specs.WorkingEnds.{settledAs, placeLeft, restEnd};
+ghost use Rattle.json_string.specs.WorkingText.{textEnd, Escaped};
 
 fn is_hex(c: u8) -> bool
     ensures { λ r. ⌜ r ≡ isHexDigit c ⌝ }
@@ -31,7 +32,7 @@ fn is_escape(c: u8) -> bool
 
 // So many hex digits.
 fn hex_end(bytes: &[u8], at: usize, count: u8) -> Reached
-    ensures { λ r. ⌜ ReadsRest (now (bytes .entry)) at (replicate count hex) (came r) ⌝ }
+    ensures { λ r. ⌜ r ≡ restEnd (replicate count hex) at (drop at (now (bytes .entry))) ⌝ }
 {
     let mut i = at;
     let mut left = count;
@@ -50,7 +51,7 @@ fn hex_end(bytes: &[u8], at: usize, count: u8) -> Reached
 
 // What stands behind a backslash.
 fn escape_end(bytes: &[u8], at: usize) -> Reached
-    ensures { λ r. ⌜ ReadsText (now (bytes .entry)) at escape text (came r) ⌝ }
+    ensures { λ r. ⌜ Escaped (now (bytes .entry)) at r ⌝ }
 {
     if at >= bytes.len() {
         return Reached::Stopped(at);
@@ -67,8 +68,8 @@ fn escape_end(bytes: &[u8], at: usize) -> Reached
 
 // What stands between the quotation marks, and the closing one.
 pub fn text_end(bytes: &[u8], at: usize, place: &mut usize) -> usize
-    ensures read { λ r. ⌜ ReadsText (now (bytes .entry)) at text between (tokenBy r (now (place .exit))) ⌝ }
-    ensures keeps { λ r. ⌜ Keeps r (now (place .entry)) (now (place .exit)) ⌝ }
+    ensures told { λ r. ⌜ r ≡ settledAs (textEnd at (drop at (now (bytes .entry)))) ⌝ }
+    ensures stops { λ _. ⌜ now (place .exit) ≡ placeLeft (textEnd at (drop at (now (bytes .entry)))) (now (place .entry)) ⌝ }
 {
     let mut i = at;
     loop {

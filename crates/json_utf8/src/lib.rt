@@ -3,9 +3,9 @@ use bytes_number::byte_at;
 use json_scan::Reached;
 ghost use mathlib.Core.Path.{_≡_};
 ghost use mathlib.Core.List.{_∷_};
-ghost use lib.ListN.{length, replicate};
+ghost use lib.ListN.{length, drop, replicate};
 ghost use Rattle.json_scan.specs.Scan.{isWithin, tail, secondOf, tailsOf};
-ghost use Rattle.json_scan.specs.WorkingReads.{came, ReadsRest};
+ghost use Rattle.json_scan.specs.WorkingEnds.{restEnd};
 ghost use Rattle.json_utf8.specs.Working.{lowestSecond, highestSecond};
 
 fn is_tail(c: u8, lowest: u8, highest: u8) -> bool
@@ -49,7 +49,7 @@ fn highest_second(lead: u8) -> u8
 
 // So many tails.
 fn tails_end(bytes: &[u8], at: usize, count: u8) -> Reached
-    ensures { λ r. ⌜ ReadsRest (now (bytes .entry)) at (replicate count tail) (came r) ⌝ }
+    ensures { λ r. ⌜ r ≡ restEnd (replicate count tail) at (drop at (now (bytes .entry))) ⌝ }
 {
     let mut i = at;
     let mut left = count;
@@ -65,7 +65,7 @@ fn tails_end(bytes: &[u8], at: usize, count: u8) -> Reached
 
 // The second byte of a character, and so many tails behind it.
 pub fn second_end(bytes: &[u8], at: usize, lead: u8, more: u8) -> Reached
-    ensures { λ r. ⌜ ReadsRest (now (bytes .entry)) at (secondOf lead ∷ replicate more tail) (came r) ⌝ }
+    ensures { λ r. ⌜ r ≡ restEnd (secondOf lead ∷ replicate more tail) at (drop at (now (bytes .entry))) ⌝ }
 {
     if !is_tail(
         byte_at(bytes, at),

@@ -2,14 +2,19 @@
 use borrow.Author.Needs.{needs}
 use mathlib.Core.Path.{refl, sym, ap, _∙_}
 use native.Mathlib.Omega.{arith}
-use lib.ListN.{length}
+use lib.ListN.{length, drop}
 use Rattle.json_scan.specs.Scan.{isWhite, inObject, inArray, behind, text}
-use Rattle.json_scan.specs.WorkingReads.{Stopped, valueBy}
+use Rattle.json_scan.specs.WorkingReads.{Stopped, came, valueBy}
 use Rattle.json_scan.proofs.Scanning.{inside}
-use Rattle.json_scan.proofs.Reading.{reads-more, reads-then}
-use Rattle.json_scan.proofs.Settled.{reads-placed, token-stops, takes-placed, value-deeper}
-use Rattle.json_scan.proofs.White.{reads-white, token-further, token-there, token-dark}
-use Rattle.json_check.proofs.Nesting.{begins-text, Inside, nest-closed, inside-first, inside-held, inside-failed, held-more, held-closed, held-neither, more-further, closed-further, value-fails, opened-deeper, opened-nest, opened-place, opened-stop, reads-opened, reads-far, reads-as-placed}
+use Rattle.json_scan.proofs.Reading.{takes-more, reads-more, reads-then}
+use Rattle.json_scan.proofs.Settled.{value-deeper, reads-value}
+use Rattle.json_scan.proofs.White.{token-told, reads-white, token-further, token-there, token-dark}
+use Rattle.json_string.specs.WorkingText.{textEnd}
+use Rattle.json_string.proofs.Texts.{text-reads, text-takes}
+use Rattle.json_scalar.specs.WorkingScalars.{scalarEnd}
+use Rattle.json_scalar.proofs.Scalars.{scalar-reads, scalar-takes}
+use Rattle.json_separators.proofs.Names.{name-stops, name-placed, name-further}
+use Rattle.json_check.proofs.Nesting.{begins-text, Inside, nest-closed, inside-first, inside-held, inside-failed, held-more, held-closed, held-neither, more-further, closed-further, value-fails, opened-deeper, opened-nest, opened-place, opened-stop, reads-opened, reads-as-placed}
 use Prim.Native.Nat.{ℕ, _+_, _-_, _<_}
 use borrow.Fn.Kinds.{In}
 use borrow.Fn.PlainCycle.{Measures, is, falls, and}
@@ -114,7 +119,7 @@ array-end-add-result : (t : ℕ) → array-end-lts.Need-add-result (
   settle-reads.Asked,
   settle-reads.Learnt,
 ) (array-end-at t) array-end.Post array-end-Inv-loop array-end-μ-loop
-array-end-add-result t c = let l = token-there (c .before .before .token-at .ensures) (λ e. omega arith) in
+array-end-add-result t c = let l = token-there (token-told _ _ (c .before .before .token-at .ensures)) (λ e. omega arith) in
     omega (arith, l)
 
 array-end-returns-2 : (t : ℕ) → array-end-lts.Need-returns-2 (
@@ -127,7 +132,7 @@ array-end-returns-2 : (t : ℕ) → array-end-lts.Need-returns-2 (
   settle-reads.Asked,
   settle-reads.Learnt,
 ) (array-end-at t) array-end.Post array-end-Inv-loop array-end-μ-loop
-array-end-returns-2 t c = opened-place (omega arith) _ _ (omega (arith, token-further (c .before .before .token-at .ensures))) (nest-closed _ inArray (c .before .before .token-at .ensures) (omega arith))
+array-end-returns-2 t c = opened-place (omega arith) _ _ (omega (arith, token-further (token-told _ _ (c .before .before .token-at .ensures)))) (nest-closed _ inArray (token-told _ _ (c .before .before .token-at .ensures)) (omega arith))
 
 array-end-loop-holds : (t : ℕ) → array-end-lts.Need-loop-holds (
   token-at-reads.Asked,
@@ -139,7 +144,7 @@ array-end-loop-holds : (t : ℕ) → array-end-lts.Need-loop-holds (
   settle-reads.Asked,
   settle-reads.Learnt,
 ) (array-end-at t) array-end.Post array-end-Inv-loop array-end-μ-loop
-array-end-loop-holds t c = inside-first _ inArray (c .before .before .token-at .ensures) (λ e. omega arith)
+array-end-loop-holds t c = inside-first _ inArray (token-told _ _ (c .before .before .token-at .ensures)) (λ e. omega arith)
 
 array-end-token-at-requires-2 : (t : ℕ) → array-end-lts.Need-token-at-requires-2 (
   token-at-reads.Asked,
@@ -175,7 +180,7 @@ array-end-value-end-requires : (t : ℕ) → array-end-lts.Need-value-end-requir
   settle-reads.Asked,
   settle-reads.Learnt,
 ) (array-end-at t) array-end.Post array-end-Inv-loop array-end-μ-loop
-array-end-value-end-requires t c κs = let tok = c .before .token-at2 .ensures in
+array-end-value-end-requires t c κs = let tok = token-told _ _ (c .before .token-at2 .ensures) in
     (omega (arith, c .before .before .before .before .before .before .before .before .pre .0), (omega (arith, c .before .before .before .before .before .before .before .before .pre .1 .0, c .before .before .loop .inv .onward, token-further tok), record { there = tok .there; dark = token-dark tok }))
 
 array-end-returns-3 : (t : ℕ) → array-end-lts.Need-returns-3 (
@@ -188,7 +193,7 @@ array-end-returns-3 : (t : ℕ) → array-end-lts.Need-returns-3 (
   settle-reads.Asked,
   settle-reads.Learnt,
 ) (array-end-at t) array-end.Post array-end-Inv-loop array-end-μ-loop
-array-end-returns-3 t c = opened-nest (omega arith) (inside-failed (valueBy (c .before .value-end .result) _) (value-fails (c .before .value-end .result) _ (omega arith)) (c .before .before .before .before .loop .inv) (reads-white (c .before .before .before .token-at2 .ensures .end) (c .before .value-end .ensures)))
+array-end-returns-3 t c = opened-nest (omega arith) (inside-failed (valueBy (c .before .value-end .result) _) (value-fails (c .before .value-end .result) _ (omega arith)) (c .before .before .before .before .loop .inv) (reads-white (token-told _ _ (c .before .before .before .token-at2 .ensures) .end) (c .before .value-end .ensures)))
 
 array-end-next-value-requires : (t : ℕ) → array-end-lts.Need-next-value-requires (
   token-at-reads.Asked,
@@ -224,8 +229,8 @@ array-end-loop-less : (t : ℕ) → array-end-lts.Need-loop-less (
   settle-reads.Asked,
   settle-reads.Learnt,
 ) (array-end-at t) array-end.Post array-end-Inv-loop array-end-μ-loop
-array-end-loop-less t c = let m = more-further (c .before .k .given .1) (c .before .before .before .next-value .ensures) in
-    let on = reads-as-placed (c .before .before .before .before .before .value-end .result) _ (omega arith) (reads-white (c .before .before .before .before .before .before .before .token-at2 .ensures .end) (c .before .before .before .before .before .value-end .ensures)) .onward in
+array-end-loop-less t c = let m = more-further _ _ _ (c .before .before .before .next-value .ensures) (c .before .k .given .1) in
+    let on = reads-as-placed (c .before .before .before .before .before .value-end .result) _ (omega arith) (reads-white (token-told _ _ (c .before .before .before .before .before .before .before .token-at2 .ensures) .end) (c .before .before .before .before .before .value-end .ensures)) .onward in
     omega (arith, m .0, m .1, on)
 
 array-end-loop-again : (t : ℕ) → array-end-lts.Need-loop-again (
@@ -238,7 +243,7 @@ array-end-loop-again : (t : ℕ) → array-end-lts.Need-loop-again (
   settle-reads.Asked,
   settle-reads.Learnt,
 ) (array-end-at t) array-end.Post array-end-Inv-loop array-end-μ-loop
-array-end-loop-again t c = held-more (c .before .k .given .1) (inside-held (c .before .before .before .before .before .before .before .before .loop .inv) (reads-as-placed (c .before .before .before .before .before .value-end .result) _ (omega arith) (reads-white (c .before .before .before .before .before .before .before .token-at2 .ensures .end) (c .before .before .before .before .before .value-end .ensures)))) (c .before .before .before .next-value .ensures)
+array-end-loop-again t c = held-more (c .before .k .given .1) (inside-held (c .before .before .before .before .before .before .before .before .loop .inv) (reads-as-placed (c .before .before .before .before .before .value-end .result) _ (omega arith) (reads-white (token-told _ _ (c .before .before .before .before .before .before .before .token-at2 .ensures) .end) (c .before .before .before .before .before .value-end .ensures)))) (c .before .before .before .next-value .ensures)
 
 array-end-enum-known-k-2 : (t : ℕ) → array-end-lts.Need-enum-known-k-2 (
   token-at-reads.Asked,
@@ -262,8 +267,8 @@ array-end-returns-4 : (t : ℕ) → array-end-lts.Need-returns-4 (
   settle-reads.Asked,
   settle-reads.Learnt,
 ) (array-end-at t) array-end.Post array-end-Inv-loop array-end-μ-loop
-array-end-returns-4 t c = let far = closed-further (c .before .k2 .given .1) (c .before .before .before .next-value .ensures) in
-    opened-place (omega arith) _ _ (omega (arith, far)) (held-closed (c .before .k2 .given .1) (inside-held (c .before .before .before .before .before .before .before .before .loop .inv) (reads-as-placed (c .before .before .before .before .before .value-end .result) _ (omega arith) (reads-white (c .before .before .before .before .before .before .before .token-at2 .ensures .end) (c .before .before .before .before .before .value-end .ensures)))) (c .before .before .before .next-value .ensures))
+array-end-returns-4 t c = let far = closed-further _ _ _ (c .before .before .before .next-value .ensures) (c .before .k2 .given .1) in
+    opened-place (omega arith) _ _ (omega (arith, far)) (held-closed (c .before .k2 .given .1) (inside-held (c .before .before .before .before .before .before .before .before .loop .inv) (reads-as-placed (c .before .before .before .before .before .value-end .result) _ (omega arith) (reads-white (token-told _ _ (c .before .before .before .before .before .before .before .token-at2 .ensures) .end) (c .before .before .before .before .before .value-end .ensures)))) (c .before .before .before .next-value .ensures))
 
 array-end-enum-known-k-3 : (t : ℕ) → array-end-lts.Need-enum-known-k-3 (
   token-at-reads.Asked,
@@ -299,7 +304,7 @@ array-end-returns-5 : (t : ℕ) → array-end-lts.Need-returns-5 (
   settle-reads.Asked,
   settle-reads.Learnt,
 ) (array-end-at t) array-end.Post array-end-Inv-loop array-end-μ-loop
-array-end-returns-5 t c = opened-stop (omega arith) _ _ _ (c .settle .ensures .0) (c .settle .ensures .1) (held-neither (c .before .before .before .k3 .given .1) (inside-held (c .before .before .before .before .before .before .before .before .before .before .loop .inv) (reads-as-placed (c .before .before .before .before .before .before .before .value-end .result) _ (omega arith) (reads-white (c .before .before .before .before .before .before .before .before .before .token-at2 .ensures .end) (c .before .before .before .before .before .before .before .value-end .ensures)))) (c .before .before .before .before .before .next-value .ensures))
+array-end-returns-5 t c = opened-stop (omega arith) _ _ _ (c .settle .ensures .0) (c .settle .ensures .1) (held-neither (c .before .before .before .k3 .given .1) (inside-held (c .before .before .before .before .before .before .before .before .before .before .loop .inv) (reads-as-placed (c .before .before .before .before .before .before .before .value-end .result) _ (omega arith) (reads-white (token-told _ _ (c .before .before .before .before .before .before .before .before .before .token-at2 .ensures) .end) (c .before .before .before .before .before .before .before .value-end .ensures)))) (c .before .before .before .before .before .next-value .ensures))
 
 abbrev object-end-Inv-loop : object-end-lts.InvT-loop
 object-end-Inv-loop bytes at room place₀ i₀ place i = Inside bytes (room - 1) (at + 1) inObject i
@@ -361,7 +366,7 @@ object-end-add-result : (t : ℕ) → object-end-lts.Need-add-result (
   settle-reads.Asked,
   settle-reads.Learnt,
 ) (object-end-at t) object-end.Post object-end-Inv-loop object-end-μ-loop
-object-end-add-result t c = let l = token-there (c .before .before .token-at .ensures) (λ e. omega arith) in
+object-end-add-result t c = let l = token-there (token-told _ _ (c .before .before .token-at .ensures)) (λ e. omega arith) in
     omega (arith, l)
 
 object-end-returns-2 : (t : ℕ) → object-end-lts.Need-returns-2 (
@@ -376,7 +381,7 @@ object-end-returns-2 : (t : ℕ) → object-end-lts.Need-returns-2 (
   settle-reads.Asked,
   settle-reads.Learnt,
 ) (object-end-at t) object-end.Post object-end-Inv-loop object-end-μ-loop
-object-end-returns-2 t c = opened-place (omega arith) _ _ (omega (arith, token-further (c .before .before .token-at .ensures))) (nest-closed _ inObject (c .before .before .token-at .ensures) (omega arith))
+object-end-returns-2 t c = opened-place (omega arith) _ _ (omega (arith, token-further (token-told _ _ (c .before .before .token-at .ensures)))) (nest-closed _ inObject (token-told _ _ (c .before .before .token-at .ensures)) (omega arith))
 
 object-end-loop-holds : (t : ℕ) → object-end-lts.Need-loop-holds (
   token-at-reads.Asked,
@@ -390,7 +395,7 @@ object-end-loop-holds : (t : ℕ) → object-end-lts.Need-loop-holds (
   settle-reads.Asked,
   settle-reads.Learnt,
 ) (object-end-at t) object-end.Post object-end-Inv-loop object-end-μ-loop
-object-end-loop-holds t c = inside-first _ inObject (c .before .before .token-at .ensures) (λ e. omega arith)
+object-end-loop-holds t c = inside-first _ inObject (token-told _ _ (c .before .before .token-at .ensures)) (λ e. omega arith)
 
 object-end-name-end-requires : (t : ℕ) → object-end-lts.Need-name-end-requires (
   token-at-reads.Asked,
@@ -418,7 +423,7 @@ object-end-returns-3 : (t : ℕ) → object-end-lts.Need-returns-3 (
   settle-reads.Asked,
   settle-reads.Learnt,
 ) (object-end-at t) object-end.Post object-end-Inv-loop object-end-μ-loop
-object-end-returns-3 t c = opened-stop (omega arith) _ _ _ refl refl (inside-failed (Stopped _) tt (c .before .before .before .loop .inv) (token-stops (c .before .name-end .result) _ (omega arith) (c .before .name-end .ensures .0 (c .before .before .before .before .before .before .before .before .before .args .room - 1))))
+object-end-returns-3 t c = opened-stop (omega arith) _ _ _ refl refl (inside-failed (Stopped _) tt (c .before .before .before .loop .inv) (name-stops _ _ _ _ _ (c .before .name-end .ensures) (omega arith) (c .before .before .before .before .before .before .before .before .before .args .room - 1)))
 
 object-end-token-at-requires-2 : (t : ℕ) → object-end-lts.Need-token-at-requires-2 (
   token-at-reads.Asked,
@@ -460,9 +465,9 @@ object-end-value-end-requires : (t : ℕ) → object-end-lts.Need-value-end-requ
   settle-reads.Asked,
   settle-reads.Learnt,
 ) (object-end-at t) object-end.Post object-end-Inv-loop object-end-μ-loop
-object-end-value-end-requires t c κs = let tok = c .before .token-at2 .ensures in
+object-end-value-end-requires t c κs = let tok = token-told _ _ (c .before .token-at2 .ensures) in
     let n = c .before .before .before .name-end in
-    let far = takes-placed (n .result) _ (omega arith) (n .ensures .1 .0) in
+    let far = name-further _ _ _ _ _ (n .ensures) (omega arith) in
     (omega (arith, c .before .before .before .before .before .before .before .before .before .before .before .pre .0), (omega (arith, c .before .before .before .before .before .loop .inv .onward, far, token-further tok), record { there = tok .there; dark = token-dark tok }))
 
 object-end-returns-4 : (t : ℕ) → object-end-lts.Need-returns-4 (
@@ -477,7 +482,7 @@ object-end-returns-4 : (t : ℕ) → object-end-lts.Need-returns-4 (
   settle-reads.Asked,
   settle-reads.Learnt,
 ) (object-end-at t) object-end.Post object-end-Inv-loop object-end-μ-loop
-object-end-returns-4 t c = opened-nest (omega arith) (inside-failed (valueBy (c .before .value-end .result) _) (value-fails (c .before .value-end .result) _ (omega arith)) (c .before .before .before .before .before .before .before .loop .inv) (reads-then (reads-placed (c .before .before .before .before .before .name-end .result) _ (omega arith) (c .before .before .before .before .before .name-end .ensures .0 (c .before .before .before .before .before .before .before .before .before .before .before .before .before .args .room - 1))) (reads-white (c .before .before .before .token-at2 .ensures .end) (c .before .value-end .ensures))))
+object-end-returns-4 t c = opened-nest (omega arith) (inside-failed (valueBy (c .before .value-end .result) _) (value-fails (c .before .value-end .result) _ (omega arith)) (c .before .before .before .before .before .before .before .loop .inv) (reads-then (name-placed _ _ _ _ _ (c .before .before .before .before .before .name-end .ensures) (omega arith) (c .before .before .before .before .before .before .before .before .before .before .before .before .before .args .room - 1)) (reads-white (token-told _ _ (c .before .before .before .token-at2 .ensures) .end) (c .before .value-end .ensures))))
 
 object-end-next-value-requires : (t : ℕ) → object-end-lts.Need-next-value-requires (
   token-at-reads.Asked,
@@ -519,8 +524,8 @@ object-end-loop-less : (t : ℕ) → object-end-lts.Need-loop-less (
   settle-reads.Asked,
   settle-reads.Learnt,
 ) (object-end-at t) object-end.Post object-end-Inv-loop object-end-μ-loop
-object-end-loop-less t c = let m = more-further (c .before .k .given .1) (c .before .before .before .next-value .ensures) in
-    let on = reads-as-placed (c .before .before .before .before .before .value-end .result) _ (omega arith) (reads-then (reads-placed (c .before .before .before .before .before .before .before .before .before .name-end .result) _ (omega arith) (c .before .before .before .before .before .before .before .before .before .name-end .ensures .0 (c .before .before .before .before .before .before .before .before .before .before .before .before .before .before .before .before .before .args .room - 1))) (reads-white (c .before .before .before .before .before .before .before .token-at2 .ensures .end) (c .before .before .before .before .before .value-end .ensures))) .onward in
+object-end-loop-less t c = let m = more-further _ _ _ (c .before .before .before .next-value .ensures) (c .before .k .given .1) in
+    let on = reads-as-placed (c .before .before .before .before .before .value-end .result) _ (omega arith) (reads-then (name-placed _ _ _ _ _ (c .before .before .before .before .before .before .before .before .before .name-end .ensures) (omega arith) (c .before .before .before .before .before .before .before .before .before .before .before .before .before .before .before .before .before .args .room - 1)) (reads-white (token-told _ _ (c .before .before .before .before .before .before .before .token-at2 .ensures) .end) (c .before .before .before .before .before .value-end .ensures))) .onward in
     omega (arith, m .0, m .1, on)
 
 object-end-loop-again : (t : ℕ) → object-end-lts.Need-loop-again (
@@ -535,7 +540,7 @@ object-end-loop-again : (t : ℕ) → object-end-lts.Need-loop-again (
   settle-reads.Asked,
   settle-reads.Learnt,
 ) (object-end-at t) object-end.Post object-end-Inv-loop object-end-μ-loop
-object-end-loop-again t c = held-more (c .before .k .given .1) (inside-held (c .before .before .before .before .before .before .before .before .before .before .before .loop .inv) (reads-as-placed (c .before .before .before .before .before .value-end .result) _ (omega arith) (reads-then (reads-placed (c .before .before .before .before .before .before .before .before .before .name-end .result) _ (omega arith) (c .before .before .before .before .before .before .before .before .before .name-end .ensures .0 (c .before .before .before .before .before .before .before .before .before .before .before .before .before .before .before .before .before .args .room - 1))) (reads-white (c .before .before .before .before .before .before .before .token-at2 .ensures .end) (c .before .before .before .before .before .value-end .ensures))))) (c .before .before .before .next-value .ensures)
+object-end-loop-again t c = held-more (c .before .k .given .1) (inside-held (c .before .before .before .before .before .before .before .before .before .before .before .loop .inv) (reads-as-placed (c .before .before .before .before .before .value-end .result) _ (omega arith) (reads-then (name-placed _ _ _ _ _ (c .before .before .before .before .before .before .before .before .before .name-end .ensures) (omega arith) (c .before .before .before .before .before .before .before .before .before .before .before .before .before .before .before .before .before .args .room - 1)) (reads-white (token-told _ _ (c .before .before .before .before .before .before .before .token-at2 .ensures) .end) (c .before .before .before .before .before .value-end .ensures))))) (c .before .before .before .next-value .ensures)
 
 object-end-enum-known-k-2 : (t : ℕ) → object-end-lts.Need-enum-known-k-2 (
   token-at-reads.Asked,
@@ -563,8 +568,8 @@ object-end-returns-5 : (t : ℕ) → object-end-lts.Need-returns-5 (
   settle-reads.Asked,
   settle-reads.Learnt,
 ) (object-end-at t) object-end.Post object-end-Inv-loop object-end-μ-loop
-object-end-returns-5 t c = let far = closed-further (c .before .k2 .given .1) (c .before .before .before .next-value .ensures) in
-    opened-place (omega arith) _ _ (omega (arith, far)) (held-closed (c .before .k2 .given .1) (inside-held (c .before .before .before .before .before .before .before .before .before .before .before .loop .inv) (reads-as-placed (c .before .before .before .before .before .value-end .result) _ (omega arith) (reads-then (reads-placed (c .before .before .before .before .before .before .before .before .before .name-end .result) _ (omega arith) (c .before .before .before .before .before .before .before .before .before .name-end .ensures .0 (c .before .before .before .before .before .before .before .before .before .before .before .before .before .before .before .before .before .args .room - 1))) (reads-white (c .before .before .before .before .before .before .before .token-at2 .ensures .end) (c .before .before .before .before .before .value-end .ensures))))) (c .before .before .before .next-value .ensures))
+object-end-returns-5 t c = let far = closed-further _ _ _ (c .before .before .before .next-value .ensures) (c .before .k2 .given .1) in
+    opened-place (omega arith) _ _ (omega (arith, far)) (held-closed (c .before .k2 .given .1) (inside-held (c .before .before .before .before .before .before .before .before .before .before .before .loop .inv) (reads-as-placed (c .before .before .before .before .before .value-end .result) _ (omega arith) (reads-then (name-placed _ _ _ _ _ (c .before .before .before .before .before .before .before .before .before .name-end .ensures) (omega arith) (c .before .before .before .before .before .before .before .before .before .before .before .before .before .before .before .before .before .args .room - 1)) (reads-white (token-told _ _ (c .before .before .before .before .before .before .before .token-at2 .ensures) .end) (c .before .before .before .before .before .value-end .ensures))))) (c .before .before .before .next-value .ensures))
 
 object-end-enum-known-k-3 : (t : ℕ) → object-end-lts.Need-enum-known-k-3 (
   token-at-reads.Asked,
@@ -606,7 +611,7 @@ object-end-returns-6 : (t : ℕ) → object-end-lts.Need-returns-6 (
   settle-reads.Asked,
   settle-reads.Learnt,
 ) (object-end-at t) object-end.Post object-end-Inv-loop object-end-μ-loop
-object-end-returns-6 t c = opened-stop (omega arith) _ _ _ (c .settle .ensures .0) (c .settle .ensures .1) (held-neither (c .before .before .before .k3 .given .1) (inside-held (c .before .before .before .before .before .before .before .before .before .before .before .before .before .loop .inv) (reads-as-placed (c .before .before .before .before .before .before .before .value-end .result) _ (omega arith) (reads-then (reads-placed (c .before .before .before .before .before .before .before .before .before .before .before .name-end .result) _ (omega arith) (c .before .before .before .before .before .before .before .before .before .before .before .name-end .ensures .0 (c .before .before .before .before .before .before .before .before .before .before .before .before .before .before .before .before .before .before .before .args .room - 1))) (reads-white (c .before .before .before .before .before .before .before .before .before .token-at2 .ensures .end) (c .before .before .before .before .before .before .before .value-end .ensures))))) (c .before .before .before .before .before .next-value .ensures))
+object-end-returns-6 t c = opened-stop (omega arith) _ _ _ (c .settle .ensures .0) (c .settle .ensures .1) (held-neither (c .before .before .before .k3 .given .1) (inside-held (c .before .before .before .before .before .before .before .before .before .before .before .before .before .loop .inv) (reads-as-placed (c .before .before .before .before .before .before .before .value-end .result) _ (omega arith) (reads-then (name-placed _ _ _ _ _ (c .before .before .before .before .before .before .before .before .before .before .before .name-end .ensures) (omega arith) (c .before .before .before .before .before .before .before .before .before .before .before .before .before .before .before .before .before .before .before .args .room - 1)) (reads-white (token-told _ _ (c .before .before .before .before .before .before .before .before .before .token-at2 .ensures) .end) (c .before .before .before .before .before .before .before .value-end .ensures))))) (c .before .before .before .before .before .next-value .ensures))
 
 value-end-add-text-end : (t : ℕ) → value-end-lts.Need-add-text-end (
   text-end-reads.Asked,
@@ -643,8 +648,11 @@ value-end-returns : (t : ℕ) → value-end-lts.Need-returns (
   scalar-end-reads.Asked,
   scalar-end-reads.Learnt,
 ) (value-end-at t) value-end.Post
-value-end-returns t c = reads-far _ _ (c .before .before .before .before .pre .1 .0)
-    (reads-more (text behind) (inside (c .before .before .before .before .args .bytes .now) (c .before .before .before .before .args .at) (λ z. omega (arith, c .before .before .before .before .pre .1 .1 .there, z))) (λ around. begins-text around _ (omega (arith, c .before .before .before .before .pre .1 .1 .there))) (c .text-end .ensures .0 behind (c .before .before .before .before .args .room)))
+value-end-returns t c = let start = c .before .before .before .before in
+    let bytes = start .args .bytes .now in
+    let from = start .args .at + 1 in
+    reads-value (textEnd from (drop from bytes)) _ _ _ (takes-more from (came (textEnd from (drop from bytes))) (omega (arith, start .pre .1 .0)) (text-takes bytes from)) (c .text-end .ensures)
+    (reads-more (text behind) (inside bytes (start .args .at) (λ z. omega (arith, start .pre .1 .1 .there, z))) (λ around. begins-text around _ (omega (arith, start .pre .1 .1 .there))) (text-reads bytes from behind (start .args .room)))
 
 value-end-object-end-requires : (t : ℕ) → value-end-lts.Need-object-end-requires (
   text-end-reads.Asked,
@@ -716,9 +724,12 @@ value-end-returns-4 : (t : ℕ) → value-end-lts.Need-returns-4 (
   scalar-end-reads.Asked,
   scalar-end-reads.Learnt,
 ) (value-end-at t) value-end.Post
-value-end-returns-4 t c = let stands = c .before .before .before .before .before .before .pre .1 .1 in
-    reads-far _ _ (c .before .before .before .before .before .before .pre .1 .0)
-    (c .scalar-end .ensures .0 .reads (λ l. record { dark = ap isWhite (sym (stands .there)) ∙ stands .dark l; no-string = λ e. omega (arith, stands .there, e); no-object = λ e. omega (arith, stands .there, e); no-array = λ e. omega (arith, stands .there, e) }) (c .before .before .before .before .before .before .args .room))
+value-end-returns-4 t c = let start = c .before .before .before .before .before .before in
+    let bytes = start .args .bytes .now in
+    let at = start .args .at in
+    let stands = start .pre .1 .1 in
+    reads-value (scalarEnd at (drop at bytes)) _ _ _ (takes-more at (came (scalarEnd at (drop at bytes))) (omega (arith, start .pre .1 .0)) (scalar-takes bytes at)) (c .scalar-end .ensures)
+    (scalar-reads bytes at (λ l. record { dark = ap isWhite (sym (stands .there)) ∙ stands .dark l; no-string = λ e. omega (arith, stands .there, e); no-object = λ e. omega (arith, stands .there, e); no-array = λ e. omega (arith, stands .there, e) }) (start .args .room))
 
 pub +array-end+object-end+value-end-spec : {M : Type 1} → statement M
 +array-end+object-end+value-end-spec =

@@ -1,15 +1,16 @@
 -- `json_number::exponent_end` meets its contract.
-use mathlib.Core.Path.{refl, sym, _∙_}
-use native.Mathlib.Omega.{arith}
-use Rattle.json_scan.specs.Scan.{number, sign}
-use Rattle.json_scan.proofs.Reading.{reads-more, reads-over, reads-alike}
-use Rattle.json_number.proofs.Steps.{exponent-sign, exponent-bare}
 use borrow.Author.Needs.{needs}
+use mathlib.Core.Path.{refl, sym, _∙_}
+use mathlib.Core.List.{[]}
+use native.Mathlib.Omega.{arith}
+use Rattle.json_scan.specs.Scan.{exponent, sign}
+use Rattle.json_number.proofs.Steps.{exponent-sign, exponent-bare}
+use Rattle.json_number.proofs.Figures.{number-on, number-stuck, number-alike}
 use Rattle.json_number.proofs.exponent_end.Statement.{statement}
 use Rattle.json_number.proofs.exponent_end.Tie as tie
 
 returns : tie.Need-returns
-returns c = λ room. reads-over (omega arith) refl
+returns c = sym (number-stuck exponent _ _ (λ l. absurd (omega (arith, l))))
 
 shared-slice-read-is-sign : tie.Need-shared-slice-read-is-sign
 shared-slice-read-is-sign c = search needs
@@ -24,13 +25,13 @@ power-end-requires : tie.Need-power-end-requires
 power-end-requires c κs = search needs
 
 returns-2 : tie.Need-returns-2
-returns-2 c = λ room. reads-more (number sign) (omega arith) (λ around. exponent-sign around _ (sym (c .before .before .is-sign .ensures) ∙ c .before .if2 .taken)) (c .power-end .ensures room)
+returns-2 c = c .power-end .ensures ∙ sym (number-on exponent _ _ sign (omega arith) (exponent-sign [] _ (sym (c .before .before .is-sign .ensures) ∙ c .before .if2 .taken)))
 
 power-end-requires-2 : tie.Need-power-end-requires-2
 power-end-requires-2 c κs = search needs
 
 returns-3 : tie.Need-returns-3
-returns-3 c = λ room. reads-alike (number sign) refl (λ l around. exponent-bare around _ (sym (c .before .before .is-sign .ensures) ∙ c .before .if2 .left)) (c .power-end2 .ensures room)
+returns-3 c = c .power-end2 .ensures ∙ sym (number-alike exponent sign _ _ refl (λ l. exponent-bare [] _ (sym (c .before .before .is-sign .ensures) ∙ c .before .if2 .left)))
 
 pub exponent-end-spec : {M : Type 1} → statement M
 exponent-end-spec =

@@ -8,7 +8,8 @@ use borrow.Author.Tests.{not-true, not-false}
 use lib.ListN.{length}
 use Rattle.bytes_number.specs.Number.{Bytes}
 use Rattle.bytes_number.proofs.Numbers.{bytes-of}
-use Rattle.json_scan.proofs.Leading.{endOf, end-more, end-here, end-over}
+use Rattle.json_scan.specs.WorkingEnds.{endOf}
+use Rattle.json_scan.proofs.Leading.{end-more, end-here, end-over}
 use Rattle.json_plain.specs.WorkingPlain.{isPlain}
 use Rattle.json_plain.proofs.Passing.{Told, told}
 use Rattle.json_plain.proofs.plain_end.Statement.{statement}

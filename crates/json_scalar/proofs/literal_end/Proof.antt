@@ -55,7 +55,7 @@ loop-again c = passed-more (left (c .before .before .before .before)) (omega ari
 returns-3 : tie.Need-returns-3 Inv-loop μ-loop
 returns-3 c = let start = c .before .before in
     let over : length (start .args .word .now) ≤ c .before .loop .j = omega arith in
-    passed-all (subst (λ (ks : List Class). Passed (start .args .bytes .now) (start .args .at) (spelling (start .args .word .now)) (c .before .loop .i) ks) (ap spelling (drop-of-length-le (start .args .word .now) over)) (c .before .loop .inv))
+    passed-all (subst (λ (ks : List Class). Passed (start .args .bytes .now) (start .args .at) (spelling (start .args .word .now)) (c .before .loop .i) ks) (ap spelling (drop-of-length-le (start .args .word .now) over)) (c .before .loop .inv)) (omega arith)
 
 pub literal-end-spec : {M : Type 1} → statement M
 literal-end-spec =

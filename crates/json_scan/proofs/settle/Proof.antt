@@ -2,7 +2,7 @@
 use borrow.Author.Needs.{needs}
 use mathlib.Core.Path.{sym, ap}
 use Rattle.json_scan.specs.declared.Reached.{Reached}
-use Rattle.json_scan.specs.WorkingReads.{settledAs, placeLeft}
+use Rattle.json_scan.specs.WorkingEnds.{settledAs, placeLeft}
 use Rattle.json_scan.proofs.settle.Statement.{statement}
 use Rattle.json_scan.proofs.settle.Tie as tie
 

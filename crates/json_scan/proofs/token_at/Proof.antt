@@ -1,7 +1,7 @@
 -- `json_scan::token_at` meets its contract.
 use borrow.Author.Needs.{needs}
 use native.Mathlib.Omega.{arith}
-use Rattle.json_scan.proofs.White.{white-above}
+use Rattle.json_scan.proofs.White.{white-above, token-is}
 use Rattle.json_scan.proofs.token_at.Statement.{statement}
 use Rattle.json_scan.proofs.token_at.Tie as tie
 
@@ -10,7 +10,8 @@ byte-at-requires c κs = search needs
 
 returns : tie.Need-returns
 returns c = let b = c .before in
-    record { end = white-above (b .before .before .args .bytes .now) (b .before .before .args .at) (omega (arith, b .byte-at .ensures)); there = b .byte-at .ensures }
+    let args = b .before .before .args in
+    token-is (args .bytes .now) (args .at) (white-above (args .bytes .now) (args .at) (omega (arith, b .byte-at .ensures))) (b .byte-at .ensures)
 
 white-end-requires : tie.Need-white-end-requires
 white-end-requires c κs = search needs
@@ -19,7 +20,9 @@ byte-at-requires-2 : tie.Need-byte-at-requires-2
 byte-at-requires-2 c κs = search needs
 
 returns-2 : tie.Need-returns-2
-returns-2 c = search needs
+returns-2 c = let w = c .before in
+    let args = w .before .before .before .before .args in
+    token-is (args .bytes .now) (args .at) (w .white-end .ensures) (c .byte-at2 .ensures)
 
 pub token-at-spec : {M : Type 1} → statement M
 token-at-spec =

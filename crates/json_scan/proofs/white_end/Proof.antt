@@ -5,7 +5,8 @@ use native.Mathlib.Omega.{arith}
 use borrow.Author.Tests.{not-true, not-false}
 use lib.ListN.{length}
 use Rattle.json_scan.specs.Scan.{isWhite}
-use Rattle.json_scan.proofs.Leading.{endOf, end-more, end-here, end-over}
+use Rattle.json_scan.specs.WorkingEnds.{endOf}
+use Rattle.json_scan.proofs.Leading.{end-more, end-here, end-over}
 use Rattle.json_scan.proofs.white_end.Statement.{statement}
 use Rattle.json_scan.proofs.white_end.Tie as tie
 

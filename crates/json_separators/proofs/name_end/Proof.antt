@@ -1,37 +1,50 @@
 -- `json_separators::name_end` meets its contract.
 use borrow.Author.Needs.{needs}
-use mathlib.Core.Path.{refl}
-use Prim.Native.Nat.{ℕ, _<_}
+use mathlib.Core.Path.{_≡_, refl, _∙_}
+use mathlib.Core.List.{List}
+use Prim.Native.Nat.{ℕ, _+_, _<_}
 use native.Mathlib.Omega.{arith}
-use Rattle.json_scan.specs.Scan.{name, colon, between, text}
-use Rattle.json_scan.specs.WorkingReads.{Behind, tokenBy, ReadsOn}
-use Rattle.json_scan.proofs.Reading.{reads-none, reads-then}
-use Rattle.json_scan.proofs.Settled.{reads-stopped, reads-place, reads-placed, reads-zero, takes-place, takes-none}
-use Rattle.json_scan.proofs.White.{token-further, token-there, token-on, token-stuck}
-use Rattle.json_separators.proofs.Steps.{name-begins, no-name, colon-stands, no-colon}
+use lib.ListN.{drop}
+use Rattle.json_scan.specs.declared.Reached.{Reached}
+use Rattle.json_scan.specs.declared.Reached.the-variants.{Behind, Stopped}
+use Rattle.json_scan.specs.WorkingEnds.{followed}
+use Rattle.json_scan.specs.WorkingReads.{came}
+use Rattle.json_scan.proofs.Reading.{takes-more}
+use Rattle.json_scan.proofs.Settled.{settled-place, settled-stop, settled-as}
+use Rattle.json_scan.proofs.White.{token-told, token-there}
+use Rattle.json_string.specs.WorkingText.{textEnd}
+use Rattle.json_string.proofs.Texts.{text-takes}
+use Rattle.json_separators.specs.WorkingSeparators.{markEnd, nameEnd}
+use Rattle.json_separators.proofs.Names.{mark-stands, mark-missing, name-unmarked, name-marked}
 use Rattle.json_separators.proofs.name_end.Statement.{statement}
 use Rattle.json_separators.proofs.name_end.Tie as tie
 
--- behind the name, however its reader ended
-named :
-    (c : tie.After-text-end) → let args = c .before .before .before .before .before .before .args in
-    (room : ℕ) → ReadsOn (args .bytes .now) room (args .at) (between name) (between colon) (tokenBy (c .text-end .result) (c .text-end .last .1 .1 .0))
-named c room = token-on (c .before .before .before .before .token-at .ensures) (text colon) (λ e. omega arith) (λ around. name-begins around _ (omega arith)) (c .text-end .ensures .0 colon room)
+-- behind the mark of the name
+module _ (c : tie.After-text-end) where
+  abbrev t : tie.After-token-at
+  t = c .before .before .before .before
 
--- behind a whole one, at the mark that comes next
-module _ (c : tie.After-token-at2) where
-  abbrev n : tie.After-text-end
-  n = c .before .before
+  abbrev bytes : List ℕ
+  bytes = t .before .before .args .bytes .now
 
-  told : (room : ℕ) → let args = n .before .before .before .before .before .before .args in ReadsOn (args .bytes .now) room (args .at) (between name) (between colon) (Behind (n .text-end .result))
-  told room = reads-placed (n .text-end .result) _ (omega arith) (named n room)
+  abbrev at : ℕ
+  at = t .before .before .args .at
 
-  -- a name takes its marks at least
-  further : let args = n .before .before .before .before .before .before .args in args .at < n .text-end .result
-  further =
-      let first = token-further (n .before .before .before .before .token-at .ensures) in
-      let on = reads-placed (n .text-end .result) _ (omega arith) (n .text-end .ensures .0 colon 0) .onward in
-      omega (arith, first, on)
+  abbrev from : ℕ
+  from = t .token-at .result .at + 1
+
+  abbrev place₀ : ℕ
+  place₀ = t .before .before .args .place .now
+
+  -- however its text ends
+  named : {r : Reached} → textEnd from (drop from bytes) ≡ r → nameEnd bytes at ≡ followed r (λ j. markEnd 58 bytes j)
+  named = name-marked bytes at (mark-stands 34 bytes at (t .token-at .ensures) (omega arith))
+
+  stopped : c .text-end .result ≡ 0 → textEnd from (drop from bytes) ≡ Stopped (c .text-end .last .1 .1 .0)
+  stopped z = settled-stop _ (c .text-end .result) place₀ _ (takes-more from (came (textEnd from (drop from bytes))) (omega arith) (text-takes bytes from)) (c .text-end .ensures) z
+
+  whole : 0 < c .text-end .result → (textEnd from (drop from bytes) ≡ Behind (c .text-end .result)) × (c .text-end .last .1 .1 .0 ≡ place₀)
+  whole l = settled-place _ (c .text-end .result) place₀ _ (c .text-end .ensures) l
 
 token-at-requires : tie.Need-token-at-requires
 token-at-requires c κs = search needs
@@ -40,20 +53,20 @@ settle-requires : tie.Need-settle-requires
 settle-requires c κs = search needs
 
 returns : tie.Need-returns
-returns c = let t = c .before .before .before .before in (
-  λ room. reads-stopped _ _ _ (c .settle .ensures .0) (c .settle .ensures .1) (token-stuck (t .token-at .ensures) (λ dark around. no-name around _ dark (λ e. omega arith))),
-  (takes-none _ _ _ (c .settle .ensures .0), λ f. absurd (f (c .settle .ensures .0))),
-)
+returns c = let t = c .before .before .before .before in
+    let args = t .before .before .args in
+    settled-as (args .place .now) _ (name-unmarked (args .bytes .now) (args .at) (mark-missing 34 (args .bytes .now) (args .at) (t .token-at .ensures) (λ e. omega arith))) (c .settle .ensures)
 
 add-text-end : tie.Need-add-text-end
-add-text-end c = let l = token-there (c .before .before .token-at .ensures) (λ e. omega arith) in
+add-text-end c = let l = token-there (token-told _ _ (c .before .before .token-at .ensures)) (λ e. omega arith) in
     omega (arith, l)
 
 text-end-requires : tie.Need-text-end-requires
 text-end-requires c κs = search needs
 
 returns-2 : tie.Need-returns-2
-returns-2 c = (λ room. reads-zero (c .before .text-end .result) _ (omega arith) (named (c .before) room), (takes-none _ _ _ refl, λ f. absurd (f refl)))
+returns-2 c = let n = c .before in
+    settled-as (place₀ n) _ (named n (stopped n (omega arith))) (refl, refl)
 
 token-at-requires-2 : tie.Need-token-at-requires-2
 token-at-requires-2 c κs = search needs
@@ -62,20 +75,19 @@ settle-requires-2 : tie.Need-settle-requires-2
 settle-requires-2 c κs = search needs
 
 returns-3 : tie.Need-returns-3
-returns-3 c = let t = c .before .before .before .before in (
-  λ room. reads-stopped _ _ _ (c .settle2 .ensures .0) (c .settle2 .ensures .1) (reads-then (told t room) (token-stuck (t .token-at2 .ensures) (λ dark around. no-colon around _ dark (λ e. omega arith)))),
-  (takes-none _ _ _ (c .settle2 .ensures .0), λ f. absurd (f (c .settle2 .ensures .0))),
-)
+returns-3 c = let m = c .before .before .before .before in
+    let n = m .before .before in
+    settled-as (place₀ n) _ (named n (whole n (omega arith) .0) ∙ mark-missing 58 (bytes n) (n .text-end .result) (m .token-at2 .ensures) (λ e. omega arith)) (c .settle2 .ensures)
 
 add-result : tie.Need-add-result
-add-result c = let l = token-there (c .before .before .token-at2 .ensures) (λ e. omega arith) in
+add-result c = let l = token-there (token-told _ _ (c .before .before .token-at2 .ensures)) (λ e. omega arith) in
     omega (arith, l)
 
 returns-4 : tie.Need-returns-4
-returns-4 c = let t = c .before .before in (
-  λ room. reads-place _ _ (omega arith) (reads-then (told t room) (token-on (t .token-at2 .ensures) _ (λ e. omega arith) (λ around. colon-stands around _ (omega arith)) reads-none)),
-  (takes-place _ _ (omega (arith, further t, token-further (t .token-at2 .ensures))), λ f. n t .text-end .ensures .1 (λ e. omega (arith, e))),
-)
+returns-4 c = let m = c .before .before in
+    let n = m .before .before in
+    let text = whole n (omega arith) in
+    settled-as (place₀ n) _ (named n (text .0) ∙ mark-stands 58 (bytes n) (n .text-end .result) (m .token-at2 .ensures) (omega arith)) (omega arith, text .1)
 
 pub name-end-spec : {M : Type 1} → statement M
 name-end-spec =

@@ -51,7 +51,7 @@ loop-again c = let in-loop = c .before .before .before .before in
     passed-more (left in-loop) (omega arith) (hex-holds _ ∙ sym (c .before .is-hex .ensures) ∙ not-false (c .before .is-hex .result) (c .if2 .left))
 
 returns-3 : tie.Need-returns-3 Inv-loop μ-loop
-returns-3 c = no-more hex (c .before .loop .left) (omega arith) (c .before .loop .inv)
+returns-3 c = no-more hex (c .before .loop .left) (omega arith) (c .before .loop .inv) (omega arith)
 
 pub hex-end-spec : {M : Type 1} → statement M
 hex-end-spec =

@@ -1,5 +1,5 @@
 -- `json_utf8::second_end` meets its contract.
-use mathlib.Core.Path.{_≡_, ap, _∙_}
+use mathlib.Core.Path.{_≡_, sym, ap, _∙_}
 use Prim.Native.Nat.{_+_, _<_}
 use native.Mathlib.Omega.{arith}
 use borrow.Author.Needs.{needs}
@@ -7,7 +7,6 @@ use borrow.Author.Tests.{not-true, not-false}
 use mathlib.Core.List.{_∷_}
 use lib.ListN.{length, getD, replicate}
 use Rattle.json_scan.specs.Scan.{isWithin, holds, tail, secondOf}
-use Rattle.json_scan.proofs.Reading.{reads-then}
 use Rattle.json_scan.proofs.Rest.{Passed, passed-none, passed-held, passed-stuck}
 use Rattle.json_utf8.proofs.Leads.{second-tested, second-no-zero}
 use Rattle.json_utf8.proofs.second_end.Statement.{statement}
@@ -51,7 +50,7 @@ tails-end-requires : tie.Need-tails-end-requires
 tails-end-requires c κs = search needs
 
 returns-2 : tie.Need-returns-2
-returns-2 c = λ next room. reads-then (further (c .before) .1 .reads next room) (c .tails-end .ensures next room)
+returns-2 c = c .tails-end .ensures ∙ sym (further (c .before) .1 .same)
 
 pub second-end-spec : {M : Type 1} → statement M
 second-end-spec =

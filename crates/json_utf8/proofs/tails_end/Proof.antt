@@ -60,7 +60,7 @@ loop-again : tie.Need-loop-again Inv-loop μ-loop
 loop-again c = further c .1
 
 returns-2 : tie.Need-returns-2 Inv-loop μ-loop
-returns-2 c = no-more tail (c .before .loop .left) (omega arith) (c .before .loop .inv)
+returns-2 c = no-more tail (c .before .loop .left) (omega arith) (c .before .loop .inv) (omega arith)
 
 pub tails-end-spec : {M : Type 1} → statement M
 tails-end-spec =
