@@ -21,7 +21,7 @@ pub fn check_json(payload: &[u8], row: &mut [u8]) -> u32
     if row.len() < JSON_RECORD {
         return refusal::number(Refusal::OutputShort);
     }
-    match json_check::judge(payload) {
+    match json_check::check_payload(payload) {
         Verdict::Json => {
             bytes_number::put_row(row, &[1, 0]);
             0

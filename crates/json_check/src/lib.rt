@@ -129,7 +129,7 @@ fn payload_end(bytes: &[u8], at: usize) -> Verdict
 }
 
 // Whether a payload is JSON, and if not, at which byte that shows.
-pub fn judge(bytes: &[u8]) -> Verdict
+pub fn check_payload(bytes: &[u8]) -> Verdict
     ensures { λ r. ⌜ r ≡ verdictOf (now (bytes .entry)) ⌝ }
 {
     let i = white_end(bytes, 0);

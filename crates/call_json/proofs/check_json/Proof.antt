@@ -17,8 +17,8 @@ number-requires c κs = search needs
 returns : tie.Need-returns
 returns c = json-short (omega (arith, c .before .if1 .taken)) (c .number .ensures)
 
-judge-requires : tie.Need-judge-requires
-judge-requires c κs = search needs
+check-payload-requires : tie.Need-check-payload-requires
+check-payload-requires c κs = search needs
 
 enum-told : tie.Need-enum-told
 enum-told c = search needs
@@ -60,14 +60,14 @@ same-length : tie.Need-same-length
 same-length c = search needs
 
 returns-2 : tie.Need-returns-2
-returns-2 c = json-told Json (omega arith) (sym (c .before .before .before .before .before .enum-told .given .1) ∙ c .before .before .before .before .before .before .before .judge .ensures) refl (c .before .before .put-row .ensures)
+returns-2 c = json-told Json (omega arith) (sym (c .before .before .before .before .before .enum-told .given .1) ∙ c .before .before .before .before .before .before .before .check-payload .ensures) refl (c .before .before .put-row .ensures)
 
 same-length-2 : tie.Need-same-length-2
 same-length-2 c = search needs
 
 returns-3 : tie.Need-returns-3
 returns-3 c = let row = c .before .before .before .before .before .before .before .before .before .before .before .before .before .args .row .now in
-    json-told (NotJson (c .before .before .before .before .before .before .before .byte .given .0 .0)) (omega arith) (sym (c .before .before .before .before .before .before .before .byte .given .1) ∙ c .before .before .before .before .before .before .before .before .before .judge .ensures) refl
+    json-told (NotJson (c .before .before .before .before .before .before .before .byte .given .0 .0)) (omega arith) (sym (c .before .before .before .before .before .before .before .byte .given .1) ∙ c .before .before .before .before .before .before .before .before .before .check-payload .ensures) refl
     (c .before .before .put-row2 .ensures ∙ ap (λ (n : ℕ). laidIfRoom (rowBytes (2 ∷ n ∷ [])) row) (c .before .before .before .before .told .ensures))
 
 same-length-3 : tie.Need-same-length-3
@@ -75,7 +75,7 @@ same-length-3 c = search needs
 
 returns-4 : tie.Need-returns-4
 returns-4 c = let row = c .before .before .before .before .before .before .before .before .before .before .before .before .before .before .args .row .now in
-    json-told (TooDeep (c .before .before .before .before .before .before .before .before .byte2 .given .0 .0)) (omega arith) (sym (c .before .before .before .before .before .before .before .before .byte2 .given .1) ∙ c .before .before .before .before .before .before .before .before .before .before .judge .ensures) (c .number2 .ensures)
+    json-told (TooDeep (c .before .before .before .before .before .before .before .before .byte2 .given .0 .0)) (omega arith) (sym (c .before .before .before .before .before .before .before .before .byte2 .given .1) ∙ c .before .before .before .before .before .before .before .before .before .before .check-payload .ensures) (c .number2 .ensures)
     (c .before .before .before .put-row3 .ensures ∙ ap (λ (n : ℕ). laidIfRoom (rowBytes (0 ∷ n ∷ [])) row) (c .before .before .before .before .before .told2 .ensures))
 
 pub check-json-spec : {M : Type 1} → statement M
@@ -84,7 +84,7 @@ check-json-spec =
     (tie.spec
     number-requires
     returns
-    judge-requires
+    check-payload-requires
     enum-told
     slice-aggregate-put-row
     put-row-requires

@@ -1,4 +1,4 @@
--- `json_check::judge` meets its contract.
+-- `json_check::check_payload` meets its contract.
 use borrow.Author.Needs.{needs}
 use mathlib.Core.Path.{_≡_, sym, ap, _∙_}
 use mathlib.Core.List.{[]}
@@ -8,8 +8,8 @@ use Rattle.json_scan.specs.WorkingReads.{resumed, valueBy}
 use Rattle.json_scan.proofs.Settled.{value-place, value-stop, value-deeper}
 use Rattle.json_check.proofs.Nesting.{reads-opened}
 use Rattle.json_check.proofs.Outer.{judged-over, judged-wrong, judged-object}
-use Rattle.json_check.proofs.judge.Statement.{statement}
-use Rattle.json_check.proofs.judge.Tie as tie
+use Rattle.json_check.proofs.check_payload.Statement.{statement}
+use Rattle.json_check.proofs.check_payload.Tie as tie
 
 -- what the outer object comes to is what the payload comes to
 whole :
@@ -52,8 +52,8 @@ returns-5 c = let d = c .before .before in
     let bytes = d .before .before .before .before .before .before .before .args .bytes .now in
     ap (resumed bytes (scan depthLimit (between behind) [])) (sym (value-deeper (d .object-end .result) (d .object-end .last .1 .1 .1 .0) (omega arith))) ∙ whole d
 
-pub judge-spec : {M : Type 1} → statement M
-judge-spec =
+pub check-payload-spec : {M : Type 1} → statement M
+check-payload-spec =
     tie.close
     (tie.spec
     white-end-requires
