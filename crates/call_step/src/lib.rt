@@ -1,8 +1,6 @@
 // The calls that take a message along: one broker's step, and a whole walk. Each returns 0 or the refusal's number, and lists what came of it as a row of
 // four-byte numbers in a lent slice.
 ghost use mathlib.Core.Path.{_≡_};
-ghost use Prim.Native.Nat.{_≤_};
-ghost use lib.ListN.{length};
 ghost use Rattle.call_step_record.specs.Steps.{frameLength};
 
 pub mod steps;
@@ -13,9 +11,7 @@ const NO_USER: u32 = 4294967295;
 
 // How long the frame at the front of a buffer is, by its first eight bytes.
 fn frame_length(buffer: &[u8]) -> usize
-    requires { ⌜ 8 ≤ length (now buffer) ⌝ }
     ensures { λ r. ⌜ r ≡ frameLength (now (buffer .entry)) ⌝ }
 {
-    frame_message::FRONT
-        + bytes_number::number_of(buffer[4], buffer[5], buffer[6], buffer[7]) as usize
+    frame_message::FRONT + bytes_number::number_at(buffer, 4) as usize
 }

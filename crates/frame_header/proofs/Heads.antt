@@ -1,13 +1,12 @@
 -- The header: a law for each case of its tests.
-use mathlib.Core.Path.{_≡_, _∙_}
+use mathlib.Core.Path.{_≡_}
 use mathlib.Core.Bool.{true, false}
 use Prim.Native.Nat.{ℕ, _+_}
 use mathlib.Core.List.{List, [], _∷_, _++_, append-nil}
 use borrow.Author.Tests.{eq-eqb, ne-eqb}
-use lib.ListN.{length, getD, replicate}
+use lib.ListN.{length, getD, drop, replicate}
 use Rattle.bytes_number.specs.Number.{number, rowBytes}
 use Rattle.bytes_number.specs.Laid.{laidIfRoom}
-use Rattle.bytes_number.proofs.Numbers.{number-at}
 use Rattle.frame_message.specs.declared.Header.{Header}
 use Rattle.frame_message.specs.Header.{isKnown, headerBytes, headerIn, isHeader}
 use Rattle.frame_header.specs.declared.Head.the-variants.{Wrong, Fields}
@@ -19,9 +18,9 @@ use Rattle.frame_header.specs.WorkingHead.{headAs}
 abbrev pub NumberAt : List ℕ → ℕ → ℕ → Type 0
 NumberAt p n x = x ≡ number (getD p (n + 0) 0 ∷ getD p (n + 1) 0 ∷ getD p (n + 2) 0 ∷ getD p (n + 3) 0 ∷ [])
 
-pub fields-in : (p : List ℕ) {u r f s : ℕ} → NumberAt p 4 u → NumberAt p 8 r → NumberAt p 12 f → NumberAt p 16 s → _≡_ {A = Header} (record { kind = getD p 2 0; flags = getD p 3 0; userid = u; rolemask = r; first = f; second = s }) (headerIn p)
+pub fields-in : (p : List ℕ) {u r f s : ℕ} → u ≡ number (drop 4 p) → r ≡ number (drop 8 p) → f ≡ number (drop 12 p) → s ≡ number (drop 16 p) → _≡_ {A = Header} (record { kind = getD p 2 0; flags = getD p 3 0; userid = u; rolemask = r; first = f; second = s }) (headerIn p)
 unfolding headerIn
-fields-in p eu er ef es = rw (eu ∙ number-at p 4, er ∙ number-at p 8, ef ∙ number-at p 12, es ∙ number-at p 16)
+fields-in p eu er ef es = rw (eu, er, ef, es)
 
 -- ---- a header that is right
 

@@ -21,10 +21,10 @@ fn fields(p: &[u8]) -> Header
     Header {
         kind: p[2],
         flags: p[3],
-        userid: bytes_number::number_of(p[4], p[5], p[6], p[7]),
-        rolemask: bytes_number::number_of(p[8], p[9], p[10], p[11]),
-        first: bytes_number::number_of(p[12], p[13], p[14], p[15]),
-        second: bytes_number::number_of(p[16], p[17], p[18], p[19]),
+        userid: bytes_number::number_at(p, 4),
+        rolemask: bytes_number::number_at(p, 8),
+        first: bytes_number::number_at(p, 12),
+        second: bytes_number::number_at(p, 16),
     }
 }
 

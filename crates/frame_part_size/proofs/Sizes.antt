@@ -70,21 +70,18 @@ pub size-cut : (s : List ℕ) → 0 < length s → 255 ≤ getD s 0 0 → length
 size-cut [] p h k = absurd (omega arith)
 size-cut (x ∷ xs) p h k = rw (no-size x xs h (omega arith))
 
-abbrev pub LongSize : List ℕ → ℕ → Type 0
-LongSize s n = n ≡ number (getD s 1 0 ∷ getD s 2 0 ∷ getD s 3 0 ∷ getD s 4 0 ∷ [])
-
-pub size-small : (s : List ℕ) (n : ℕ) → 255 ≤ getD s 0 0 → 4 ≤ length s - 1 → LongSize s n → n < 255 → Wrong ≡ sizeAt s
+pub size-small : (s : List ℕ) (n : ℕ) → 255 ≤ getD s 0 0 → 4 ≤ length s - 1 → n ≡ number (drop 1 s) → n < 255 → Wrong ≡ sizeAt s
 size-small [] n h k e l = absurd (omega arith)
 size-small (x ∷ xs) n h k e l = rw (small-size x xs h (omega arith) (rw e at l))
 
-pub size-long-passes : (s : List ℕ) (n : ℕ) → 255 ≤ getD s 0 0 → 4 ≤ length s - 1 → LongSize s n → 255 ≤ n → length s - 1 - 4 < n → Wrong ≡ sizeAt s
+pub size-long-passes : (s : List ℕ) (n : ℕ) → 255 ≤ getD s 0 0 → 4 ≤ length s - 1 → n ≡ number (drop 1 s) → 255 ≤ n → length s - 1 - 4 < n → Wrong ≡ sizeAt s
 size-long-passes [] n h k e l m = absurd (omega arith)
 size-long-passes (x ∷ xs) n h k e l m = rw (long-passes x xs h (omega arith) (rw e at l) (simp length-drop (rw e at (left m))))
   where
     left : suc (length xs) - 1 - 4 < n → length xs - 4 < n
     left m = omega arith
 
-pub size-long : (s : List ℕ) (n : ℕ) → 255 ≤ getD s 0 0 → 4 ≤ length s - 1 → LongSize s n → 255 ≤ n → n ≤ length s - 1 - 4 → Data 5 n ≡ sizeAt s
+pub size-long : (s : List ℕ) (n : ℕ) → 255 ≤ getD s 0 0 → 4 ≤ length s - 1 → n ≡ number (drop 1 s) → 255 ≤ n → n ≤ length s - 1 - 4 → Data 5 n ≡ sizeAt s
 size-long [] n h k e l m = absurd (omega arith)
 size-long (x ∷ xs) n h k e l m =
     let four : 4 ≤ length xs = omega arith in

@@ -29,7 +29,7 @@ pub fn size_at(s: &[u8]) -> Size
     if behind < 4 {
         return Size::Wrong;
     }
-    let long = bytes_number::number_of(s[1], s[2], s[3], s[4]) as usize;
+    let long = bytes_number::number_at(s, 1) as usize;
     if long < LONG {
         return Size::Wrong;
     }

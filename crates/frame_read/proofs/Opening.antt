@@ -1,5 +1,5 @@
 -- The eight bytes in front: a law for each way through the reader's first tests.
-use mathlib.Core.Path.{_≡_, sym, _∙_}
+use mathlib.Core.Path.{_≡_, sym}
 use mathlib.Core.Bool.{true, false}
 use Prim.Native.Nat.{ℕ, _+_, _<_, _≤_}
 use mathlib.Core.List.{List}
@@ -7,9 +7,8 @@ use borrow.Author.Tests.{lt-ltb, le-ltb}
 use lib.ListN.{length, take, drop}
 use Rattle.refusal.specs.declared.Refusal.the-variants.{InputShort, StartWrong, BodyLong}
 use Rattle.refusal.specs.Answer.{refused, andThen}
+use Rattle.bytes_number.specs.Number.{number}
 use Rattle.frame_message.specs.Reading.{startsRight, bodyLength, partsIn, judged, readingOf}
-use Rattle.bytes_number.proofs.Numbers.{number-at}
-use Rattle.frame_header.proofs.Heads.{NumberAt}
 
 module _ (b : List ℕ) where
   pub open-short : length b < 8 → readingOf b ≡ refused InputShort
@@ -22,9 +21,9 @@ module _ (b : List ℕ) where
     open-start e = rw (le-ltb (length b) 8 long, e)
 
     -- n is the body's length
-    module _ (start : startsRight b ≡ true) (n : ℕ) (size : NumberAt b 4 n) where
+    module _ (start : startsRight b ≡ true) (n : ℕ) (size : n ≡ number (drop 4 b)) where
       is-size : bodyLength b ≡ n
-      is-size = sym (size ∙ number-at b 4)
+      is-size = sym size
 
       pub open-long : 32768 < n → readingOf b ≡ refused BodyLong
       unfolding readingOf

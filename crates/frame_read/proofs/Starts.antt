@@ -12,7 +12,6 @@ use Rattle.bytes_number.proofs.Numbers.{bytes-at}
 use Rattle.bytes_number.proofs.Truth.{true-false}
 use Rattle.frame_message.proofs.Frames.{start-four}
 use Rattle.frame_message.specs.Reading.{startsRight}
-use Rattle.frame_header.proofs.Heads.{NumberAt}
 
 -- four bytes, and the number that they are
 module _ (n p q r t : ℕ) (bq : q < 256) (br : r < 256) (bt : t < 256) (is : n ≡ p * 16777216 + q * 65536 + r * 256 + t) where
@@ -29,5 +28,5 @@ module _ (n p q r t : ℕ) (bq : q < 256) (br : r < 256) (bt : t < 256) (is : n 
           let same : each ≡ true = rw (eq-eqb p 255 (omega arith), eq-eqb q 238 (omega arith), eq-eqb r 0 (omega arith), eq-eqb t 18 (omega arith)) in
           true-false (sym same ∙ e))
 
-pub start-tested : (b : List ℕ) → Bytes b → (n : ℕ) → NumberAt b 0 n → eqb n 4293787666 ≡ startsRight b
+pub start-tested : (b : List ℕ) → Bytes b → (n : ℕ) → n ≡ number b → eqb n 4293787666 ≡ startsRight b
 start-tested b bytes n is = start-is n (getD b 0 0) (getD b 1 0) (getD b 2 0) (getD b 3 0) (bytes-at b 1 bytes) (bytes-at b 2 bytes) (bytes-at b 3 bytes) is

@@ -3,17 +3,14 @@ use frame_layout::Reading;
 use frame_message::FRONT;
 use refusal::Refusal;
 ghost use mathlib.Core.Path.{_≡_};
-ghost use Prim.Native.Nat.{_≤_};
-ghost use lib.ListN.{length};
 ghost use Rattle.frame_message.specs.Reading.{startsRight, readingOf};
 ghost use Rattle.frame_layout.specs.Layout.{readAs};
 
 // Whether a frame's four bytes stand in front. They are compared as one number, FF EE 00 12.
 fn starts_right(bytes: &[u8]) -> bool
-    requires { ⌜ 4 ≤ length (now bytes) ⌝ }
     ensures { λ r. ⌜ r ≡ startsRight (now (bytes .entry)) ⌝ }
 {
-    bytes_number::number_of(bytes[0], bytes[1], bytes[2], bytes[3]) == frame_message::START
+    bytes_number::number_at(bytes, 0) == frame_message::START
 }
 
 // Reads the frame at the front of bytes. What lies behind it is ignored.
@@ -26,7 +23,7 @@ pub fn read(bytes: &[u8]) -> Reading
     if !starts_right(bytes) {
         return Reading::Refused(Refusal::StartWrong);
     }
-    let size = bytes_number::number_of(bytes[4], bytes[5], bytes[6], bytes[7]) as usize;
+    let size = bytes_number::number_at(bytes, 4) as usize;
     let end = FRONT + size;
     if frame_message::MOST_BODY < size {
         return Reading::Refused(Refusal::BodyLong);

@@ -4,22 +4,13 @@ use table_records::MOST_RECORDS;
 ghost use mathlib.Core.Path.{_≡_};
 ghost use Prim.Native.Nat.{_+_, _*_, _%_, _<_, _≤_};
 ghost use lib.ListN.{length};
-ghost use Rattle.table_records.specs.Records.{mostRecords, recordAt, distinct};
+ghost use Rattle.table_records.specs.Records.{mostRecords, distinct};
 ghost use Rattle.table_records.specs.Working.{fresh};
 ghost use Rattle.table_distinct.specs.WorkingChains.{stirred, mixOf, hashOf, hashAt, lastBelow, ChainLinked};
 ghost use Rattle.table_distinct.specs.WorkingSeen.{Sees};
 
 // So many records of a chain are compared. A table that was not made for it has chains of one or two.
 const LONGEST: u8 = 8;
-
-// The record with the number i.
-fn record(table: &[u8], width: usize, i: usize) -> &[u8]
-    requires { ⌜ i * width + width ≤ length (now table) ⌝ }
-    ensures { λ r. ⌜ now r ≡ recordAt width (now (table .entry)) i ⌝ }
-{
-    let at = i * width;
-    &table[at..at + width]
-}
 
 // Takes two numbers into a hash. No sum or product wraps, so the remainder is what a machine of 32 bits would give, and costs nothing.
 fn stir_in(h: u32, a: u32, b: u32) -> u32
@@ -73,7 +64,7 @@ enum Seen {
 // Looks for record i among those before it. Only those of its own chain are compared: `start` is the last of them plus 1, next[j] the one before j
 // plus 1, and 0 ends the chain.
 fn look(table: &[u8], width: usize, next: &[u16; MOST_RECORDS], i: usize, start: usize) -> Seen
-    requires { ⌜ (i < mostRecords) × (i * width + width ≤ length (now table)) × ChainLinked (hashAt width (now table)) (now next) i × (start ≡ lastBelow (hashAt width (now table)) i (hashAt width (now table) i)) ⌝ }
+    requires { ⌜ (i < mostRecords) × ChainLinked (hashAt width (now table)) (now next) i × (start ≡ lastBelow (hashAt width (now table)) i (hashAt width (now table) i)) ⌝ }
     ensures { λ r. ⌜ Sees (fresh width (now (table .entry)) i) r ⌝ }
 {
     let mut at = start;
@@ -83,7 +74,10 @@ fn look(table: &[u8], width: usize, next: &[u16; MOST_RECORDS], i: usize, start:
             return Seen::Crowded;
         }
         let j = at - 1;
-        if table_records::same(record(table, width, i), record(table, width, j)) {
+        if table_records::same(
+            table_records::record_at(table, width, i),
+            table_records::record_at(table, width, j),
+        ) {
             return Seen::Twice;
         }
         at = next[j] as usize;
@@ -103,13 +97,15 @@ pub fn are_distinct(table: &[u8], width: u8, n: usize) -> bool
     if n * size > table.len() {
         return false;
     }
+    // By the length of the records alone the compiler knows that record i is whole.
+    let records = &table[..n * size];
     let mut head = [0u16; 4096];
     let mut next = [0u16; MOST_RECORDS];
     let mut i = 0;
     while i < n {
-        let h = hash(record(table, size, i));
+        let h = hash(table_records::record_at(records, size, i));
         let start = head[h];
-        let seen = look(table, size, &next, i, start as usize);
+        let seen = look(records, size, &next, i, start as usize);
         match seen {
             Seen::New => {}
             Seen::Twice => {

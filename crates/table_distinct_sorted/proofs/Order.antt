@@ -1,6 +1,6 @@
 -- Laws on bytes and records in order.
 use mathlib.Core.Path.{_≡_, refl, sym, ap, _∙_}
-use mathlib.Core.Bool.{true, false, cond, not}
+use mathlib.Core.Bool.{true, false, cond, not, _&&_}
 use mathlib.Core.List.{List, [], _∷_}
 use mathlib.Core.Logic.{_⊎_, inl, inr, ⊎-elim}
 use Prim.Native.Nat.{ℕ, zero, suc, _+_, _-_, _<_, _≤_}
@@ -86,6 +86,14 @@ before-total (x ∷ xs) (y ∷ ys) p d = first (before-total xs ys) (outcome (eq
         let n : x ≡ y → ⊥ = eqb-false x y a in
         let l : y ≤ x = ltb-false x y (sym (before-other x y xs ys n) ∙ p) in
         before-other y x ys xs (λ q. n (sym q)) ∙ lt-ltb y x (⊎-elim (λ q. absurd (n (sym q))) (λ q. q) (eq-or-lt-of-le l))
+
+-- ---- bytes are compared with others of their length
+
+pub one-length : (xs ys : List ℕ) → length xs ≡ length ys → (eqb (length xs) (length ys) && before xs ys) ≡ before xs ys
+one-length xs ys e = rw (eq-eqb (length xs) (length ys) e) refl
+
+pub two-lengths : (xs ys : List ℕ) → (length xs ≡ length ys → ⊥) → (eqb (length xs) (length ys) && before xs ys) ≡ false
+two-lengths xs ys e = rw (ne-eqb (length xs) (length ys) e) refl
 
 -- ---- a turn of a loop that compares
 

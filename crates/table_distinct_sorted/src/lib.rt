@@ -2,6 +2,8 @@
 // eleven others: this is for tables that were made to be slow where records are told apart by a hash.
 use table_records::MOST_RECORDS;
 ghost use mathlib.Core.Path.{_≡_};
+ghost use mathlib.Core.Bool.{_&&_};
+ghost use lib.Dec.{eqb};
 ghost use Prim.Native.Nat.{_+_, _*_, _<_, _≤_};
 ghost use lib.ListN.{length};
 ghost use Rattle.table_records.specs.Records.{mostRecords, recordAt, distinct};
@@ -9,9 +11,11 @@ ghost use Rattle.table_distinct_sorted.specs.WorkingOrder.{before, Order
 
 // Whether bytes stand before others of their length, by the first byte in which they differ.
 fn is_before(a: &[u8], b: &[u8]) -> bool
-    requires { ⌜ length (now a) ≡ length (now b) ⌝ }
-    ensures { λ r. ⌜ r ≡ before (now (a .entry)) (now (b .entry)) ⌝ }
+    ensures { λ r. ⌜ r ≡ (eqb (length (now (a .entry))) (length (now (b .entry))) && before (now (a .entry)) (now (b .entry))) ⌝ }
 {
+    if a.len() != b.len() {
+        return false;
+    }
     let mut i = table_records::equal_front(a, b);
     while i < a.len() {
         if a[i] != b[i] {
@@ -20,15 +24,6 @@ fn is_before(a: &[u8], b: &[u8]) -> bool
         i += 1;
     }
     false
-}
-
-// The record with the number i.
-fn record(table: &[u8], width: usize, i: usize) -> &[u8]
-    requires { ⌜ i * width + width ≤ length (now table) ⌝ }
-    ensures { λ r. ⌜ now r ≡ recordAt width (now (table .entry)) i ⌝ }
-{
-    let at = i * width;
-    &table[at..at + width]
 }
 
 // How many of the first i records stand before record i: `order` has their numbers, in the records' order, and it is halved at each turn.
@@ -41,7 +36,10 @@ fn place(table: &[u8], width: usize, order: &[u16; MOST_RECORDS], i: usize) -> u
     while low < high {
         let middle = low + (high - low) / 2;
         let j = order[middle] as usize;
-        if is_before(record(table, width, j), record(table, width, i)) {
+        if is_before(
+            table_records::record_at(table, width, j),
+            table_records::record_at(table, width, i),
+        ) {
             low = middle + 1;
         } else {
             high = middle;
@@ -74,13 +72,18 @@ pub fn are_distinct(table: &[u8], width: u8, n: usize) -> bool
     if n * width > table.len() {
         return false;
     }
+    // By the length of the records alone the compiler knows that record i is whole.
+    let records = &table[..n * width];
     let mut order = [0u16; MOST_RECORDS];
     let mut i = 0;
     while i < n {
-        let at = place(table, width, &order, i);
+        let at = place(records, width, &order, i);
         if at < i {
             let j = order[at] as usize;
-            if table_records::same(record(table, width, i), record(table, width, j)) {
+            if table_records::same(
+                table_records::record_at(records, width, i),
+                table_records::record_at(records, width, j),
+            ) {
                 return false;
             }
         }

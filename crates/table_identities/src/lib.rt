@@ -2,33 +2,13 @@
 use frame_forms::ROUTE;
 use table_records::Found;
 ghost use mathlib.Core.Path.{_≡_};
-ghost use Prim.Native.Nat.{_+_, _*_, _<_, _≤_};
-ghost use lib.ListN.{length};
-ghost use Rattle.frame_forms.specs.Forms.{routeLength};
 ghost use Rattle.table_identities.specs.Identities.{identityAt, sameIdentity, brokerOf};
-
-// The identity of a rank.
-fn identity_at(identities: &[u8], rank: usize) -> &[u8]
-    requires { ⌜ rank * routeLength + routeLength ≤ length (now identities) ⌝ }
-    ensures { λ r. ⌜ now r ≡ identityAt (now (identities .entry)) rank ⌝ }
-{
-    let at = rank * ROUTE;
-    &identities[at..at + ROUTE]
-}
 
 // The identity of any rank, or what the table has of it.
 pub fn identity_of(identities: &[u8], rank: u32) -> &[u8]
     ensures { λ r. ⌜ now r ≡ identityAt (now (identities .entry)) rank ⌝ }
 {
-    let at = rank as usize * ROUTE;
-    let len = identities.len();
-    if len <= at {
-        return &identities[len..];
-    }
-    if len - at < ROUTE {
-        return &identities[at..];
-    }
-    &identities[at..at + ROUTE]
+    table_records::record_at(identities, ROUTE, rank as usize)
 }
 
 // Whether two routes are the same identity.
@@ -45,7 +25,7 @@ pub fn find_broker(identities: &[u8], route: &[u8]) -> Found
     let n = identities.len() / ROUTE;
     let mut broker = 0;
     while broker < n {
-        if is_same(identity_at(identities, broker), route) {
+        if is_same(table_records::record_at(identities, ROUTE, broker), route) {
             return Found::At(broker);
         }
         broker += 1;

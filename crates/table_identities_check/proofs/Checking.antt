@@ -13,7 +13,6 @@ use Rattle.frame_forms.specs.Forms.{isRoute}
 use Rattle.table_records.specs.Below.{allBelow}
 use Rattle.table_records.specs.Records.{distinct}
 use Rattle.bytes_number.proofs.Truth.{and-right-fails as right-fails}
-use Rattle.table_records.proofs.Below.{all-fails}
 use Rattle.table_records.proofs.Records.{distinct-rest}
 use Rattle.table_tree.specs.Tree.{ranksIn}
 use Rattle.table_tree.specs.Depths.{treeGood}
@@ -30,10 +29,10 @@ module _ (tree identities : List ℕ) where
   unfolding identitiesGood
   bad-torn h = rw (ne-eqb (length identities) (ranksIn tree * 37) h) (right-fails (leb (ranksIn tree) 1024) refl)
 
-  pub bad-one : (rank : ℕ) → rank < ranksIn tree → isRoute (identityAt identities rank) ≡ false → identitiesGood tree identities ≡ false
+  pub bad-form : allBelow (ranksIn tree) (λ rank. isRoute (identityAt identities rank)) ≡ false → identitiesGood tree identities ≡ false
   unfolding identitiesGood
-  bad-one rank h e =
-      rw (all-fails (λ rank. isRoute (identityAt identities rank)) (ranksIn tree) rank h e)
+  bad-form e =
+      rw e
       (right-fails (leb (ranksIn tree) 1024) (right-fails (eqb (length identities) (ranksIn tree * 37)) refl))
 
   pub rest-distinct : ranksIn tree ≤ 1024 → length identities ≡ ranksIn tree * 37 → allBelow (ranksIn tree) (λ rank. isRoute (identityAt identities rank)) ≡ true

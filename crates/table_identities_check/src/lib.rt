@@ -3,8 +3,27 @@ use frame_forms::ROUTE;
 use refusal::Refusal;
 use table_tree_check::Checked;
 ghost use mathlib.Core.Path.{_≡_};
+ghost use Prim.Native.Nat.{_/_};
+ghost use lib.ListN.{length};
+ghost use Rattle.frame_forms.specs.Forms.{routeLength, isRoute};
+ghost use Rattle.table_records.specs.Below.{allBelow};
 ghost use Rattle.table_tree_check.specs.Checking.{told};
-ghost use Rattle.table_identities.specs.Identities.{identitiesGood, identitiesCheck};
+ghost use Rattle.table_identities.specs.Identities.{identityAt, identitiesGood, identitiesCheck};
+
+// Whether every record is of a route's form.
+fn are_routes(identities: &[u8]) -> bool
+    ensures { λ r. ⌜ r ≡ allBelow (length (now (identities .entry)) / routeLength) (λ rank. isRoute (identityAt (now (identities .entry)) rank)) ⌝ }
+{
+    let n = identities.len() / ROUTE;
+    let mut rank = 0;
+    while rank < n {
+        if !frame_forms::is_route(table_records::record_at(identities, ROUTE, rank)) {
+            return false;
+        }
+        rank += 1;
+    }
+    true
+}
 
 // Whether the bytes are the identities of a tree's ranks.
 pub fn are_identities(tree: &[u8], identities: &[u8]) -> bool
@@ -17,13 +36,8 @@ pub fn are_identities(tree: &[u8], identities: &[u8]) -> bool
     if identities.len() != n * ROUTE {
         return false;
     }
-    let mut rank = 0;
-    while rank < n {
-        let at = rank * ROUTE;
-        if !frame_forms::is_route(&identities[at..at + ROUTE]) {
-            return false;
-        }
-        rank += 1;
+    if !are_routes(identities) {
+        return false;
     }
     table_distinct::are_distinct(identities, ROUTE as u8, n)
 }

@@ -1,10 +1,8 @@
-// What the tables share: what a look-up finds, and bytes compared.
+// What the tables share: one record, what a look-up finds, and bytes compared.
 ghost use mathlib.Core.Path.{_≡_};
-ghost use Prim.Native.Nat.{_+_, _≤_};
-ghost use lib.ListN.{length, drop};
-ghost use Rattle.bytes_number.specs.Number.{number};
 ghost use Rattle.table_records.specs.Bytes.{sameBytes};
-ghost use Rattle.table_records.specs.Working.{EqualFront};
+ghost use Rattle.table_records.specs.Records.{recordAt};
+ghost use Rattle.table_records.specs.Working.{equalInFours};
 
 // The most records that a table has: ranks, services or identities.
 pub const MOST_RECORDS: usize = 1024;
@@ -15,24 +13,35 @@ pub enum Found {
     Nothing,
 }
 
-// The four bytes at a place, as a number.
-fn word(s: &[u8], at: usize) -> u32
-    requires { ⌜ at + 4 ≤ length (now s) ⌝ }
-    ensures { λ r. ⌜ r ≡ number (drop at (now (s .entry))) ⌝ }
+// The record with the number i, counted from 0, or what the table has of it. In a loop that ends at `table.len() / width` the compiler drops the tests.
+pub fn record_at(table: &[u8], width: usize, i: usize) -> &[u8]
+    ensures { λ r. ⌜ now r ≡ recordAt width (now (table .entry)) i ⌝ }
 {
-    bytes_number::number_of(s[at], s[at + 1], s[at + 2], s[at + 3])
+    if width == 0 {
+        return &table[..0];
+    }
+    let n = table.len() / width;
+    if i < n {
+        let at = i * width;
+        return &table[at..at + width];
+    }
+    if i == n {
+        let at = i * width;
+        return &table[at..];
+    }
+    &table[..0]
 }
 
 // How many bytes in front of two slices are surely equal: four at a time, up to the first four in which they differ, or to the end of either.
 pub fn equal_front(a: &[u8], b: &[u8]) -> usize
-    ensures { λ r. ⌜ EqualFront (now (a .entry)) (now (b .entry)) r ⌝ }
+    ensures { λ r. ⌜ r ≡ equalInFours (now (a .entry)) (now (b .entry)) ⌝ }
 {
     let mut i = 0;
     while i + 4 <= a.len() {
         if i + 4 > b.len() {
             return i;
         }
-        if word(a, i) != word(b, i) {
+        if bytes_number::number_at(a, i) != bytes_number::number_at(b, i) {
             return i;
         }
         i += 4;

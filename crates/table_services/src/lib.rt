@@ -58,7 +58,7 @@ pub fn is_service(row: &[u8], ranks: usize) -> bool
     if row.len() != WIDTH {
         return false;
     }
-    let rank = bytes_number::number_of(row[0], row[1], row[2], row[3]);
+    let rank = bytes_number::number_at(row, 0);
     if rank as usize >= ranks {
         return false;
     }

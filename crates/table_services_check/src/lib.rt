@@ -3,19 +3,8 @@ use refusal::Refusal;
 use table_services::WIDTH;
 use table_tree_check::Checked;
 ghost use mathlib.Core.Path.{_≡_};
-ghost use Prim.Native.Nat.{_+_, _*_, _≤_};
-ghost use lib.ListN.{length};
 ghost use Rattle.table_tree_check.specs.Checking.{told};
-ghost use Rattle.table_services.specs.Services.{serviceWidth, serviceAt, servicesGood, servicesCheck};
-
-// The record with the number i.
-fn service_at(services: &[u8], i: usize) -> &[u8]
-    requires { ⌜ i * serviceWidth + serviceWidth ≤ length (now services) ⌝ }
-    ensures { λ r. ⌜ now r ≡ serviceAt (now (services .entry)) i ⌝ }
-{
-    let at = i * WIDTH;
-    &services[at..at + WIDTH]
-}
+ghost use Rattle.table_services.specs.Services.{servicesGood, servicesCheck};
 
 // Whether the bytes are the services of a tree.
 pub fn are_services(tree: &[u8], services: &[u8]) -> bool
@@ -31,7 +20,7 @@ pub fn are_services(tree: &[u8], services: &[u8]) -> bool
     let ranks = table_tree::ranks_in(tree);
     let mut i = 0;
     while i < n {
-        if !table_services::is_service(service_at(services, i), ranks) {
+        if !table_services::is_service(table_records::record_at(services, WIDTH, i), ranks) {
             return false;
         }
         i += 1;

@@ -2,7 +2,7 @@
 use mathlib.Core.Path.{_≡_, refl, sym, _∙_}
 use mathlib.Core.Bool.{true, false, _&&_}
 use mathlib.Core.List.{List, []}
-use Prim.Native.Nat.{ℕ, _+_, _*_, _-_, _/_, _<_, _≤_}
+use Prim.Native.Nat.{ℕ, _-_, _/_, _<_, _≤_}
 use native.Mathlib.Nat.{sub-zero}
 use native.Mathlib.Omega.{arith}
 use borrow.Author.Tests.{eq-eqb, ne-eqb, eqb-true, le-leb, lt-leb, leb-true, leb-false}
@@ -26,12 +26,6 @@ use Rattle.table_services_find.specs.Working.{wholeOrNone}
 registered-is : (services : List ℕ) (rank : ℕ) (service : List ℕ) → registeredAs services rank service ≡ firstFrom (λ i. registers (serviceAt services i) rank service) (length services / 32) 0
 unfolding registeredAs servicesIn
 registered-is services rank service = refl
-
--- the bytes that the code cuts out of the table are the record
-pub row-is : (services : List ℕ) (i : ℕ) → take (i * 32 + 32 - i * 32) (drop (i * 32) services) ≡ serviceAt services i
-row-is services i =
-    let size : i * 32 + 32 - i * 32 ≡ 32 = omega arith in
-    rw size refl
 
 -- ---- one record by its cases, in the code's order
 

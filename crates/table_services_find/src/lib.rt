@@ -43,7 +43,7 @@ fn is_registered(row: &[u8], rank: u32, service: &[u8]) -> bool
     if asked < 1 {
         return false;
     }
-    if bytes_number::number_of(row[0], row[1], row[2], row[3]) != rank {
+    if bytes_number::number_at(row, 0) != rank {
         return false;
     }
     if bytes_number::wide(row[4]) as usize != asked {
@@ -60,8 +60,7 @@ pub fn find_service(services: &[u8], rank: u32, service: &[u8]) -> Found
     let n = services.len() / WIDTH;
     let mut i = 0;
     while i < n {
-        let at = i * WIDTH;
-        if is_registered(&services[at..at + WIDTH], rank, name) {
+        if is_registered(table_records::record_at(services, WIDTH, i), rank, name) {
             return Found::At(i);
         }
         i += 1;

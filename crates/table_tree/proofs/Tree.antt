@@ -1,23 +1,25 @@
 -- Laws on the tree's bytes: the only ones that look into `parentOf`, `ranksIn` and `wholeTree`.
 use mathlib.Core.Path.{_≡_, refl, _∙_}
 use mathlib.Core.Bool.{true, false, _&&_, and-true}
-use mathlib.Core.List.{List, [], _∷_}
-use Prim.Native.Nat.{ℕ, _+_, _*_, _/_, _<_, _≤_}
+use mathlib.Core.List.{List}
+use Prim.Native.Nat.{ℕ, _*_, _/_, _<_, _≤_}
+use native.Mathlib.Omega.{arith}
 use borrow.Author.Tests.{lt-ltb, le-ltb, leb-true, le-leb, lt-leb}
 use lib.Dec.{eqb, leb}
-use lib.ListN.{length, getD}
+use lib.ListN.{length, drop}
 use Rattle.bytes_number.specs.Number.{number}
-use Rattle.bytes_number.proofs.Numbers.{number-at}
 use Rattle.bytes_number.proofs.Truth.{and-left as left, and-right as right, and-right-fails as right-fails}
+use Rattle.table_records.specs.Records.{recordAt}
+use Rattle.table_records.proofs.Records.{number-take}
 use Rattle.table_tree.specs.Tree.{noParent, ranksIn, wholeTree, parentOf}
 
 pub ranks-are : (tree : List ℕ) → ranksIn tree ≡ length tree / 4
 unfolding ranksIn
 ranks-are tree = refl
 
-pub parent-inside : (tree : List ℕ) (r : ℕ) → r < length tree / 4 → number (getD tree (r * 4) 0 ∷ getD tree (r * 4 + 1) 0 ∷ getD tree (r * 4 + 2) 0 ∷ getD tree (r * 4 + 3) 0 ∷ []) ≡ parentOf tree r
+pub parent-inside : (tree : List ℕ) (r : ℕ) → r < length tree / 4 → number (recordAt 4 tree r) ≡ parentOf tree r
 unfolding parentOf ranksIn
-parent-inside tree r h = number-at tree (r * 4) ∙ simp (lt-ltb _ _ h)
+parent-inside tree r h = number-take 4 (drop (r * 4) tree) (omega arith) ∙ simp (lt-ltb _ _ h)
 
 pub parent-outside : (tree : List ℕ) (r : ℕ) → ranksIn tree ≤ r → parentOf tree r ≡ noParent
 unfolding parentOf

@@ -22,8 +22,7 @@ pub fn parent_of(tree: &[u8], rank: u32) -> u32
 {
     let r = rank as usize;
     if r < tree.len() / WIDTH {
-        let at = r * WIDTH;
-        bytes_number::number_of(tree[at], tree[at + 1], tree[at + 2], tree[at + 3])
+        bytes_number::number_at(table_records::record_at(tree, WIDTH, r), 0)
     } else {
         NO_PARENT
     }

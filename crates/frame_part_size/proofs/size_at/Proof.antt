@@ -31,32 +31,20 @@ returns-3 c = ap (Data 1) (c .before .before .wide .ensures) ∙ size-short (c .
 returns-4 : tie.Need-returns-4
 returns-4 c = size-cut (c .before .before .before .before .before .before .args .s .now) (omega arith) (omega arith) (omega arith)
 
-shared-slice-read-number-of : tie.Need-shared-slice-read-number-of
-shared-slice-read-number-of c = search needs
-
-shared-slice-read-number-of-2 : tie.Need-shared-slice-read-number-of-2
-shared-slice-read-number-of-2 c = search needs
-
-shared-slice-read-number-of-3 : tie.Need-shared-slice-read-number-of-3
-shared-slice-read-number-of-3 c = search needs
-
-shared-slice-read-number-of-4 : tie.Need-shared-slice-read-number-of-4
-shared-slice-read-number-of-4 c = search needs
-
-number-of-requires : tie.Need-number-of-requires
-number-of-requires c κs = search needs
+number-at-requires : tie.Need-number-at-requires
+number-at-requires c κs = search needs
 
 cast-long : tie.Need-cast-long
 cast-long c = search needs
 
 returns-5 : tie.Need-returns-5
-returns-5 c = size-small (c .before .before .before .before .before .before .before .before .before .before .before .before .args .s .now) (c .before .number-of .result) (omega arith) (omega arith) (c .before .number-of .ensures) (omega arith)
+returns-5 c = size-small (c .before .before .before .before .before .before .before .before .args .s .now) (c .before .number-at .result) (omega arith) (omega arith) (c .before .number-at .ensures) (omega arith)
 
 returns-6 : tie.Need-returns-6
-returns-6 c = size-long-passes (c .before .before .before .before .before .before .before .before .before .before .before .before .before .args .s .now) (c .before .before .number-of .result) (omega arith) (omega arith) (c .before .before .number-of .ensures) (omega arith) (omega arith)
+returns-6 c = size-long-passes (c .before .before .before .before .before .before .before .before .before .args .s .now) (c .before .before .number-at .result) (omega arith) (omega arith) (c .before .before .number-at .ensures) (omega arith) (omega arith)
 
 returns-7 : tie.Need-returns-7
-returns-7 c = size-long (c .before .before .before .before .before .before .before .before .before .before .before .before .before .args .s .now) (c .before .before .number-of .result) (omega arith) (omega arith) (c .before .before .number-of .ensures) (omega arith) (omega arith)
+returns-7 c = size-long (c .before .before .before .before .before .before .before .before .before .args .s .now) (c .before .before .number-at .result) (omega arith) (omega arith) (c .before .before .number-at .ensures) (omega arith) (omega arith)
 
 pub size-at-spec : {M : Type 1} → statement M
 size-at-spec =
@@ -70,11 +58,7 @@ size-at-spec =
     returns-2
     returns-3
     returns-4
-    shared-slice-read-number-of
-    shared-slice-read-number-of-2
-    shared-slice-read-number-of-3
-    shared-slice-read-number-of-4
-    number-of-requires
+    number-at-requires
     cast-long
     returns-5
     returns-6

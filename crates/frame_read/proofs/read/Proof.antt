@@ -16,9 +16,9 @@ use Rattle.frame_read.proofs.read.Statement.{statement}
 use Rattle.frame_read.proofs.read.Tie as tie
 
 -- what is known of the bytes in front once the body's length is read
-module _ (c : tie.After-number-of) where
+module _ (c : tie.After-number-at) where
   abbrev right : tie.Else2
-  right = c .before .before .before .before .before
+  right = c .before
 
   abbrev bytes : List ℕ
   bytes = right .before .before .before .before .args .bytes .now
@@ -38,34 +38,22 @@ starts-right-requires c κs = search needs
 returns-2 : tie.Need-returns-2
 returns-2 c = sym (ap readAs (open-start (c .before .before .before .before .args .bytes .now) (omega (arith, c .before .before .if1 .left)) (sym (c .before .starts-right .ensures) ∙ not-true _ (c .if2 .taken))))
 
-shared-slice-read-number-of : tie.Need-shared-slice-read-number-of
-shared-slice-read-number-of c = search needs
-
-shared-slice-read-number-of-2 : tie.Need-shared-slice-read-number-of-2
-shared-slice-read-number-of-2 c = search needs
-
-shared-slice-read-number-of-3 : tie.Need-shared-slice-read-number-of-3
-shared-slice-read-number-of-3 c = search needs
-
-shared-slice-read-number-of-4 : tie.Need-shared-slice-read-number-of-4
-shared-slice-read-number-of-4 c = search needs
-
-number-of-requires : tie.Need-number-of-requires
-number-of-requires c κs = search needs
+number-at-requires : tie.Need-number-at-requires
+number-at-requires c κs = search needs
 
 cast-size : tie.Need-cast-size
 cast-size c = search needs
 
 returns-3 : tie.Need-returns-3
 returns-3 c = let p = c .before in
-    sym (ap readAs (open-long _ (long p) (start p) _ (p .number-of .ensures) (omega (arith, c .if3 .taken))))
+    sym (ap readAs (open-long _ (long p) (start p) _ (p .number-at .ensures) (omega (arith, c .if3 .taken))))
 
 add-end : tie.Need-add-end
 add-end c = search needs
 
 returns-4 : tie.Need-returns-4
 returns-4 c = let p = c .before .before in
-    sym (ap readAs (open-cut _ (long p) (start p) _ (p .number-of .ensures) (omega (arith, c .before .if3 .left)) (omega (arith, c .if4 .taken))))
+    sym (ap readAs (open-cut _ (long p) (start p) _ (p .number-at .ensures) (omega (arith, c .before .if3 .left)) (omega (arith, c .if4 .taken))))
 
 sub-read-body : tie.Need-sub-read-body
 sub-read-body c = search needs
@@ -81,12 +69,12 @@ read-body-requires c κs = search needs
 
 returns-5 : tie.Need-returns-5
 returns-5 c = let p = c .before .before .before .before in
-    let n = p .number-of .result in
+    let n = p .number-at .result in
     let size : 8 + n - 8 ≡ n = omega arith in
     let body = take n (drop 8 (bytes p)) in
     let short : length body ≤ 32768 = omega (arith, length-take n (drop 8 (bytes p)), c .before .before .before .if3 .left) in
     c .read-body .ensures ∙ ap (λ (k : ℕ). readAs (bodyReading (take k (drop 8 (bytes p))))) size ∙ ap readAs (body-short body short)
-    ∙ sym (ap readAs (open-body _ (long p) (start p) n (p .number-of .ensures) (omega (arith, c .before .before .before .if3 .left)) (omega (arith, c .before .before .if4 .left))))
+    ∙ sym (ap readAs (open-body _ (long p) (start p) n (p .number-at .ensures) (omega (arith, c .before .before .before .if3 .left)) (omega (arith, c .before .before .if4 .left))))
 
 pub read-spec : {M : Type 1} → statement M
 read-spec =
@@ -95,11 +83,7 @@ read-spec =
     returns
     starts-right-requires
     returns-2
-    shared-slice-read-number-of
-    shared-slice-read-number-of-2
-    shared-slice-read-number-of-3
-    shared-slice-read-number-of-4
-    number-of-requires
+    number-at-requires
     cast-size
     add-end
     returns-3

@@ -6,7 +6,6 @@ use native.Mathlib.Omega.{arith}
 use lib.ListN.{getD}
 use Rattle.table_records.specs.Bytes.{sameBytes}
 use Rattle.table_records.specs.Records.{recordAt}
-use Rattle.table_records.proofs.Records.{record-fits}
 use Rattle.table_distinct.proofs.Chains.{Among, among-start, among-hit, next-less, among-more, among-end}
 use Rattle.table_distinct.proofs.look.Statement.{statement}
 use Rattle.table_distinct.proofs.look.Tie as tie
@@ -20,7 +19,7 @@ abbrev μ-loop : tie.MeasureT-loop
 loop-holds : tie.Need-loop-holds Inv-loop μ-loop
 loop-holds c =
     let args = c .before .args in
-    among-start (args .width) (args .table .now) (args .i) (args .start) (c .before .pre .3)
+    among-start (args .width) (args .table .now) (args .i) (args .start) (c .before .pre .2)
 
 returns : tie.Need-returns Inv-loop μ-loop
 returns c = tt
@@ -37,18 +36,16 @@ module _ (h : tie.In-loop Inv-loop μ-loop) where
   at = h .before .loop .at
 
   less : getD (start .args .next .now) (at - 1) 0 < at
-  less = next-less (start .args .width) table (start .args .i) at (h .before .loop .inv) (λ e. omega arith) (start .args .next .now) (start .pre .2)
+  less = next-less (start .args .width) table (start .args .i) at (h .before .loop .inv) (λ e. omega arith) (start .args .next .now) (start .pre .1)
 
 sub-j : tie.Need-sub-j Inv-loop μ-loop
 sub-j c = omega arith
 
-record-requires : tie.Need-record-requires Inv-loop μ-loop
-record-requires c κs = start (c .before) .pre .1
+record-at-requires : tie.Need-record-at-requires Inv-loop μ-loop
+record-at-requires c κs = tt
 
-record-requires-2 : tie.Need-record-requires-2 Inv-loop μ-loop
-record-requires-2 c κs =
-    let h = c .before .before in
-    record-fits (start h .args .width) (start h .args .i) (at h - 1) (table h) (omega (arith, h .before .loop .inv .within)) (omega (arith, start h .pre .1))
+record-at-requires-2 : tie.Need-record-at-requires-2 Inv-loop μ-loop
+record-at-requires-2 c κs = tt
 
 same-requires : tie.Need-same-requires Inv-loop μ-loop
 same-requires c κs = tt
@@ -59,7 +56,7 @@ module _ (c : tie.After-same Inv-loop μ-loop) where
   turn = c .before .before .before .before
 
   said : c .same .result ≡ sameBytes (recordAt (start turn .args .width) (table turn) (start turn .args .i)) (recordAt (start turn .args .width) (table turn) (at turn - 1))
-  said = rw (← c .before .before .record .ensures, ← c .before .record2 .ensures) (c .same .ensures)
+  said = rw (← c .before .before .record-at .ensures, ← c .before .record-at2 .ensures) (c .same .ensures)
 
 returns-2 : tie.Need-returns-2 Inv-loop μ-loop
 returns-2 c =
@@ -84,7 +81,7 @@ loop-less c = omega (arith, less (turn (c .before .before)))
 loop-again : tie.Need-loop-again Inv-loop μ-loop
 loop-again c =
     let h = turn (c .before .before) in
-    among-more (start h .args .width) (table h) (start h .args .i) (at h) (h .before .loop .inv) (λ e. omega (arith, h .loop-test .taken)) (start h .args .next .now) (start h .pre .2) (sym (said (c .before .before)) ∙ c .before .if2 .left)
+    among-more (start h .args .width) (table h) (start h .args .i) (at h) (h .before .loop .inv) (λ e. omega (arith, h .loop-test .taken)) (start h .args .next .now) (start h .pre .1) (sym (said (c .before .before)) ∙ c .before .if2 .left)
 
 returns-3 : tie.Need-returns-3 Inv-loop μ-loop
 returns-3 c =
@@ -100,8 +97,8 @@ look-spec =
     loop-holds
     returns
     sub-j
-    record-requires
-    record-requires-2
+    record-at-requires
+    record-at-requires-2
     same-requires
     returns-2
     mul-at

@@ -7,22 +7,23 @@ use mathlib.Core.Logic.{⊎-elim}
 use native.Mathlib.Nat.{mul-le-mul-right}
 use native.Mathlib.Omega.{arith}
 use borrow.Author.Count.{falls}
-use lib.ListN.{length, getD, length-replicate}
+use lib.ListN.{length, getD, take, length-replicate}
+use lib.Seq.{length-take-le}
 use Rattle.table_records.specs.Below.{noneTwice}
 use Rattle.table_records.specs.Bytes.{sameBytes}
-use Rattle.table_records.specs.Records.{recordAt}
+use Rattle.table_records.specs.Records.{recordAt, distinct}
 use Rattle.table_records.proofs.Below.{none-none, none-more, all-fails}
-use Rattle.table_records.proofs.Records.{record-fits, distinct-many, distinct-short, distinct-twice, distinct-all}
+use Rattle.table_records.proofs.Records.{record-fits, front-distinct, distinct-many, distinct-short, distinct-twice, distinct-all}
 use Rattle.table_distinct_sorted.specs.WorkingOrder.{Ordered}
 use Rattle.table_distinct_sorted.proofs.Order.{ordered-none, ordered-more, differs-all}
 use Rattle.table_distinct_sorted.proofs.are_distinct.Statement.{statement}
 use Rattle.table_distinct_sorted.proofs.are_distinct.Tie as tie
 
 abbrev Inv-loop : tie.InvT-loop
-Inv-loop table width n width' order₀ i₀ order i = (i ≤ n) × (length order ≡ 1024) × Ordered (recordAt width' table) order i × (noneTwice (λ i j. sameBytes (recordAt width' table i) (recordAt width' table j)) i ≡ true)
+Inv-loop table width n width' records order₀ i₀ order i = (i ≤ n) × (length order ≡ 1024) × Ordered (recordAt width' records) order i × (noneTwice (λ i j. sameBytes (recordAt width' records i) (recordAt width' records j)) i ≡ true)
 
 abbrev μ-loop : tie.MeasureT-loop
-μ-loop table width n width' order₀ i₀ order i = n - i
+μ-loop table width n width' records order₀ i₀ order i = n - i
 
 returns : tie.Need-returns Inv-loop μ-loop
 returns c =
@@ -39,25 +40,63 @@ returns-2 c =
     let args = c .before .before .before .args in
     sym (distinct-short (args .width) (args .table .now) (args .n) (omega arith))
 
+mul-records : tie.Need-mul-records Inv-loop μ-loop
+mul-records c =
+    let args = c .before .before .before .args in
+    omega (arith, mul-le-mul-right (args .width) (c .before .if1 .left))
+
+slice-aggregate-records : tie.Need-slice-aggregate-records Inv-loop μ-loop
+slice-aggregate-records c =
+    let no = c .before in
+    let args = no .before .before .before .args in
+    sym (length-take-le (args .n * args .width) (args .table .now) (omega (arith, no .if2 .left)))
+
 loop-holds : tie.Need-loop-holds Inv-loop μ-loop
 loop-holds c = (omega arith, length-replicate {A = ℕ} 1024 0, ordered-none _ _, none-none _)
 
--- a turn: record i and its place in the table
-module _ (h : tie.In-loop Inv-loop μ-loop) where
+-- at the loop's test: the table has the records, and they are by themselves
+module _ (l : tie.At-loop Inv-loop μ-loop) where
+  abbrev no : tie.Else2 Inv-loop μ-loop
+  no = l .before .before
+
   abbrev start : tie.Start Inv-loop μ-loop
-  start = h .before .before .before .before .before
+  start = no .before .before .before
+
+  abbrev width : ℕ
+  width = start .args .width
+
+  abbrev n : ℕ
+  n = start .args .n
+
+  abbrev records : List ℕ
+  records = take (n * width) (start .args .table .now)
+
+  many : n ≤ 1024
+  many = omega (arith, no .before .if1 .left)
+
+  whole : n * width ≤ length records
+  whole = omega (arith, length-take-le (n * width) (start .args .table .now) (omega (arith, no .if2 .left)))
+
+  -- what holds of them holds of the table
+  of-table : distinct width records n ≡ distinct width (start .args .table .now) n
+  of-table = front-distinct width n (start .args .table .now) (omega (arith, no .if2 .left))
 
   abbrev thing : ℕ → List ℕ
-  thing = recordAt (start .args .width) (start .args .table .now)
+  thing = recordAt width records
+
+-- a turn: record i and its place in the table
+module _ (h : tie.In-loop Inv-loop μ-loop) where
+  abbrev at-loop : tie.At-loop Inv-loop μ-loop
+  at-loop = h .before
 
   abbrev i : ℕ
-  i = h .before .loop .i
+  i = at-loop .loop .i
 
   few : i < 1024
-  few = omega (arith, h .before .before .before .if1 .left)
+  few = omega (arith, many at-loop)
 
-  fits : (k : ℕ) → k < start .args .n → k * start .args .width + start .args .width ≤ length (start .args .table .now)
-  fits k l = record-fits (start .args .width) (start .args .n) k (start .args .table .now) l (h .before .before .if2 .left)
+  fits : (k : ℕ) → k < n at-loop → k * width at-loop + width at-loop ≤ length (records at-loop)
+  fits k l = record-fits (width at-loop) (n at-loop) k (records at-loop) l (whole at-loop)
 
 place-requires : tie.Need-place-requires Inv-loop μ-loop
 place-requires c κs = (few (c .before), fits (c .before) (i (c .before)) (omega arith), c .before .before .loop .inv .2)
@@ -85,11 +124,11 @@ array-read-j c = omega (arith, few (turn (c .before)))
 cast-j : tie.Need-cast-j Inv-loop μ-loop
 cast-j c = omega (arith, few (turn (c .before)), known (c .before) (omega (arith, c .if3 .taken)))
 
-record-requires : tie.Need-record-requires Inv-loop μ-loop
-record-requires c κs = let h = turn (c .before) in fits h (i h) (omega arith)
+record-at-requires : tie.Need-record-at-requires Inv-loop μ-loop
+record-at-requires c κs = tt
 
-record-requires-2 : tie.Need-record-requires-2 Inv-loop μ-loop
-record-requires-2 c κs = let p = c .before .before in fits (turn p) (getD (order p) (at p) 0) (omega (arith, known p (omega (arith, c .before .if3 .taken))))
+record-at-requires-2 : tie.Need-record-at-requires-2 Inv-loop μ-loop
+record-at-requires-2 c κs = tt
 
 same-requires : tie.Need-same-requires Inv-loop μ-loop
 same-requires c κs = tt
@@ -98,16 +137,16 @@ returns-3 : tie.Need-returns-3 Inv-loop μ-loop
 returns-3 c =
     let p = c .before .before .before .before .before in
     let h = turn p in
-    let args = start h .args in
+    let l = at-loop h in
     let met = known p (omega (arith, c .before .before .before .before .if3 .taken)) in
-    let equal : sameBytes (thing h (i h)) (thing h (getD (order p) (at p) 0)) ≡ true =
-    rw (← c .before .before .before .record .ensures, ← c .before .before .record2 .ensures) (sym (c .before .same .ensures) ∙ c .if4 .taken)
+    let equal : sameBytes (thing l (i h)) (thing l (getD (order p) (at p) 0)) ≡ true =
+    rw (← c .before .before .before .record-at .ensures, ← c .before .before .record-at2 .ensures) (sym (c .before .same .ensures) ∙ c .if4 .taken)
     in
-    sym (distinct-twice (args .width) (args .table .now) (args .n) (omega (arith, h .before .before .before .if1 .left)) (h .before .before .if2 .left) (i h) (omega arith)
-    (all-fails (λ j. not (sameBytes (thing h (i h)) (thing h j))) (i h) (getD (order p) (at p) 0) met (rw equal refl)))
+    sym (sym (of-table l) ∙ distinct-twice (width l) (records l) (n l) (many l) (whole l) (i h) (omega arith)
+    (all-fails (λ j. not (sameBytes (thing l (i h)) (thing l j))) (i h) (getD (order p) (at p) 0) met (rw equal refl)))
 
 -- record i differs from the one at its place
-differ : (c : tie.Joined3 Inv-loop μ-loop) → at (c .before) < i (turn (c .before)) → sameBytes (thing (turn (c .before)) (i (turn (c .before)))) (thing (turn (c .before)) (getD (order (c .before)) (at (c .before)) 0)) ≡ false
+differ : (c : tie.Joined3 Inv-loop μ-loop) → at (c .before) < i (turn (c .before)) → sameBytes (thing (at-loop (turn (c .before))) (i (turn (c .before)))) (thing (at-loop (turn (c .before))) (getD (order (c .before)) (at (c .before)) 0)) ≡ false
 differ c l =
     ⊎-elim
     (λ w. rw (← w .1 .ensures, ← w .2 .ensures) (sym (w .3 .ensures) ∙ w .4 .left))
@@ -126,7 +165,7 @@ add-i c = omega (arith, few (turn (c .before .before .before)))
 loop-less : tie.Need-loop-less Inv-loop μ-loop
 loop-less c =
     let h = turn (c .before .before .before) in
-    falls (start h .args .n) (i h) (h .loop-test .taken)
+    falls (n (at-loop h)) (i h) (h .loop-test .taken)
 
 loop-again : tie.Need-loop-again Inv-loop μ-loop
 loop-again c =
@@ -136,14 +175,14 @@ loop-again c =
     let v = h .before .loop in (
       omega arith,
       c .insert .ensures .long ∙ v .inv .1,
-      ordered-more (thing h) (order p) (i h) (at p) (v .inv .2) (p .place .ensures) (c .insert .last .0) (c .insert .ensures) (differ joined),
-      none-more (λ i j. sameBytes (thing h i) (thing h j)) (i h) (v .inv .3) (differs-all (thing h) (order p) (i h) (at p) (v .inv .2) (p .place .ensures) (differ joined)),
+      ordered-more (thing (at-loop h)) (order p) (i h) (at p) (v .inv .2) (p .place .ensures) (c .insert .last .0) (c .insert .ensures) (differ joined),
+      none-more (λ i j. sameBytes (thing (at-loop h) i) (thing (at-loop h) j)) (i h) (v .inv .3) (differs-all (thing (at-loop h)) (order p) (i h) (at p) (v .inv .2) (p .place .ensures) (differ joined)),
     )
 
 returns-4 : tie.Need-returns-4 Inv-loop μ-loop
 returns-4 c =
-    let args = c .before .before .before .before .before .args in
-    sym (distinct-all (args .width) (args .table .now) (args .n) (omega (arith, c .before .before .before .if1 .left)) (c .before .before .if2 .left) (c .before .loop .i) (omega arith) (c .before .loop .inv .3))
+    let l = c .before in
+    sym (sym (of-table l) ∙ distinct-all (width l) (records l) (n l) (many l) (whole l) (l .loop .i) (omega arith) (l .loop .inv .3))
 
 pub are-distinct-spec : {M : Type 1} → statement M
 are-distinct-spec =
@@ -154,13 +193,15 @@ are-distinct-spec =
     returns
     mul-if2
     returns-2
+    mul-records
+    slice-aggregate-records
     loop-holds
     place-requires
     mul-j
     array-read-j
     cast-j
-    record-requires
-    record-requires-2
+    record-at-requires
+    record-at-requires-2
     same-requires
     returns-3
     cast-insert

@@ -1,13 +1,13 @@
 -- `table_distinct_sorted::place` meets its contract: what is in front of `low` stands before record i, and what is from `high` on does not.
 use Prim.Native.Nat.{ℕ, _+_, _-_, _/_, _<_}
-use mathlib.Core.Path.{_≡_, sym, ap, _∙_}
+use mathlib.Core.Path.{_≡_, sym, _∙_}
 use mathlib.Core.List.{List}
 use native.Mathlib.Omega.{arith}
 use lib.ListN.{length, getD}
 use Rattle.table_records.specs.Records.{recordAt}
 use Rattle.table_records.proofs.Records.{record-fits, length-record}
 use Rattle.table_distinct_sorted.specs.WorkingOrder.{before}
-use Rattle.table_distinct_sorted.proofs.Order.{Halved, halved-start, halved-low, halved-high, halved-end}
+use Rattle.table_distinct_sorted.proofs.Order.{one-length, Halved, halved-start, halved-low, halved-high, halved-end}
 use Rattle.table_distinct_sorted.proofs.place.Statement.{statement}
 use Rattle.table_distinct_sorted.proofs.place.Tie as tie
 
@@ -58,28 +58,30 @@ element-copy-out-j c = omega (arith, within c, start c .pre .0)
 cast-j : tie.Need-cast-j Inv-loop μ-loop
 cast-j c = omega (arith, known (c .before), start (c .before) .pre .0)
 
-record-requires : tie.Need-record-requires Inv-loop μ-loop
-record-requires c κs =
-    let h = c .before in
-    record-fits (width h) (start h .args .i) (j h) (table h) (known h) (omega (arith, start h .pre .1))
+record-at-requires : tie.Need-record-at-requires Inv-loop μ-loop
+record-at-requires c κs = tt
 
-record-requires-2 : tie.Need-record-requires-2 Inv-loop μ-loop
-record-requires-2 c κs = start (c .before .before) .pre .1
+record-at-requires-2 : tie.Need-record-at-requires-2 Inv-loop μ-loop
+record-at-requires-2 c κs = tt
 
 is-before-requires : tie.Need-is-before-requires Inv-loop μ-loop
-is-before-requires c κs =
-    let h = c .before .before .before in
-    let fits = record-fits (width h) (start h .args .i) (j h) (table h) (known h) (omega (arith, start h .pre .1)) in
-    ap length (c .before .record .ensures) ∙ length-record (width h) (j h) (table h) fits
-    ∙ sym (ap length (c .record2 .ensures) ∙ length-record (width h) (start h .args .i) (table h) (start h .pre .1))
+is-before-requires c κs = tt
 
 -- what the call says of the two records
 module _ (c : tie.After-is-before Inv-loop μ-loop) where
   abbrev turn : tie.In-loop Inv-loop μ-loop
   turn = c .before .before .before .before
 
+  -- both are whole
+  alike : length (recordAt (width turn) (table turn) (j turn)) ≡ length (recordAt (width turn) (table turn) (start turn .args .i))
+  alike =
+      let fits = record-fits (width turn) (start turn .args .i) (j turn) (table turn) (known turn) (omega (arith, start turn .pre .1)) in
+      length-record (width turn) (j turn) (table turn) fits ∙ sym (length-record (width turn) (start turn .args .i) (table turn) (start turn .pre .1))
+
   said : c .is-before .result ≡ before (recordAt (width turn) (table turn) (j turn)) (recordAt (width turn) (table turn) (start turn .args .i))
-  said = rw (← c .before .before .record .ensures, ← c .before .record2 .ensures) (c .is-before .ensures)
+  said =
+      rw (← c .before .before .record-at .ensures, ← c .before .record-at2 .ensures) (c .is-before .ensures)
+      ∙ one-length (recordAt (width turn) (table turn) (j turn)) (recordAt (width turn) (table turn) (start turn .args .i)) alike
 
 add-low : tie.Need-add-low Inv-loop μ-loop
 add-low c = omega (arith, within (turn (c .before)), start (turn (c .before)) .pre .0)
@@ -117,8 +119,8 @@ place-spec =
     mul-j
     element-copy-out-j
     cast-j
-    record-requires
-    record-requires-2
+    record-at-requires
+    record-at-requires-2
     is-before-requires
     add-low
     loop-less

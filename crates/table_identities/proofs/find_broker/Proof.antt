@@ -23,8 +23,8 @@ loop-holds c =
     let args = c .before .before .args in
     (omega arith, refl, rw sub-zero (sym (broker-is (args .identities .now) (args .route .now))))
 
-identity-at-requires : tie.Need-identity-at-requires Inv-loop μ-loop
-identity-at-requires c κs = omega arith
+record-at-requires : tie.Need-record-at-requires Inv-loop μ-loop
+record-at-requires c κs = tt
 
 is-same-requires : tie.Need-is-same-requires Inv-loop μ-loop
 is-same-requires c κs = tt
@@ -35,7 +35,7 @@ returns c =
     let args = at-loop .before .before .before .args in
     let p : ℕ → Bool = λ rank. sameIdentity (identityAt (args .identities .now) rank) (args .route .now) in
     sym (first-hit p (length (args .identities .now) / 37) (at-loop .loop .broker) (c .before .before .before .loop-test .taken)
-    (rw (← c .before .before .identity-at .ensures) (sym (c .before .is-same .ensures) ∙ c .if1 .taken))) ∙ at-loop .loop .inv .2
+    (rw (← c .before .before .record-at .ensures) (sym (c .before .is-same .ensures) ∙ c .if1 .taken))) ∙ at-loop .loop .inv .2
 
 add-broker : tie.Need-add-broker Inv-loop μ-loop
 add-broker c = omega arith
@@ -51,7 +51,7 @@ loop-again c =
       omega arith,
       refl,
       sym (first-miss p (length (args .identities .now) / 37) (at-loop .loop .broker) (c .before .before .before .loop-test .taken)
-          (rw (← c .before .before .identity-at .ensures) (sym (c .before .is-same .ensures) ∙ c .if1 .left))) ∙ at-loop .loop .inv .2,
+          (rw (← c .before .before .record-at .ensures) (sym (c .before .is-same .ensures) ∙ c .if1 .left))) ∙ at-loop .loop .inv .2,
     )
 
 returns-2 : tie.Need-returns-2 Inv-loop μ-loop
@@ -67,7 +67,7 @@ find-broker-spec =
     Inv-loop
     μ-loop
     loop-holds
-    identity-at-requires
+    record-at-requires
     is-same-requires
     returns
     add-broker

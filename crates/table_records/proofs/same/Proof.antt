@@ -5,7 +5,7 @@ use native.Mathlib.Omega.{arith}
 use lib.ListN.{length, drop}
 use Rattle.table_records.specs.Bytes.{sameBytes}
 use Rattle.table_records.proofs.Bytes.{same-at, differ-at, same-end, same-lengths}
-use Rattle.table_records.proofs.Front.{same-front}
+use Rattle.table_records.proofs.Front.{same-front, front-is}
 use Rattle.table_records.proofs.same.Statement.{statement}
 use Rattle.table_records.proofs.same.Tie as tie
 
@@ -24,7 +24,7 @@ equal-front-requires c κs = tt
 loop-holds : tie.Need-loop-holds Inv-loop μ-loop
 loop-holds c =
     let args = c .before .before .before .before .args in
-    let front = c .equal-front .ensures in
+    let front = front-is (args .a .now) (args .b .now) (c .equal-front .ensures) in
     (front .fits, same-front (c .equal-front .result) (args .a .now) (args .b .now) (front .fits) (front .fits-other) (front .equal))
 
 shared-slice-read-if2 : tie.Need-shared-slice-read-if2 Inv-loop μ-loop

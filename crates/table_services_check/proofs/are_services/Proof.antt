@@ -41,8 +41,8 @@ ranks-in-requires c κs = tt
 loop-holds : tie.Need-loop-holds Inv-loop μ-loop
 loop-holds c = (omega arith, c .ranks-in .ensures, sym (services-are _), all-none _)
 
-service-at-requires : tie.Need-service-at-requires Inv-loop μ-loop
-service-at-requires c κs = omega arith
+record-at-requires : tie.Need-record-at-requires Inv-loop μ-loop
+record-at-requires c κs = tt
 
 is-service-requires : tie.Need-is-service-requires Inv-loop μ-loop
 is-service-requires c κs = tt
@@ -54,7 +54,7 @@ returns-3 c =
     let i = at-loop .loop .i in
     let whole = whole-row (ranksIn (args .tree .now)) (serviceAt (args .services .now) i) (length-record 32 i (args .services .now) (omega arith)) in
     sym (bad-one (args .tree .now) (args .services .now) i (omega (arith, at-loop .loop .inv .2))
-    (sym whole ∙ rw (← c .before .before .service-at .ensures, ← at-loop .loop .inv .1) (sym (c .before .is-service .ensures) ∙ not-true _ (c .if3 .taken))))
+    (sym whole ∙ rw (← c .before .before .record-at .ensures, ← at-loop .loop .inv .1) (sym (c .before .is-service .ensures) ∙ not-true _ (c .if3 .taken))))
 
 add-i : tie.Need-add-i Inv-loop μ-loop
 add-i c = omega arith
@@ -72,7 +72,7 @@ loop-again c =
       at-loop .loop .inv .1,
       at-loop .loop .inv .2,
       all-more _ i ∙ both (at-loop .loop .inv .3)
-          (sym whole ∙ rw (← c .before .before .service-at .ensures, ← at-loop .loop .inv .1) (sym (c .before .is-service .ensures) ∙ not-false _ (c .if3 .left))),
+          (sym whole ∙ rw (← c .before .before .record-at .ensures, ← at-loop .loop .inv .1) (sym (c .before .is-service .ensures) ∙ not-false _ (c .if3 .left))),
     )
 
 cast-are-distinct : tie.Need-cast-are-distinct Inv-loop μ-loop
@@ -103,7 +103,7 @@ are-services-spec =
     returns-2
     ranks-in-requires
     loop-holds
-    service-at-requires
+    record-at-requires
     is-service-requires
     returns-3
     add-i

@@ -9,7 +9,7 @@ use Rattle.table_records.proofs.Records.{length-record}
 use Rattle.table_records.proofs.Search.{first-hit, first-miss, first-end}
 use Rattle.table_services.specs.Services.{serviceAt}
 use Rattle.table_services_find.specs.Lookup.{registers, registeredAs}
-use Rattle.table_services_find.proofs.Lookup.{row-is, length-whole, search-start}
+use Rattle.table_services_find.proofs.Lookup.{length-whole, search-start}
 use Rattle.table_services_find.proofs.find_service.Statement.{statement}
 use Rattle.table_services_find.proofs.find_service.Tie as tie
 
@@ -31,26 +31,14 @@ loop-holds c =
       search-start (args .services .now) (args .rank) (args .service .now) (c .whole-or-none .result .now) (c .whole-or-none .ensures),
     )
 
-mul-at : tie.Need-mul-at Inv-loop μ-loop
-mul-at c = omega arith
-
-add-is-registered : tie.Need-add-is-registered Inv-loop μ-loop
-add-is-registered c = omega arith
-
-sub-is-registered : tie.Need-sub-is-registered Inv-loop μ-loop
-sub-is-registered c = omega arith
-
-part-is-registered-start : tie.Need-part-is-registered-start Inv-loop μ-loop
-part-is-registered-start c = omega arith
-
-part-is-registered-end : tie.Need-part-is-registered-end Inv-loop μ-loop
-part-is-registered-end c = omega arith
+record-at-requires : tie.Need-record-at-requires Inv-loop μ-loop
+record-at-requires c κs = tt
 
 is-registered-requires : tie.Need-is-registered-requires Inv-loop μ-loop
 is-registered-requires c κs =
     let at-loop = c .before .before in
     let services = at-loop .before .before .before .before .args .services .now in
-    (rw (row-is services (at-loop .loop .i)) (length-record 32 (at-loop .loop .i) services (omega arith)), at-loop .loop .inv .2)
+    (rw (c .record-at .ensures) (length-record 32 (at-loop .loop .i) services (omega arith)), at-loop .loop .inv .2)
 
 returns : tie.Need-returns Inv-loop μ-loop
 returns c =
@@ -58,7 +46,7 @@ returns c =
     let args = at-loop .before .before .before .before .args in
     let p : ℕ → Bool = λ i. registers (serviceAt (args .services .now) i) (args .rank) (at-loop .before .whole-or-none .result .now) in
     sym (first-hit p (length (args .services .now) / 32) (at-loop .loop .i) (c .before .before .before .loop-test .taken)
-    (rw (← row-is (args .services .now) (at-loop .loop .i)) (sym (c .before .is-registered .ensures) ∙ c .if1 .taken))) ∙ at-loop .loop .inv .3
+    (rw (← c .before .before .record-at .ensures) (sym (c .before .is-registered .ensures) ∙ c .if1 .taken))) ∙ at-loop .loop .inv .3
 
 add-i : tie.Need-add-i Inv-loop μ-loop
 add-i c = omega arith
@@ -75,7 +63,7 @@ loop-again c =
       refl,
       at-loop .loop .inv .2,
       sym (first-miss p (length (args .services .now) / 32) (at-loop .loop .i) (c .before .before .before .loop-test .taken)
-          (rw (← row-is (args .services .now) (at-loop .loop .i)) (sym (c .before .is-registered .ensures) ∙ c .if1 .left))) ∙ at-loop .loop .inv .3,
+          (rw (← c .before .before .record-at .ensures) (sym (c .before .is-registered .ensures) ∙ c .if1 .left))) ∙ at-loop .loop .inv .3,
     )
 
 returns-2 : tie.Need-returns-2 Inv-loop μ-loop
@@ -92,11 +80,7 @@ find-service-spec =
     μ-loop
     whole-or-none-requires
     loop-holds
-    mul-at
-    add-is-registered
-    sub-is-registered
-    part-is-registered-start
-    part-is-registered-end
+    record-at-requires
     is-registered-requires
     returns
     add-i

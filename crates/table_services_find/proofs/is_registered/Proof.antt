@@ -14,25 +14,13 @@ returns c =
     let args = c .before .before .before .args in
     sym (empty-never (args .row .now) (args .rank) (args .service .now) (omega arith))
 
-shared-slice-read-number-of : tie.Need-shared-slice-read-number-of
-shared-slice-read-number-of c = search needs
-
-shared-slice-read-number-of-2 : tie.Need-shared-slice-read-number-of-2
-shared-slice-read-number-of-2 c = search needs
-
-shared-slice-read-number-of-3 : tie.Need-shared-slice-read-number-of-3
-shared-slice-read-number-of-3 c = search needs
-
-shared-slice-read-number-of-4 : tie.Need-shared-slice-read-number-of-4
-shared-slice-read-number-of-4 c = search needs
-
-number-of-requires : tie.Need-number-of-requires
-number-of-requires c κs = search needs
+number-at-requires : tie.Need-number-at-requires
+number-at-requires c κs = search needs
 
 returns-2 : tie.Need-returns-2
 returns-2 c =
-    let args = c .before .before .before .before .before .before .before .before .before .args in
-    sym (other-rank (args .row .now) (args .rank) (args .service .now) (λ e. omega (arith, c .before .number-of .ensures, c .if2 .taken)))
+    let args = c .before .before .before .before .before .args in
+    sym (other-rank (args .row .now) (args .rank) (args .service .now) (λ e. omega (arith, c .before .number-at .ensures, c .if2 .taken)))
 
 shared-slice-read-wide : tie.Need-shared-slice-read-wide
 shared-slice-read-wide c = search needs
@@ -45,7 +33,7 @@ cast-if3 c = search needs
 
 returns-3 : tie.Need-returns-3
 returns-3 c =
-    let args = c .before .before .before .before .before .before .before .before .before .before .before .before .args in
+    let args = c .before .before .before .before .before .before .before .before .args in
     sym (other-length (args .row .now) (args .rank) (args .service .now) (λ e. omega (arith, c .before .wide .ensures, c .if3 .taken)))
 
 add-same : tie.Need-add-same
@@ -65,23 +53,19 @@ same-requires c κs = search needs
 
 returns-4 : tie.Need-returns-4
 returns-4 c =
-    let args = c .before .before .before .before .before .before .before .before .before .before .before .before .before .before .args in
+    let args = c .before .before .before .before .before .before .before .before .before .before .args in
     let size : 5 + length (args .service .now) - 5 ≡ length (args .service .now) = omega arith in
     let whole : nameLength (args .row .now) ≡ length (args .service .now) = omega (arith, c .before .before .before .wide .ensures, c .before .before .if3 .left) in
     c .same .ensures
     ∙ rw size
-    (sym (rest-same (args .row .now) (args .rank) (args .service .now) (omega arith) (omega (arith, c .before .before .before .before .before .before .number-of .ensures, c .before .before .before .before .before .if2 .left)) whole))
+    (sym (rest-same (args .row .now) (args .rank) (args .service .now) (omega arith) (omega (arith, c .before .before .before .before .before .before .number-at .ensures, c .before .before .before .before .before .if2 .left)) whole))
 
 pub is-registered-spec : {M : Type 1} → statement M
 is-registered-spec =
     tie.close
     (tie.spec
     returns
-    shared-slice-read-number-of
-    shared-slice-read-number-of-2
-    shared-slice-read-number-of-3
-    shared-slice-read-number-of-4
-    number-of-requires
+    number-at-requires
     returns-2
     shared-slice-read-wide
     wide-requires

@@ -1,11 +1,10 @@
--- `table_tree::depth_of` meets its contract.
-use Rattle.table_tree.proofs.Depths.{climb-turn, climb-stop, climb-end}
 -- `table_tree::depth_of` meets its contract: what was climbed and what is still to climb is the depth.
 use mathlib.Core.Path.{_≡_, _∙_}
 use Prim.Native.Nat.{_+_, _-_, _≤_}
 use borrow.Author.Needs.{needs}
 use native.Mathlib.Omega.{arith}
 use Rattle.table_tree.specs.Depths.{climbs}
+use Rattle.table_tree.proofs.Depths.{climb-turn, climb-stop, climb-end}
 use Rattle.table_tree.proofs.depth_of.Statement.{statement}
 use Rattle.table_tree.proofs.depth_of.Tie as tie
 

@@ -11,7 +11,7 @@ use Rattle.step_routing.specs.Routed.{Tables, Outcome, tablesOf}
 use Rattle.step_pass.specs.Step.{stepOf}
 use Rattle.call_step_record.specs.WorkingRows.{refusalIn}
 use Rattle.call_specs.specs.Calls.{hostBroker}
-use Rattle.call_specs.proofs.StepCalls.{step-short, step-on, tells-on, tells-refused, tells-no, tells-yes, frame-there}
+use Rattle.call_specs.proofs.StepCalls.{step-short, step-on, tells-on, tells-refused, tells-no, tells-yes}
 use Rattle.call_step.proofs.steps.step.Statement.{statement}
 use Rattle.call_step.proofs.steps.step.Tie as tie
 
@@ -65,10 +65,7 @@ returns-2 c = let d = c .before in
     (tells-no (answer d) (made d .step .ensures .told) (made d .step .ensures .leaves) (d .refusal-in .ensures) (λ e. omega (arith, c .if2 .taken)))
 
 frame-length-requires : tie.Need-frame-length-requires
-frame-length-requires c κs = let no = c .before .before in
-    let d = no .before in
-    let s = start d in
-    frame-there (tables s) (who s) (b s) (made d .step .ensures .told) (made d .step .ensures .leaves) (sym (d .refusal-in .ensures) ∙ omega (arith, no .if2 .left))
+frame-length-requires c κs = search needs
 
 step-row-requires : tie.Need-step-row-requires
 step-row-requires c κs = search needs

@@ -10,7 +10,7 @@ use Rattle.step_routing.specs.Routed.{Tables, tablesOf}
 use Rattle.walk.specs.Walk.{Walk, walkOf}
 use Rattle.call_step_record.specs.WorkingRows.{refusalIn}
 use Rattle.call_specs.specs.Calls.{hostBroker}
-use Rattle.call_specs.proofs.WalkCalls.{plays-short, plays-on, reports-no, reports-yes, walk-long}
+use Rattle.call_specs.proofs.WalkCalls.{plays-short, plays-on, reports-no, reports-yes}
 use Rattle.call_step.proofs.walks.walk.Statement.{statement}
 use Rattle.call_step.proofs.walks.walk.Tie as tie
 
@@ -74,11 +74,7 @@ returns-2 c = let put = c .before .before in
     (reports-no (walk d) (played d .walk .ensures) (d .refusal-in .ensures) (room d) (put .put-row .ensures) (λ e. omega (arith, no .if2 .taken)) (listed .walk-row .ensures))
 
 frame-length-requires : tie.Need-frame-length-requires
-frame-length-requires c κs = let yes = c .before .before in
-    let d = yes .before in
-    let s = start d in
-    let none : refusalIn (played d .walk .result .step) ≡ 0 = sym (d .refusal-in .ensures) ∙ omega (arith, yes .if2 .left) in
-    omega (arith, walk-long (tables s) (who s) (b s) (played d .walk .ensures) none, played d .walk .kept .1 .1 .1 .1 .0)
+frame-length-requires c κs = search needs
 
 walk-row-requires-2 : tie.Need-walk-row-requires-2
 walk-row-requires-2 c κs = search needs
