@@ -2,7 +2,8 @@
 ghost use mathlib.Core.Path.{_≡_};
 ghost use Prim.Native.Nat.{_+_, _≤_};
 ghost use lib.ListN.{length};
-ghost use Rattle.bytes_number.specs.Laid.{laid, laidIfRoom};
+ghost use Rattle.bytes_number.specs.Laid.{laid};
+ghost use Rattle.bytes_number.specs.WorkingLays.{laidIfRoom};
 
 // Copies a block of at most 32,768 bytes. It goes through an array of its own: as no slice can overlap that, the compiler makes one
 // move of memory of the two loops and of the array nothing, where a loop from slice to slice stays a loop.

@@ -10,7 +10,8 @@ use lib.ListN.{length, take, drop, set, length-append, length-drop}
 use lib.Seq.{take-at, drop-at, drop-drop}
 use borrow.Rule.Slice.PartAt.{part-to-end}
 use borrow.Rule.Slice.PartMut.{midOf, putMid, same-len-mid}
-use Rattle.bytes_number.specs.Laid.{laid, laidIfRoom, laidCount}
+use Rattle.bytes_number.specs.Laid.{laid}
+use Rattle.bytes_number.specs.WorkingLays.{laidIfRoom, laidCount}
 
 pub laid-room : (xs out : List ℕ) → length xs ≤ length out → laidIfRoom xs out ≡ laid xs out
 laid-room xs out h = simp (le-leb _ _ h)

@@ -8,9 +8,9 @@ use lib.ListN.{length, drop, set, length-append, length-drop, drop-of-length-le}
 use lib.Seq.{set-append-seam, drop-cons}
 use borrow.Rule.Slice.PartAt.{part-to-end}
 use borrow.Rule.Slice.PartMut.{midOf, putMid}
-use Rattle.bytes_number.specs.Laid.{laid, laidIfRoom, laidCount}
+use Rattle.bytes_number.specs.Laid.{laid}
+use Rattle.bytes_number.specs.WorkingLays.{laidIfRoom, laidCount, Lays}
 use Rattle.bytes_number.proofs.Buffers.{laid-room, count-room, length-laid, laid-more}
-use Rattle.bytes_number.specs.WorkingLays.{Lays}
 
 pub lays-none : (out : List ℕ) → Lays [] out out 0
 lays-none out = record { told = refl; bytes = refl }

@@ -9,8 +9,8 @@ use lib.ListN.{length, getD, take, drop, length-append}
 use lib.Seq.{take-suc, take-length, length-take-le, drop-drop}
 use borrow.Rule.Slice.PartMut.{midOf, putMid}
 use Rattle.bytes_number.specs.Number.{number, four, rowBytes}
-use Rattle.bytes_number.specs.Laid.{laid, laidIfRoom}
-use Rattle.bytes_number.specs.WorkingLays.{Lays}
+use Rattle.bytes_number.specs.Laid.{laid}
+use Rattle.bytes_number.specs.WorkingLays.{laidIfRoom, Lays}
 use Rattle.bytes_number.proofs.Numbers.{number-four}
 use Rattle.bytes_number.proofs.Buffers.{laid-room}
 use Rattle.bytes_number.proofs.Laying.{lays-none, lays-leaf, lays-length}

@@ -3,7 +3,7 @@ ghost use mathlib.Core.Path.{_≡_};
 ghost use mathlib.Core.List.{_∷_, []};
 ghost use lib.ListN.{getD, drop};
 ghost use Rattle.bytes_number.specs.Number.{number, four, rowBytes};
-ghost use Rattle.bytes_number.specs.Laid.{laidIfRoom};
+ghost use Rattle.bytes_number.specs.WorkingLays.{laidIfRoom};
 
 // A byte as a wider number. A call of its own, so that a byte read from a slice carries its range along.
 pub fn wide(x: u8) -> u32

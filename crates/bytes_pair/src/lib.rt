@@ -3,7 +3,7 @@ ghost use mathlib.Core.Path.{_≡_};
 ghost use mathlib.Core.List.{_++_};
 ghost use Prim.Native.Nat.{_+_, _*_, _/_, _%_};
 ghost use Rattle.bytes_number.specs.Number.{four};
-ghost use Rattle.bytes_number.specs.Laid.{laidIfRoom};
+ghost use Rattle.bytes_number.specs.WorkingLays.{laidIfRoom};
 
 // Writes the eight bytes of w to the front of out, if there is room for them.
 fn put_eight(out: &mut [u8], w: usize)

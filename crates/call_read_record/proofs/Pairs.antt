@@ -7,7 +7,7 @@ use lib.ListN.{length, getD, take, length-append}
 use lib.Seq.{length-take-le}
 use borrow.Rule.Slice.PartMut.{midOf, putMid}
 use Rattle.bytes_number.specs.Number.{four, rowBytes}
-use Rattle.bytes_number.specs.Laid.{laidIfRoom}
+use Rattle.bytes_number.specs.WorkingLays.{laidIfRoom}
 use Rattle.bytes_number.proofs.Laying.{lays-leaf}
 use Rattle.bytes_number.proofs.Rows.{Rowed, row-length, row-more}
 

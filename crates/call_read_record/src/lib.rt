@@ -2,7 +2,7 @@
 use frame_layout::Layout;
 ghost use mathlib.Core.Path.{_≡_};
 ghost use Rattle.bytes_number.specs.Number.{rowBytes};
-ghost use Rattle.bytes_number.specs.Laid.{laidIfRoom};
+ghost use Rattle.bytes_number.specs.WorkingLays.{laidIfRoom};
 ghost use Rattle.call_read_record.specs.Rows.{readRow};
 
 // Writes a row of numbers to the front of out, four bytes each, if there is room for all of them. Two numbers are one store of eight bytes, which a long

@@ -11,7 +11,8 @@ use Rattle.frame_message.specs.Message.{Message}
 use Rattle.frame_message.specs.Reading.{readingOf}
 use Rattle.frame_layout.specs.declared.Layout.{Layout}
 use Rattle.frame_layout.specs.declared.Reading.the-variants.{Refused, Accepted}
-use Rattle.frame_layout.specs.Layout.{readAs, layoutOf}
+use Rattle.frame_layout.specs.Layout.{layoutOf}
+use Rattle.frame_layout.specs.WorkingPlacing.{readAs}
 use Rattle.frame_body.proofs.Readings.{refused-read, accepted-read}
 use Rattle.call_read_record.specs.Rows.{readRow}
 use Rattle.refusal.proofs.Answers.{passed, both}

@@ -6,7 +6,7 @@ use native.Mathlib.Omega.{arith}
 use borrow.Author.Tests.{lt-ltb, le-ltb}
 use lib.ListN.{length, replicate, length-append, length-replicate}
 use Rattle.bytes_number.specs.Number.{rowBytes}
-use Rattle.bytes_number.specs.Laid.{laidIfRoom}
+use Rattle.bytes_number.specs.WorkingLays.{laidIfRoom}
 use Rattle.bytes_number.proofs.Rows.{row-length}
 use Rattle.bytes_number.proofs.Buffers.{laid-room}
 use Rattle.refusal.specs.declared.Refusal.{Refusal}

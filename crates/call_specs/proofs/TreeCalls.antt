@@ -11,7 +11,8 @@ use Rattle.refusal.specs.Answer.{Answer, refused, answered}
 use Rattle.refusal.proofs.Answers.{not-answered, answered-same, passed}
 use Rattle.table_tree.specs.Tree.{ranksIn}
 use Rattle.table_tree.specs.Depths.{treeGood, depthsOf}
-use Rattle.table_tree_check.specs.Checking.{depthsInto, howMany}
+use Rattle.table_tree_check.specs.Checking.{depthsInto}
+use Rattle.table_tree_check.specs.Working.{howMany}
 use Rattle.call_specs.specs.Calls.{returned, treeCall, wrote}
 use Rattle.call_specs.proofs.Telling.{done}
 

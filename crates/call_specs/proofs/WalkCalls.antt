@@ -8,7 +8,7 @@ use borrow.Author.Tests.{ltb-true, ltb-false}
 use lib.Dec.{ltb}
 use lib.ListN.{length, length-append}
 use Rattle.bytes_number.specs.Number.{rowBytes}
-use Rattle.bytes_number.specs.Laid.{laidIfRoom}
+use Rattle.bytes_number.specs.WorkingLays.{laidIfRoom}
 use Rattle.bytes_number.proofs.Truth.{outcome}
 use Rattle.bytes_number.proofs.Rows.{row-length}
 use Rattle.bytes_number.proofs.Buffers.{laid-room}

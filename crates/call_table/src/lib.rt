@@ -2,7 +2,7 @@
 use refusal::Refusal;
 use table_tree_check::Checked;
 ghost use mathlib.Core.Path.{_≡_};
-ghost use Rattle.table_tree_check.specs.Checking.{told};
+ghost use Rattle.table_tree_check.specs.Working.{told};
 ghost use Rattle.table_services.specs.Services;
 ghost use Rattle.table_identities.specs.Identities;
 ghost use Rattle.call_specs.specs.Calls.{returned, ChecksTree};

@@ -7,7 +7,8 @@ use Rattle.refusal.specs.Answer.{Answer, refused, answered}
 use Rattle.frame_message.specs.Message.{Message}
 use Rattle.frame_layout.specs.declared.Layout.{Layout}
 use Rattle.frame_layout.specs.declared.Reading.the-variants.{Refused, Accepted}
-use Rattle.frame_layout.specs.Layout.{readAs, layoutOf}
+use Rattle.frame_layout.specs.Layout.{layoutOf}
+use Rattle.frame_layout.specs.WorkingPlacing.{readAs}
 
 never : {r : Refusal} {f : Layout} → Refused r ≡ Accepted f → ⊥
 never e = let z : _≡_ {A = ℕ} 0 1 = cc in omega arith

@@ -19,7 +19,7 @@ ghost use lib.ListN.{length, take, drop};
 ghost use Rattle.refusal.specs.Answer.{andThen};
 ghost use Rattle.frame_message.specs.Writing.{allRoutes};
 ghost use Rattle.frame_message.specs.Reading.{partsIn, front, judged, judgedAs};
-ghost use Rattle.frame_layout.specs.Layout.{readAs};
+ghost use Rattle.frame_layout.specs.WorkingPlacing.{readAs};
 ghost use Rattle.frame_body.specs.WorkingJudging.{partsFound, Found, stretchAt, pieceIf, Within, topicWrong, CountsOf, Headed, Sorted};
 
 // The most parts that a body has: 64 routes, the delimiter, the topic, the payload and the header.

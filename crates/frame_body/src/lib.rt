@@ -3,7 +3,7 @@ use frame_layout::Reading;
 use judge::judge;
 use refusal::Refusal;
 ghost use mathlib.Core.Path.{_≡_};
-ghost use Rattle.frame_layout.specs.Layout.{readAs};
+ghost use Rattle.frame_layout.specs.WorkingPlacing.{readAs};
 ghost use Rattle.frame_body.specs.WorkingBody.{bodyReading};
 
 mod agree;

@@ -6,7 +6,7 @@ use mathlib.Core.List.{List, [], _∷_, _++_, append-nil}
 use borrow.Author.Tests.{eq-eqb, ne-eqb}
 use lib.ListN.{length, getD, drop, replicate}
 use Rattle.bytes_number.specs.Number.{number, rowBytes}
-use Rattle.bytes_number.specs.Laid.{laidIfRoom}
+use Rattle.bytes_number.specs.WorkingLays.{laidIfRoom}
 use Rattle.frame_message.specs.declared.Header.{Header}
 use Rattle.frame_message.specs.Header.{isKnown, headerBytes, headerIn, isHeader}
 use Rattle.frame_header.specs.declared.Head.the-variants.{Wrong, Fields}

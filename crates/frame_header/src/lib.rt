@@ -3,7 +3,7 @@ use frame_message::Header;
 ghost use mathlib.Core.Path.{_≡_};
 ghost use Prim.Native.Nat.{_≤_};
 ghost use lib.ListN.{length};
-ghost use Rattle.bytes_number.specs.Laid.{laidIfRoom, laidCount};
+ghost use Rattle.bytes_number.specs.WorkingLays.{laidIfRoom, laidCount};
 ghost use Rattle.frame_message.specs.Header.{headerBytes, headerIn};
 ghost use Rattle.frame_message.specs.Frame.{partBytes};
 ghost use Rattle.frame_header.specs.WorkingHead.{headAs};

@@ -3,15 +3,12 @@ use Prim.Native.Nat.{ℕ, _+_}
 use mathlib.Core.Bool.{Bool, cond}
 use mathlib.Core.List.{List, [], _∷_, _++_}
 use lib.ListN.{length, take, drop}
-use Rattle.refusal.specs.Answer.{Answer, refused, answered}
 use Rattle.frame_message.specs.Header.{hasTopic, hasPayload}
 use Rattle.frame_message.specs.Message.{Message}
 use Rattle.frame_message.specs.Frame.{sizeBytes, joined, routing, topicPart, frameOf}
 use Rattle.frame_message.specs.Writing.{isEmpty}
 use Rattle.frame_layout.specs.declared.Stretch.{Stretch}
 use Rattle.frame_layout.specs.declared.Layout.{Layout}
-use Rattle.frame_layout.specs.declared.Reading.{Reading}
-use Rattle.frame_layout.specs.declared.Reading.the-variants.{Refused, Accepted}
 
 -- a stretch of the caller's bytes
 abbrev pub stretch : List ℕ → ℕ → ℕ → List ℕ
@@ -36,8 +33,3 @@ layoutOf m =
       topic = stretchIf (hasTopic (m .header .flags)) (dataAt (routing m) (m .topic ++ (0 ∷ []))) (length (m .topic));
       payload = stretchIf (hasPayload (m .header .flags)) (dataAt (routing m ++ topicPart m) (m .payload)) (length (m .payload));
     }
-
--- the refusal, or where the message lies
-abbrev pub readAs : Answer Message → Reading
-readAs (refused r) = Refused r
-readAs (answered m) = Accepted (layoutOf m)

@@ -7,9 +7,13 @@ use Rattle.frame_forms.specs.Count.{one}
 use Rattle.frame_message.specs.declared.Header.{Header}
 use Rattle.frame_message.specs.Header.{hasTopic, hasPayload}
 use Rattle.frame_message.specs.Frame.{mostBody}
-use Rattle.frame_layout.specs.declared.Stretch.{Stretch}
 use Rattle.frame_layout.specs.declared.Layout.{Layout}
 use Rattle.frame_layout.specs.declared.Piece.{Piece}
+use Rattle.refusal.specs.Answer.{Answer, refused, answered}
+use Rattle.frame_message.specs.Message.{Message}
+use Rattle.frame_layout.specs.declared.Reading.{Reading}
+use Rattle.frame_layout.specs.declared.Reading.the-variants.{Refused, Accepted}
+use Rattle.frame_layout.specs.Layout.{layoutOf}
 
 -- behind the frame's eight bytes and the first route's size
 abbrev pub firstRoute : ℕ → ℕ
@@ -29,3 +33,8 @@ placedIn size h routes topic payload =
       topic = record { start = placeIf (hasTopic (h .flags)) (topic .at); len = topic .len - one (hasTopic (h .flags)) };
       payload = record { start = placeIf (hasPayload (h .flags)) (payload .at); len = payload .len };
     }
+
+-- the refusal, or where the message lies
+abbrev pub readAs : Answer Message → Reading
+readAs (refused r) = Refused r
+readAs (answered m) = Accepted (layoutOf m)

@@ -7,8 +7,7 @@ use lib.ListN.{length, set}
 use borrow.Author.Tests.{lt-ltb, le-ltb}
 use borrow.Rule.Slice.PartMut.{midOf, putMid}
 use Rattle.bytes_number.specs.Number.{four}
-use Rattle.bytes_number.specs.Laid.{laidIfRoom, laidCount}
-use Rattle.bytes_number.specs.WorkingLays.{Lays}
+use Rattle.bytes_number.specs.WorkingLays.{laidIfRoom, laidCount, Lays}
 use Rattle.bytes_number.proofs.Buffers.{laid-none, count-none}
 use Rattle.bytes_number.proofs.Laying.{lays-none, lays-byte, lays-leaf, lays-counted, counted-lays}
 use Rattle.frame_message.specs.Frame.{partBytes}

@@ -2,7 +2,7 @@
 use frame_part_size::LONG;
 ghost use mathlib.Core.Path.{_≡_};
 ghost use Rattle.frame_message.specs.Frame.{partBytes};
-ghost use Rattle.bytes_number.specs.Laid.{laidCount, laidIfRoom};
+ghost use Rattle.bytes_number.specs.WorkingLays.{laidCount, laidIfRoom};
 
 // Writes a part to the front of out, if there is room for it, and tells how many bytes it took; where there is none it tells 0. So the next
 // part can be lent what follows.

@@ -4,7 +4,7 @@ use frame_message::FRONT;
 use refusal::Refusal;
 ghost use mathlib.Core.Path.{_≡_};
 ghost use Rattle.frame_message.specs.Reading.{startsRight, readingOf};
-ghost use Rattle.frame_layout.specs.Layout.{readAs};
+ghost use Rattle.frame_layout.specs.WorkingPlacing.{readAs};
 
 // Whether a frame's four bytes stand in front. They are compared as one number, FF EE 00 12.
 fn starts_right(bytes: &[u8]) -> bool

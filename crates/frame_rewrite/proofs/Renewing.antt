@@ -11,9 +11,8 @@ use lib.Seq.{length-take-le, take-append-add, take-at, drop-at, drop-drop, take-
 use borrow.Rule.Slice.PartAt.{part-to-end}
 use borrow.Rule.Slice.PartMut.{midOf, putMid}
 use Rattle.bytes_number.specs.Number.{four, rowBytes}
-use Rattle.bytes_number.specs.Laid.{laidIfRoom}
+use Rattle.bytes_number.specs.WorkingLays.{laidIfRoom, Lays}
 use Rattle.bytes_number.proofs.Buffers.{laid-room, length-laid}
-use Rattle.bytes_number.specs.WorkingLays.{Lays}
 use Rattle.bytes_number.proofs.Laying.{lays-leaf, lays-length}
 use Rattle.frame_message.specs.declared.Header.{Header}
 use Rattle.frame_message.specs.Header.{headerBytes}

@@ -9,8 +9,7 @@ use lib.ListN.{length, take, drop, length-append, length-drop}
 use lib.Seq.{drop-drop, take-all}
 use borrow.Rule.Slice.PartMut.{midOf, putMid}
 use Rattle.bytes_number.specs.Number.{rowBytes, Bytes}
-use Rattle.bytes_number.specs.Laid.{laidIfRoom}
-use Rattle.bytes_number.specs.WorkingLays.{Lays}
+use Rattle.bytes_number.specs.WorkingLays.{laidIfRoom, Lays}
 use Rattle.bytes_number.proofs.Numbers.{bytes-drop}
 use Rattle.bytes_number.proofs.Rows.{row-length, row-append}
 use Rattle.bytes_number.proofs.Laying.{lays-none, lays-leaf, lays-length}

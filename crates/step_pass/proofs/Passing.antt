@@ -15,7 +15,8 @@ use Rattle.frame_message.specs.Reading.{readingOf}
 use Rattle.refusal.proofs.Answers.{answered-same, passed, both}
 use Rattle.frame_layout.specs.declared.Layout.{Layout}
 use Rattle.frame_layout.specs.declared.Reading.the-variants.{Accepted}
-use Rattle.frame_layout.specs.Layout.{readAs, layoutOf}
+use Rattle.frame_layout.specs.Layout.{layoutOf}
+use Rattle.frame_layout.specs.WorkingPlacing.{readAs}
 use Rattle.frame_body.proofs.Readings.{accepted-read}
 use Rattle.table_tree.specs.Tree.{ranksIn}
 use Rattle.table_tree.specs.Depths.{treeGood}

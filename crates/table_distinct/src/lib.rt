@@ -4,8 +4,8 @@ use table_records::MOST_RECORDS;
 ghost use mathlib.Core.Path.{_≡_};
 ghost use Prim.Native.Nat.{_+_, _*_, _%_, _<_, _≤_};
 ghost use lib.ListN.{length};
-ghost use Rattle.table_records.specs.Records.{mostRecords, distinct};
-ghost use Rattle.table_records.specs.Working.{fresh};
+ghost use Rattle.table_records.specs.Records.{mostRecords};
+ghost use Rattle.table_records.specs.Working.{distinct, fresh};
 ghost use Rattle.table_distinct.specs.WorkingChains.{stirred, mixOf, hashOf, hashAt, lastBelow, ChainLinked};
 ghost use Rattle.table_distinct.specs.WorkingSeen.{Sees};
 

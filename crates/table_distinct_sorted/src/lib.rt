@@ -6,7 +6,8 @@ ghost use mathlib.Core.Bool.{_&&_};
 ghost use lib.Dec.{eqb};
 ghost use Prim.Native.Nat.{_+_, _*_, _<_, _≤_};
 ghost use lib.ListN.{length};
-ghost use Rattle.table_records.specs.Records.{mostRecords, recordAt, distinct};
+ghost use Rattle.table_records.specs.Records.{mostRecords, recordAt};
+ghost use Rattle.table_records.specs.Working.{distinct};
 ghost use Rattle.table_distinct_sorted.specs.WorkingOrder.{before, Ordered, Placed, Inserted};
 
 // Whether bytes stand before others of their length, by the first byte in which they differ.

@@ -11,7 +11,7 @@ use Rattle.refusal.specs.declared.Refusal.the-variants.{TreeWrong, IdentitiesWr
 use Rattle.refusal.specs.Answer.{refused, answered}
 use Rattle.frame_forms.specs.Forms.{isRoute}
 use Rattle.table_records.specs.Below.{allBelow}
-use Rattle.table_records.specs.Records.{distinct}
+use Rattle.table_records.specs.Working.{distinct}
 use Rattle.bytes_number.proofs.Truth.{and-right-fails as right-fails}
 use Rattle.table_records.proofs.Records.{distinct-rest}
 use Rattle.table_tree.specs.Tree.{ranksIn}

@@ -7,7 +7,7 @@ ghost use Prim.Native.Nat.{_/_};
 ghost use lib.ListN.{length};
 ghost use Rattle.frame_forms.specs.Forms.{routeLength, isRoute};
 ghost use Rattle.table_records.specs.Below.{allBelow};
-ghost use Rattle.table_tree_check.specs.Checking.{told};
+ghost use Rattle.table_tree_check.specs.Working.{told};
 ghost use Rattle.table_identities.specs.Identities.{identityAt, identitiesGood, identitiesCheck};
 
 // Whether every record is of a route's form.

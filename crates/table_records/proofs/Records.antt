@@ -12,8 +12,8 @@ use borrow.Author.Tests.{le-leb, lt-leb}
 use Rattle.bytes_number.specs.Number.{number}
 use Rattle.table_records.specs.Below.{noneTwice}
 use Rattle.table_records.specs.Bytes.{sameBytes}
-use Rattle.table_records.specs.Records.{recordAt, distinct}
-use Rattle.table_records.specs.Working.{fresh}
+use Rattle.table_records.specs.Records.{recordAt}
+use Rattle.table_records.specs.Working.{distinct, fresh}
 use Rattle.bytes_number.proofs.Truth.{and-right-fails as right-fails}
 use Rattle.table_records.proofs.Below.{all-fails, none-agree}
 

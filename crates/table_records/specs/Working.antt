@@ -1,12 +1,13 @@
 -- What only the code's own steps promise each other: no promise of a public call speaks of it, and no reader has to believe it.
 use mathlib.Core.Path.{_≡_}
-use Prim.Native.Nat.{ℕ, zero, suc, _+_, _/_, _≤_}
-use mathlib.Core.Bool.{Bool, cond, not}
+use Prim.Native.Nat.{ℕ, zero, suc, _+_, _/_, _≤_, _*_}
+use mathlib.Core.Bool.{Bool, cond, not, _&&_}
 use mathlib.Core.List.{List}
 use lib.ListN.{length, take, drop}
-use Rattle.table_records.specs.Below.{allBelow}
+use Rattle.table_records.specs.Below.{allBelow, noneTwice}
 use Rattle.table_records.specs.Bytes.{sameBytes}
-use Rattle.table_records.specs.Records.{recordAt}
+use Rattle.table_records.specs.Records.{recordAt, mostRecords}
+use lib.Dec.{leb}
 
 -- record i differs from all before it
 abbrev pub fresh : ℕ → List ℕ → ℕ → Bool
@@ -26,3 +27,7 @@ pub record EqualFront (a b : List ℕ) (n : ℕ) : Type 0 where
   pub fits : n ≤ length a
   pub fits-other : n ≤ length b
   pub equal : take n a ≡ take n b
+
+-- the table holds n records, at most 1,024 of them, and no two are equal
+unfoldable pub distinct : ℕ → List ℕ → ℕ → Bool
+distinct width table n = leb n mostRecords && (leb (n * width) (length table) && noneTwice (λ i j. sameBytes (recordAt width table i) (recordAt width table j)) n)

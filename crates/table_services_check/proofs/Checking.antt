@@ -13,7 +13,7 @@ use Rattle.refusal.specs.declared.Refusal.the-variants.{TreeWrong, ServicesWron
 use Rattle.refusal.specs.Answer.{refused, answered}
 use Rattle.table_records.specs.Below.{allBelow}
 use Rattle.table_records.specs.Bytes.{sameBytes}
-use Rattle.table_records.specs.Records.{distinct}
+use Rattle.table_records.specs.Working.{distinct}
 use Rattle.bytes_number.proofs.Truth.{and-right-fails as right-fails}
 use Rattle.table_records.proofs.Below.{all-at, all-fails, none-agree}
 use Rattle.table_records.proofs.Records.{length-record, distinct-rest}

@@ -3,7 +3,7 @@ use refusal::Refusal;
 use table_services::WIDTH;
 use table_tree_check::Checked;
 ghost use mathlib.Core.Path.{_≡_};
-ghost use Rattle.table_tree_check.specs.Checking.{told};
+ghost use Rattle.table_tree_check.specs.Working.{told};
 ghost use Rattle.table_services.specs.Services.{servicesGood, servicesCheck};
 
 // Whether the bytes are the services of a tree.

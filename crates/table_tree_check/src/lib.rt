@@ -7,8 +7,8 @@ ghost use lib.ListN.{length};
 ghost use Rattle.table_records.specs.Records.{mostRecords};
 ghost use Rattle.table_tree.specs.Depths.{depthOf, treeGood};
 ghost use Rattle.refusal.specs.Answer.{writtenOver};
-ghost use Rattle.table_tree_check.specs.Working.{Shallow, Finds};
-ghost use Rattle.table_tree_check.specs.Checking.{told, depthsInto, howMany};
+ghost use Rattle.table_tree_check.specs.Working.{Shallow, Finds, told, howMany};
+ghost use Rattle.table_tree_check.specs.Checking.{depthsInto};
 
 // What a check of a table says: why it is wrong, or how many entries it has.
 pub enum Checked {

@@ -3,7 +3,7 @@ use borrow.Author.Needs.{needs}
 use mathlib.Core.Path.{ap, _∙_}
 use Prim.Native.Nat.{ℕ}
 use mathlib.Core.List.{List}
-use Rattle.bytes_number.specs.Laid.{laidIfRoom}
+use Rattle.bytes_number.specs.WorkingLays.{laidIfRoom}
 use Rattle.bytes_pair.proofs.Halves.{pair-of}
 use Rattle.bytes_pair.proofs.put_pair.Statement.{statement}
 use Rattle.bytes_pair.proofs.put_pair.Tie as tie

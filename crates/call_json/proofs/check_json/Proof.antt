@@ -5,7 +5,7 @@ use mathlib.Core.List.{[], _∷_}
 use Prim.Native.Nat.{ℕ}
 use native.Mathlib.Omega.{arith}
 use Rattle.bytes_number.specs.Number.{rowBytes}
-use Rattle.bytes_number.specs.Laid.{laidIfRoom}
+use Rattle.bytes_number.specs.WorkingLays.{laidIfRoom}
 use Rattle.json_scan.specs.declared.Verdict.the-variants.{Json, NotJson, TooDeep}
 use Rattle.call_specs.proofs.JsonCalls.{json-short, json-told}
 use Rattle.call_json.proofs.check_json.Statement.{statement}

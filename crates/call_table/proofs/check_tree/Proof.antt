@@ -6,7 +6,8 @@ use mathlib.Core.List.{List}
 use Prim.Native.Nat.{ℕ, _≤_}
 use lib.ListN.{length}
 use Rattle.refusal.specs.Answer.{Answer}
-use Rattle.table_tree_check.specs.Checking.{told, depthsInto}
+use Rattle.table_tree_check.specs.Checking.{depthsInto}
+use Rattle.table_tree_check.specs.Working.{told}
 use Rattle.call_specs.proofs.Telling.{fills-none, fills-refused, fills-counted, fills-on}
 use Rattle.call_specs.proofs.TreeCalls.{tree-short, tree-on, tree-refused, tree-counted}
 use Rattle.call_table.proofs.check_tree.Statement.{statement}

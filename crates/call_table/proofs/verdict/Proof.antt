@@ -2,7 +2,7 @@
 use borrow.Author.Needs.{needs}
 use mathlib.Core.Path.{sym, ap, _∙_}
 use Rattle.call_specs.specs.Calls.{returned}
-use Rattle.table_tree_check.specs.Checking.{told}
+use Rattle.table_tree_check.specs.Working.{told}
 use Rattle.table_tree_check.specs.declared.Checked.{Checked}
 use Rattle.call_table.proofs.verdict.Statement.{statement}
 use Rattle.call_table.proofs.verdict.Tie as tie

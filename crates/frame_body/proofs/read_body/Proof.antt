@@ -2,7 +2,7 @@
 use borrow.Author.Needs.{needs}
 use native.Mathlib.Omega.{arith}
 use mathlib.Core.Path.{sym, ap, _∙_}
-use Rattle.frame_layout.specs.Layout.{readAs}
+use Rattle.frame_layout.specs.WorkingPlacing.{readAs}
 use Rattle.frame_body.proofs.Judged.{body-long, body-short}
 use Rattle.frame_body.proofs.read_body.Statement.{statement}
 use Rattle.frame_body.proofs.read_body.Tie as tie

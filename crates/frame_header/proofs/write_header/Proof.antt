@@ -5,7 +5,7 @@ use Prim.Native.Nat.{ℕ}
 use mathlib.Core.List.{List, [], _∷_, _++_, append-nil}
 use lib.ListN.{length}
 use Rattle.frame_message.specs.Header.{headerBytes}
-use Rattle.bytes_number.specs.Laid.{laidIfRoom, laidCount}
+use Rattle.bytes_number.specs.WorkingLays.{laidIfRoom, laidCount}
 use Rattle.frame_message.specs.Frame.{partBytes}
 use Rattle.frame_header.proofs.Heads.{header-held}
 use borrow.Author.Needs.{needs}

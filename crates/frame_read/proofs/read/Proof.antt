@@ -9,7 +9,7 @@ use mathlib.Core.List.{List}
 use lib.ListN.{length, take, drop, length-take}
 use Rattle.frame_message.specs.Reading.{startsRight}
 use Rattle.frame_read.proofs.Opening.{open-short, open-start, open-long, open-cut, open-body}
-use Rattle.frame_layout.specs.Layout.{readAs}
+use Rattle.frame_layout.specs.WorkingPlacing.{readAs}
 use Rattle.frame_body.specs.WorkingBody.{bodyReading}
 use Rattle.frame_body.proofs.Judged.{body-short}
 use Rattle.frame_read.proofs.read.Statement.{statement}

@@ -10,7 +10,7 @@ use Rattle.bytes_number.specs.Number.{Bytes}
 use Rattle.bytes_number.proofs.Numbers.{bytes-of}
 use Rattle.frame_message.specs.Reading.{readingOf}
 use Rattle.frame_layout.specs.declared.Layout.{Layout}
-use Rattle.frame_layout.specs.Layout.{readAs}
+use Rattle.frame_layout.specs.WorkingPlacing.{readAs}
 use Rattle.frame_body.proofs.Readings.{Read, refused-read, accepted-read}
 use Rattle.frame_stream.proofs.Streaming.{Whole, Listed, listed-none, listed-whole, listed-used, listed-length, listed-stopped, listed-full, listed-more}
 use Rattle.frame_stream.proofs.frames_in.Statement.{statement}

@@ -9,8 +9,7 @@ use borrow.Author.Count.{falls}
 use borrow.Author.Needs.{needs}
 use lib.ListN.{length, getD, take, replicate, length-replicate, getD-replicate}
 use lib.Seq.{length-take-le}
-use Rattle.table_records.specs.Records.{distinct}
-use Rattle.table_records.specs.Working.{fresh}
+use Rattle.table_records.specs.Working.{distinct, fresh}
 use Rattle.table_records.proofs.Records.{front-distinct, distinct-many, distinct-short, distinct-twice, distinct-all}
 use Rattle.table_distinct.specs.WorkingChains.{hashAt, lastBelow}
 use Rattle.table_distinct.specs.WorkingSeen.{Sees}

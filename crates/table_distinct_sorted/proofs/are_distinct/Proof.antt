@@ -11,7 +11,8 @@ use lib.ListN.{length, getD, take, length-replicate}
 use lib.Seq.{length-take-le}
 use Rattle.table_records.specs.Below.{noneTwice}
 use Rattle.table_records.specs.Bytes.{sameBytes}
-use Rattle.table_records.specs.Records.{recordAt, distinct}
+use Rattle.table_records.specs.Records.{recordAt}
+use Rattle.table_records.specs.Working.{distinct}
 use Rattle.table_records.proofs.Below.{none-none, none-more, all-fails}
 use Rattle.table_records.proofs.Records.{record-fits, front-distinct, distinct-many, distinct-short, distinct-twice, distinct-all}
 use Rattle.table_distinct_sorted.specs.WorkingOrder.{Ordered}

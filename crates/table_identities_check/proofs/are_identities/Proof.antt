@@ -8,7 +8,7 @@ use borrow.Author.Tests.{not-true, not-false}
 use lib.ListN.{length}
 use Rattle.frame_forms.specs.Forms.{isRoute}
 use Rattle.table_records.specs.Below.{allBelow}
-use Rattle.table_records.specs.Records.{distinct}
+use Rattle.table_records.specs.Working.{distinct}
 use Rattle.table_tree.specs.Tree.{ranksIn}
 use Rattle.table_identities.specs.Identities.{identityAt}
 use Rattle.table_identities_check.proofs.Checking.{bad-many, bad-torn, bad-form, rest-distinct}

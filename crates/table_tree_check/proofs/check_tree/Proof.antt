@@ -12,7 +12,8 @@ use Rattle.refusal.specs.declared.Refusal.the-variants.{OutputShort}
 use Rattle.refusal.specs.Answer.{refused, answered, writtenOver}
 use Rattle.table_tree.specs.Tree.{ranksIn}
 use Rattle.table_tree.specs.Depths.{treeGood, depthsOf}
-use Rattle.table_tree_check.specs.Checking.{depthsInto, howMany}
+use Rattle.table_tree_check.specs.Checking.{depthsInto}
+use Rattle.table_tree_check.specs.Working.{howMany}
 use Rattle.table_tree.proofs.Tree.{whole-few}
 use Rattle.table_tree.proofs.Depths.{good-whole}
 use Rattle.table_tree_check.proofs.Checking.{into-wrong, into-short, into-right, length-depths, depths-found}

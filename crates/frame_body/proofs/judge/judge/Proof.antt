@@ -6,7 +6,7 @@ use Prim.Native.Nat.{ℕ}
 use Rattle.refusal.specs.Answer.{Answer, andThen}
 use Rattle.frame_message.specs.Reading.{partsIn, judged}
 use Rattle.frame_body.proofs.Heading.{counting-refused, counting-done}
-use Rattle.frame_layout.specs.Layout.{readAs}
+use Rattle.frame_layout.specs.WorkingPlacing.{readAs}
 use Rattle.frame_parts.specs.WorkingCounting.{countingOf}
 use Rattle.frame_body.proofs.judge.judge.Statement.{statement}
 use Rattle.frame_body.proofs.judge.judge.Tie as tie

@@ -5,7 +5,7 @@ use Rattle.bytes_number.specs.Number.{Bytes}
 use Rattle.bytes_number.proofs.Numbers.{bytes-of}
 use Rattle.frame_body.proofs.Heading.{last-within, last-wrong, head-wrong, headed, judged-rest}
 use Rattle.frame_header.specs.declared.Head.the-variants.{Fields}
-use Rattle.frame_layout.specs.Layout.{readAs}
+use Rattle.frame_layout.specs.WorkingPlacing.{readAs}
 use Rattle.frame_body.proofs.judge.judge_counted.Statement.{statement}
 use Rattle.frame_body.proofs.judge.judge_counted.Tie as tie
 

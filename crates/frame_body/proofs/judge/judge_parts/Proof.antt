@@ -9,7 +9,7 @@ use borrow.Author.Tests.{not-true, not-false}
 use Rattle.frame_body.proofs.Agreeing.{empty-low, agree-tested, routes-in, many-routes, routes-tested, sorted}
 use Rattle.frame_body.proofs.Sorting.{judged-parts, judged-routes}
 use Rattle.frame_body.specs.WorkingJudging.{partsFound}
-use Rattle.frame_layout.specs.Layout.{readAs}
+use Rattle.frame_layout.specs.WorkingPlacing.{readAs}
 use Rattle.frame_message.specs.Header.{hasRoute}
 use Rattle.frame_message.specs.Reading.{front, partsAgree}
 use Rattle.bytes_number.proofs.Numbers.{bytes-of}

@@ -11,7 +11,7 @@ use Rattle.frame_body.proofs.Agreeing.{group-long}
 use Rattle.frame_body.proofs.Heading.{group-within}
 use Rattle.frame_body.proofs.Sorting.{judged-topic, judged-field, topicData}
 use Rattle.frame_body.specs.WorkingJudging.{Sorted, partsFound, groupIn, pieceIf}
-use Rattle.frame_layout.specs.Layout.{readAs}
+use Rattle.frame_layout.specs.WorkingPlacing.{readAs}
 use Rattle.frame_layout.specs.declared.Reading.the-variants.{Accepted}
 use Rattle.frame_message.specs.declared.Header.{Header}
 use Rattle.frame_message.specs.Frame.{joined}
