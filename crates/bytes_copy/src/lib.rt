@@ -2,6 +2,7 @@
 ghost use mathlib.Core.Path.{_≡_};
 ghost use Prim.Native.Nat.{_+_, _≤_};
 ghost use lib.ListN.{length};
+ghost use Rattle.bytes_number.specs.Lent.{was};
 ghost use Rattle.bytes_number.specs.Laid.{laid};
 ghost use Rattle.bytes_number.specs.WorkingLays.{laidIfRoom};
 
@@ -9,7 +10,7 @@ ghost use Rattle.bytes_number.specs.WorkingLays.{laidIfRoom};
 // move of memory of the two loops and of the array nothing, where a loop from slice to slice stays a loop.
 fn copy_block(src: &[u8], dst: &mut [u8])
     requires { ⌜ (length (now src) ≤ 32768) × (length (now src) ≤ length (now dst)) ⌝ }
-    ensures { λ _. ⌜ now (dst .exit) ≡ laid (now (src .entry)) (now (dst .entry)) ⌝ }
+    ensures { λ _. ⌜ now (dst .exit) ≡ laid (was src) (was dst) ⌝ }
 {
     let n = src.len();
     let mut held = [0u8; 32768];
@@ -30,7 +31,7 @@ fn copy_block(src: &[u8], dst: &mut [u8])
 fn copy_ends(src: &[u8], dst: &mut [u8], width: usize)
     requires { ⌜ (width ≤ 32) × (width ≤ length (now src)) × (length (now src) ≤ width + width) ⌝ }
     requires { ⌜ length (now src) ≤ length (now dst) ⌝ }
-    ensures { λ _. ⌜ now (dst .exit) ≡ laid (now (src .entry)) (now (dst .entry)) ⌝ }
+    ensures { λ _. ⌜ now (dst .exit) ≡ laid (was src) (was dst) ⌝ }
 {
     copy_block(&src[0..width], dst);
     let at = src.len() - width;
@@ -40,7 +41,7 @@ fn copy_ends(src: &[u8], dst: &mut [u8], width: usize)
 // Copies at most 64 bytes.
 fn copy_short(src: &[u8], dst: &mut [u8])
     requires { ⌜ (length (now src) ≤ 64) × (length (now src) ≤ length (now dst)) ⌝ }
-    ensures { λ _. ⌜ now (dst .exit) ≡ laid (now (src .entry)) (now (dst .entry)) ⌝ }
+    ensures { λ _. ⌜ now (dst .exit) ≡ laid (was src) (was dst) ⌝ }
 {
     let n = src.len();
     if 32 <= n {
@@ -59,7 +60,7 @@ fn copy_short(src: &[u8], dst: &mut [u8])
 // Copies any number of bytes, block by block.
 fn copy_long(src: &[u8], dst: &mut [u8])
     requires { ⌜ length (now src) ≤ length (now dst) ⌝ }
-    ensures { λ _. ⌜ now (dst .exit) ≡ laid (now (src .entry)) (now (dst .entry)) ⌝ }
+    ensures { λ _. ⌜ now (dst .exit) ≡ laid (was src) (was dst) ⌝ }
 {
     let mut at = 0;
     while 32768 < src.len() - at {
@@ -72,7 +73,7 @@ fn copy_long(src: &[u8], dst: &mut [u8])
 
 // Copies src to the front of dst, if there is room for it.
 pub fn copy(src: &[u8], dst: &mut [u8])
-    ensures { λ _. ⌜ now (dst .exit) ≡ laidIfRoom (now (src .entry)) (now (dst .entry)) ⌝ }
+    ensures { λ _. ⌜ now (dst .exit) ≡ laidIfRoom (was src) (was dst) ⌝ }
 {
     if src.len() <= dst.len() {
         if src.len() <= 64 {

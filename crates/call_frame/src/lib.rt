@@ -3,6 +3,7 @@ use frame_layout::Reading;
 use frame_message::Header;
 use frame_message::Written;
 use refusal::Refusal;
+ghost use Rattle.bytes_number.specs.Lent.{was};
 ghost use Rattle.call_specs.specs.Calls.{Reads, headerOf, Writes};
 ghost use Rattle.frame_message.specs.Writing.{givenMessage};
 
@@ -13,7 +14,7 @@ const COUNT_RECORD: usize = 4;
 
 // Reads the frame at the front of bytes, and lists where its parts lie.
 pub fn read(bytes: &[u8], row: &mut [u8]) -> u32
-    ensures { λ r. ⌜ Reads (now (bytes .entry)) (now (row .entry)) r (now (row .exit)) ⌝ }
+    ensures { λ r. ⌜ Reads (was bytes) (was row) r (now (row .exit)) ⌝ }
 {
     if row.len() < READ_RECORD {
         return refusal::number(Refusal::OutputShort);
@@ -41,7 +42,7 @@ pub fn write(
     out: &mut [u8],
     row: &mut [u8],
 ) -> u32
-    ensures { λ r. ⌜ Writes (givenMessage (headerOf kind flags userid rolemask first second) (now (routes .entry)) (now (topic .entry)) (now (payload .entry))) (now (out .entry)) (now (row .entry)) r (now (out .exit)) (now (row .exit)) ⌝ }
+    ensures { λ r. ⌜ Writes (givenMessage (headerOf kind flags userid rolemask first second) (was routes) (was topic) (was payload)) (was out) (was row) r (now (out .exit)) (now (row .exit)) ⌝ }
 {
     if row.len() < COUNT_RECORD {
         return refusal::number(Refusal::OutputShort);

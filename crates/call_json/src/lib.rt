@@ -2,6 +2,7 @@
 use json_scan::Verdict;
 use refusal::Refusal;
 ghost use mathlib.Core.Path.{_≡_};
+ghost use Rattle.bytes_number.specs.Lent.{was};
 ghost use Rattle.call_specs.specs.JsonCalls.{toldByte, ChecksJson};
 
 // Bytes of the record: two numbers.
@@ -16,7 +17,7 @@ fn told(byte: usize) -> usize
 
 // Lists 1 and 0 for a yes, 2 and the byte for a no, 0 and the opening byte for a level too many.
 pub fn check_json(payload: &[u8], row: &mut [u8]) -> u32
-    ensures { λ r. ⌜ ChecksJson (now (payload .entry)) (now (row .entry)) r (now (row .exit)) ⌝ }
+    ensures { λ r. ⌜ ChecksJson (was payload) (was row) r (now (row .exit)) ⌝ }
 {
     if row.len() < JSON_RECORD {
         return refusal::number(Refusal::OutputShort);

@@ -1,6 +1,7 @@
 // The record that a C program gets of a read: where the message lies, as a row of numbers, four bytes each.
 use frame_layout::Layout;
 ghost use mathlib.Core.Path.{_≡_};
+ghost use Rattle.bytes_number.specs.Lent.{was};
 ghost use Rattle.bytes_number.specs.Number.{rowBytes};
 ghost use Rattle.bytes_number.specs.WorkingLays.{laidIfRoom};
 ghost use Rattle.call_read_record.specs.Rows.{readRow};
@@ -8,7 +9,7 @@ ghost use Rattle.call_read_record.specs.Rows.{readRow};
 // Writes a row of numbers to the front of out, four bytes each, if there is room for all of them. Two numbers are one store of eight bytes, which a long
 // row gains by.
 fn put_pairs(out: &mut [u8], row: &[usize])
-    ensures { λ _. ⌜ now (out .exit) ≡ laidIfRoom (rowBytes (now (row .entry))) (now (out .entry)) ⌝ }
+    ensures { λ _. ⌜ now (out .exit) ≡ laidIfRoom (rowBytes (was row)) (was out) ⌝ }
 {
     if 4 * row.len() <= out.len() {
         let mut at = 0;
@@ -26,7 +27,7 @@ fn put_pairs(out: &mut [u8], row: &[usize])
 
 // Lists where a message lies, if there is room for all of it.
 pub fn put_frame(row: &mut [u8], f: Layout)
-    ensures { λ _. ⌜ now (row .exit) ≡ laidIfRoom (rowBytes (readRow f)) (now (row .entry)) ⌝ }
+    ensures { λ _. ⌜ now (row .exit) ≡ laidIfRoom (rowBytes (readRow f)) (was row) ⌝ }
 {
     let h = f.header;
     let topic = f.topic;

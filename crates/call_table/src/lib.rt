@@ -2,6 +2,7 @@
 use refusal::Refusal;
 use table_tree_check::Checked;
 ghost use mathlib.Core.Path.{_≡_};
+ghost use Rattle.bytes_number.specs.Lent.{was};
 ghost use Rattle.table_tree_check.specs.Working.{told};
 ghost use Rattle.table_services.specs.Services;
 ghost use Rattle.table_identities.specs.Identities;
@@ -12,7 +13,7 @@ const COUNT_RECORD: usize = 4;
 
 // Checks a tree, writes one depth byte a rank to the front of depths, and lists how many they are.
 pub fn check_tree(tree: &[u8], depths: &mut [u8], row: &mut [u8]) -> u32
-    ensures { λ r. ⌜ ChecksTree (now (tree .entry)) (now (depths .entry)) (now (row .entry)) r (now (depths .exit)) (now (row .exit)) ⌝ }
+    ensures { λ r. ⌜ ChecksTree (was tree) (was depths) (was row) r (now (depths .exit)) (now (row .exit)) ⌝ }
 {
     if row.len() < COUNT_RECORD {
         return refusal::number(Refusal::OutputShort);
@@ -38,14 +39,14 @@ fn verdict(checked: Checked) -> u32
 
 // Checks the services of a tree.
 pub fn check_services(tree: &[u8], services: &[u8]) -> u32
-    ensures { λ r. ⌜ r ≡ returned (Services.servicesCheck (now (tree .entry)) (now (services .entry))) ⌝ }
+    ensures { λ r. ⌜ r ≡ returned (Services.servicesCheck (was tree) (was services)) ⌝ }
 {
     verdict(table_services_check::check_services(tree, services))
 }
 
 // Checks the identities of a tree's ranks.
 pub fn check_identities(tree: &[u8], identities: &[u8]) -> u32
-    ensures { λ r. ⌜ r ≡ returned (Identities.identitiesCheck (now (tree .entry)) (now (identities .entry))) ⌝ }
+    ensures { λ r. ⌜ r ≡ returned (Identities.identitiesCheck (was tree) (was identities)) ⌝ }
 {
     verdict(table_identities_check::check_identities(tree, identities))
 }

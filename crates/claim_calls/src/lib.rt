@@ -1,6 +1,7 @@
 // The claims, for every slice and number that a call can get. Each theorem is the postcondition of an empty function, whose parameters are those of the
 // call that it is about. So the premises of a law, that bytes are below 256 and that a field has four bytes, are met here once and for all.
 use step_routing::Broker;
+ghost use Rattle.bytes_number.specs.Lent.{was};
 ghost use Rattle.bytes_number.specs.Number.{Bytes};
 ghost use Rattle.call_specs.specs.Calls.{headerOf};
 ghost use Rattle.claim_frames.specs.Frames.{RecordHoldsMessage, AcceptedIsWrittenBack, WrittenIsReadBack};
@@ -21,21 +22,21 @@ fn lend(_bytes: &[u8]) {}
 
 // What stands in a slice of bytes is below 256: the prover says so of a slice that is lent on.
 fn are_bytes(bytes: &[u8])
-    ensures { λ _. ⌜ Bytes (now (bytes .entry)) ⌝ }
+    ensures { λ _. ⌜ Bytes (was bytes) ⌝ }
 {
     lend(bytes);
 }
 
 // A read's record says where the message lies.
 pub fn record_holds_message(bytes: &[u8])
-    ensures { λ _. ⌜ RecordHoldsMessage (now (bytes .entry)) ⌝ }
+    ensures { λ _. ⌜ RecordHoldsMessage (was bytes) ⌝ }
 {
     are_bytes(bytes);
 }
 
 // Every frame that is accepted is written back as the same bytes.
 pub fn accepted_is_written_back(bytes: &[u8])
-    ensures { λ _. ⌜ AcceptedIsWrittenBack (now (bytes .entry)) ⌝ }
+    ensures { λ _. ⌜ AcceptedIsWrittenBack (was bytes) ⌝ }
 {
     are_bytes(bytes);
 }
@@ -52,29 +53,29 @@ pub fn written_is_read_back(
     topic: &[u8],
     payload: &[u8],
 )
-    ensures { λ _. ⌜ WrittenIsReadBack (headerOf kind flags userid rolemask first second) (now (routes .entry)) (now (topic .entry)) (now (payload .entry)) ⌝ }
+    ensures { λ _. ⌜ WrittenIsReadBack (headerOf kind flags userid rolemask first second) (was routes) (was topic) (was payload) ⌝ }
 {}
 
 // The frames that a stream lists, one after another, are its input up to the stop.
 pub fn stream_is_the_input(bytes: &[u8])
-    ensures { λ _. ⌜ StreamIsTheInput (now (bytes .entry)) ⌝ }
+    ensures { λ _. ⌜ StreamIsTheInput (was bytes) ⌝ }
 {
     are_bytes(bytes);
 }
 
 // The JSON check says yes of the payloads that the grammar allows, and tells the grammar's places.
 pub fn json_is_the_grammar(payload: &[u8])
-    ensures { λ _. ⌜ JsonIsTheGrammar (now (payload .entry)) ⌝ }
+    ensures { λ _. ⌜ JsonIsTheGrammar (was payload) ⌝ }
 {}
 
 // The tree check accepts the trees that the paper's sentence accepts, and writes their depths.
 pub fn tree_is_checked(tree: &[u8])
-    ensures { λ _. ⌜ TreeIsChecked (now (tree .entry)) ⌝ }
+    ensures { λ _. ⌜ TreeIsChecked (was tree) ⌝ }
 {}
 
 // From each rank of a right tree the hops lead to every other, over the lowest common ancestor.
 pub fn every_way(tree: &[u8])
-    ensures { λ _. ⌜ EveryWay (now (tree .entry)) ⌝ }
+    ensures { λ _. ⌜ EveryWay (was tree) ⌝ }
 {}
 
 // A step call on a buffer that holds a message does what the rules of a step say, and nothing else.
@@ -88,34 +89,34 @@ pub fn steps_by_the_rules(
     from_client: u32,
     buffer: &[u8],
 )
-    ensures { λ _. ⌜ StepsByTheRules (tablesOf (now (tree .entry)) (now (services .entry)) (now (identities .entry))) (ownerOf userid rolemask) rank «from_client» (now (buffer .entry)) ⌝ }
+    ensures { λ _. ⌜ StepsByTheRules (tablesOf (was tree) (was services) (was identities)) (ownerOf userid rolemask) rank «from_client» (was buffer) ⌝ }
 {
     are_bytes(buffer);
 }
 
 // What a step makes of a valid request: delivered, forwarded, 12, or an error with its reply or silence, each exactly in its case.
 pub fn requests_by_the_rules(tree: &[u8], services: &[u8], identities: &[u8], broker: Broker)
-    ensures { λ _. ⌜ RequestsByTheRules (tablesOf (now (tree .entry)) (now (services .entry)) (now (identities .entry))) broker ⌝ }
+    ensures { λ _. ⌜ RequestsByTheRules (tablesOf (was tree) (was services) (was identities)) broker ⌝ }
 {}
 
 // What a step makes of a valid response: home, forwarded, or 19, each exactly in its case.
 pub fn responses_by_the_rules(tree: &[u8], services: &[u8], identities: &[u8], broker: Broker)
-    ensures { λ _. ⌜ ResponsesByTheRules (tablesOf (now (tree .entry)) (now (services .entry)) (now (identities .entry))) broker ⌝ }
+    ensures { λ _. ⌜ ResponsesByTheRules (tablesOf (was tree) (was services) (was identities)) broker ⌝ }
 {}
 
 // 18 comes exactly of an event or a control message, whatever the tables.
 pub fn others_by_the_rules(tree: &[u8], services: &[u8], identities: &[u8], broker: Broker)
-    ensures { λ _. ⌜ OthersByTheRules (tablesOf (now (tree .entry)) (now (services .entry)) (now (identities .entry))) broker ⌝ }
+    ensures { λ _. ⌜ OthersByTheRules (tablesOf (was tree) (was services) (was identities)) broker ⌝ }
 {}
 
 // The rules leave no choice.
 pub fn no_other_answer(tree: &[u8], services: &[u8], identities: &[u8], broker: Broker)
-    ensures { λ _. ⌜ NoOtherAnswer (tablesOf (now (tree .entry)) (now (services .entry)) (now (identities .entry))) broker ⌝ }
+    ensures { λ _. ⌜ NoOtherAnswer (tablesOf (was tree) (was services) (was identities)) broker ⌝ }
 {}
 
 // Noresponse makes silence of a reply and changes nothing else, whatever the tables and the message.
 pub fn only_silence(tree: &[u8], services: &[u8], identities: &[u8], broker: Broker)
-    ensures { λ _. ⌜ OnlySilence (tablesOf (now (tree .entry)) (now (services .entry)) (now (identities .entry))) broker ⌝ }
+    ensures { λ _. ⌜ OnlySilence (tablesOf (was tree) (was services) (was identities)) broker ⌝ }
 {}
 
 // Demand 3: a request's walk along its path, and the walk home of every response to it, by steps and by the walk call.
@@ -129,7 +130,7 @@ pub fn demand_three(
     buffer: &[u8],
     back: &[u8],
 )
-    ensures { λ _. ⌜ DemandThree (tablesOf (now (tree .entry)) (now (services .entry)) (now (identities .entry))) (ownerOf userid rolemask) entry (now (buffer .entry)) (now (back .entry)) ⌝ }
+    ensures { λ _. ⌜ DemandThree (tablesOf (was tree) (was services) (was identities)) (ownerOf userid rolemask) entry (was buffer) (was back) ⌝ }
 {
     are_bytes(buffer);
     are_bytes(back);
@@ -145,19 +146,19 @@ pub fn every_reply_comes_home(
     entry: u32,
     buffer: &[u8],
 )
-    ensures { λ _. ⌜ EveryReplyComesHome (tablesOf (now (tree .entry)) (now (services .entry)) (now (identities .entry))) (ownerOf userid rolemask) entry (now (buffer .entry)) ⌝ }
+    ensures { λ _. ⌜ EveryReplyComesHome (tablesOf (was tree) (was services) (was identities)) (ownerOf userid rolemask) entry (was buffer) ⌝ }
 {
     are_bytes(buffer);
 }
 
 // No request that meets the premises of demand 3 crosses more than 32 links.
 pub fn at_most_32_links(tree: &[u8], services: &[u8], identities: &[u8], entry: u32, buffer: &[u8])
-    ensures { λ _. ⌜ AtMost32Links (tablesOf (now (tree .entry)) (now (services .entry)) (now (identities .entry))) entry (now (buffer .entry)) ⌝ }
+    ensures { λ _. ⌜ AtMost32Links (tablesOf (was tree) (was services) (was identities)) entry (was buffer) ⌝ }
 {}
 
 // Whatever the tables and the buffer hold, a walk is its steps one after another, and ends otherwise than with a message that goes on.
 pub fn every_walk_is_run(tree: &[u8], services: &[u8], identities: &[u8], b: Broker, buffer: &[u8])
-    ensures { λ _. ⌜ EveryWalkIsRun (tablesOf (now (tree .entry)) (now (services .entry)) (now (identities .entry))) b (now (buffer .entry)) ⌝ }
+    ensures { λ _. ⌜ EveryWalkIsRun (tablesOf (was tree) (was services) (was identities)) b (was buffer) ⌝ }
 {
     are_bytes(buffer);
 }

@@ -16,6 +16,7 @@ ghost use mathlib.Core.Path.{_≡_};
 ghost use mathlib.Core.Bool.{true};
 ghost use Prim.Native.Nat.{_<_, _≤_};
 ghost use lib.ListN.{length, take, drop};
+ghost use Rattle.bytes_number.specs.Lent.{was};
 ghost use Rattle.refusal.specs.Answer.{andThen};
 ghost use Rattle.frame_message.specs.Writing.{allRoutes};
 ghost use Rattle.frame_message.specs.Reading.{partsIn, front, judged, judgedAs};
@@ -31,7 +32,7 @@ const ROUTE_SIZE: u8 = 37;
 // The data of the part that begins s, whose size is known to be right.
 fn stretch_at(s: &[u8]) -> Stretch
     requires { ⌜ 0 < length (now s) ⌝ }
-    ensures { λ r. ⌜ r ≡ stretchAt (now (s .entry)) ⌝ }
+    ensures { λ r. ⌜ r ≡ stretchAt (was s) ⌝ }
 {
     let short = bytes_number::wide(s[0]) as usize;
     if short < 255 {
@@ -51,7 +52,7 @@ fn piece_if(body: &[u8], flag: bool, at: usize) -> Piece
     requires { ⌜ (at ≤ length (now body)) × (length (now body) ≤ 32768) ⌝ }
     requires { ⌜ Found (drop at (now body)) ⌝ }
     requires { ⌜ (flag ≡ true → 0 < length (drop at (now body))) ⌝ }
-    ensures { λ r. ⌜ r ≡ pieceIf flag at (partsFound (drop at (now (body .entry)))) ⌝ }
+    ensures { λ r. ⌜ r ≡ pieceIf flag at (partsFound (drop at (was body))) ⌝ }
 {
     if flag {
         let part = stretch_at(&body[at..]);
@@ -74,7 +75,7 @@ fn piece_if(body: &[u8], flag: bool, at: usize) -> Piece
 fn are_routes(body: &[u8], routes: usize) -> bool
     requires { ⌜ Found (now body) ⌝ }
     requires { ⌜ (length (now body) ≤ 32768) × (routes ≤ length (partsFound (now body))) ⌝ }
-    ensures { λ r. ⌜ r ≡ allRoutes (take routes (partsFound (now (body .entry)))) ⌝ }
+    ensures { λ r. ⌜ r ≡ allRoutes (take routes (partsFound (was body))) ⌝ }
 {
     let mut i = 0;
     let mut at = 0;
@@ -94,7 +95,7 @@ fn are_routes(body: &[u8], routes: usize) -> bool
 // 9: whether there is to be a topic, and the part is none.
 fn topic_wrong(body: &[u8], flags: u8, topic: Piece) -> bool
     requires { ⌜ Within flags topic (length (now body)) ⌝ }
-    ensures { λ r. ⌜ r ≡ topicWrong flags topic (now (body .entry)) ⌝ }
+    ensures { λ r. ⌜ r ≡ topicWrong flags topic (was body) ⌝ }
 {
     let from = topic.at;
     let to = topic.next;
@@ -109,7 +110,7 @@ fn topic_wrong(body: &[u8], flags: u8, topic: Piece) -> bool
 // delimiter, or at the front where there is none.
 fn judge_rest(body: &[u8], counts: PartCounts, h: Header, routes: usize) -> Reading
     requires { ⌜ Sorted (now body) counts h routes ⌝ }
-    ensures { λ r. ⌜ r ≡ readAs (judgedAs h (front (partsFound (now (body .entry))))) ⌝ }
+    ensures { λ r. ⌜ r ≡ readAs (judgedAs h (front (partsFound (was body)))) ⌝ }
 {
     let at = if_set(frame_flags::has_route(h.flags), counts.group + 1);
     let topic = piece_if(body, frame_flags::has_topic(h.flags), at);
@@ -129,7 +130,7 @@ fn judge_rest(body: &[u8], counts: PartCounts, h: Header, routes: usize) -> Read
 // 7 and 8: whether the parts are those that type and flags ask for, and then the routes, which are the parts in front of the delimiter.
 fn judge_parts(body: &[u8], counts: PartCounts, h: Header) -> Reading
     requires { ⌜ Headed (now body) counts h ⌝ }
-    ensures { λ r. ⌜ r ≡ readAs (judgedAs h (front (partsFound (now (body .entry))))) ⌝ }
+    ensures { λ r. ⌜ r ≡ readAs (judgedAs h (front (partsFound (was body)))) ⌝ }
 {
     let routes = if_set(frame_flags::has_route(h.flags), counts.empty);
     let agree = parts_agree(h, counts.count, routes);
@@ -149,7 +150,7 @@ fn judge_parts(body: &[u8], counts: PartCounts, h: Header) -> Reading
 // 6, and then the rest: the header is the last of the parts that were counted.
 fn judge_counted(body: &[u8], counts: PartCounts) -> Reading
     requires { ⌜ (length (now body) ≤ 32768) × CountsOf (now body) counts ⌝ }
-    ensures { λ r. ⌜ r ≡ readAs (andThen (partsIn 68 (now (body .entry))) judged) ⌝ }
+    ensures { λ r. ⌜ r ≡ readAs (andThen (partsIn 68 (was body)) judged) ⌝ }
 {
     let last = counts.last;
     if body.len() - last != frame_message::HEADER_PART {
@@ -165,7 +166,7 @@ fn judge_counted(body: &[u8], counts: PartCounts) -> Reading
 // Reads a body: its parts, the header, which is the last of them, and the rest.
 pub(crate) fn judge(body: &[u8]) -> Reading
     requires { ⌜ length (now body) ≤ 32768 ⌝ }
-    ensures { λ r. ⌜ r ≡ readAs (andThen (partsIn 68 (now (body .entry))) judged) ⌝ }
+    ensures { λ r. ⌜ r ≡ readAs (andThen (partsIn 68 (was body)) judged) ⌝ }
 {
     match count_parts(body, MOST_PARTS) {
         Counting::Refused(r, _) => Reading::Refused(r),

@@ -3,6 +3,7 @@
 ghost use mathlib.Core.Path.{_≡_};
 ghost use Prim.Native.Nat.{_≤_};
 ghost use lib.ListN.{length};
+ghost use Rattle.bytes_number.specs.Lent.{was};
 ghost use Rattle.frame_forms.specs.Count.{one};
 ghost use Rattle.frame_forms.specs.Working.{count, isZero};
 ghost use Rattle.frame_forms.specs.Forms.{isHex, isRoute, isTopic};
@@ -28,7 +29,7 @@ fn hex(x: u8) -> u8
 // How many of so few bytes are hex digits.
 fn hex_digits(s: &[u8]) -> u8
     requires { ⌜ length (now s) ≤ 255 ⌝ }
-    ensures { λ r. ⌜ r ≡ count isHex (now (s .entry)) ⌝ }
+    ensures { λ r. ⌜ r ≡ count isHex (was s) ⌝ }
 {
     let mut n: u8 = 0;
     let mut i = 0;
@@ -49,7 +50,7 @@ fn nul(x: u8) -> u8
 // How many of so few bytes are zero.
 fn zeros(s: &[u8]) -> u8
     requires { ⌜ length (now s) ≤ 255 ⌝ }
-    ensures { λ r. ⌜ r ≡ count isZero (now (s .entry)) ⌝ }
+    ensures { λ r. ⌜ r ≡ count isZero (was s) ⌝ }
 {
     let mut n: u8 = 0;
     let mut i = 0;
@@ -63,7 +64,7 @@ fn zeros(s: &[u8]) -> u8
 // Whether s is a route with its zero byte. With the hyphens and the zero byte in place there are hex digits at all the other places
 // exactly if there are 32 of them.
 pub fn is_route(s: &[u8]) -> bool
-    ensures { λ r. ⌜ r ≡ isRoute (now (s .entry)) ⌝ }
+    ensures { λ r. ⌜ r ≡ isRoute (was s) ⌝ }
 {
     if s.len() != ROUTE {
         return false;
@@ -88,7 +89,7 @@ pub fn is_route(s: &[u8]) -> bool
 
 // Whether s is a topic, without its zero byte.
 pub fn is_topic(s: &[u8]) -> bool
-    ensures { λ r. ⌜ r ≡ isTopic (now (s .entry)) ⌝ }
+    ensures { λ r. ⌜ r ≡ isTopic (was s) ⌝ }
 {
     if s.len() == 0 {
         return false;

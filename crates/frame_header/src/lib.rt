@@ -3,6 +3,7 @@ use frame_message::Header;
 ghost use mathlib.Core.Path.{_≡_};
 ghost use Prim.Native.Nat.{_≤_};
 ghost use lib.ListN.{length};
+ghost use Rattle.bytes_number.specs.Lent.{was};
 ghost use Rattle.bytes_number.specs.WorkingLays.{laidIfRoom, laidCount};
 ghost use Rattle.frame_message.specs.Header.{headerBytes, headerIn};
 ghost use Rattle.frame_message.specs.Frame.{partBytes};
@@ -16,7 +17,7 @@ pub enum Head {
 // The fields in the 20 bytes of a header.
 fn fields(p: &[u8]) -> Header
     requires { ⌜ 20 ≤ length (now p) ⌝ }
-    ensures { λ r. ⌜ r ≡ headerIn (now (p .entry)) ⌝ }
+    ensures { λ r. ⌜ r ≡ headerIn (was p) ⌝ }
 {
     Header {
         kind: p[2],
@@ -30,7 +31,7 @@ fn fields(p: &[u8]) -> Header
 
 // The fields of a header that is right.
 pub fn read_header(p: &[u8]) -> Head
-    ensures { λ r. ⌜ r ≡ headAs (now (p .entry)) ⌝ }
+    ensures { λ r. ⌜ r ≡ headAs (was p) ⌝ }
 {
     if p.len() != frame_message::HEADER {
         return Head::Wrong;
@@ -52,8 +53,8 @@ pub fn read_header(p: &[u8]) -> Head
 // Writes a header's part to the front of out, if there is room for it, and tells how many bytes it has, or 0. The header lies in no slice: its
 // twenty bytes, of which the last sixteen are four numbers, stand in an array first.
 pub fn write_header(out: &mut [u8], header: Header) -> usize
-    ensures { λ r. ⌜ r ≡ laidCount (partBytes (headerBytes header)) (now (out .entry)) ⌝ }
-    ensures { λ _. ⌜ now (out .exit) ≡ laidIfRoom (partBytes (headerBytes header)) (now (out .entry)) ⌝ }
+    ensures { λ r. ⌜ r ≡ laidCount (partBytes (headerBytes header)) (was out) ⌝ }
+    ensures { λ _. ⌜ now (out .exit) ≡ laidIfRoom (partBytes (headerBytes header)) (was out) ⌝ }
 {
     let mut held = [0u8; frame_message::HEADER];
     held[0] = frame_message::MAGIC;

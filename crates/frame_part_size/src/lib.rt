@@ -1,5 +1,6 @@
 // The size in front of a part.
 ghost use mathlib.Core.Path.{_≡_};
+ghost use Rattle.bytes_number.specs.Lent.{was};
 ghost use Rattle.frame_part_size.specs.WorkingSizes.{sizeAt};
 
 // A part of so many bytes or more has a size of five bytes, the first of which is this.
@@ -13,7 +14,7 @@ pub enum Size {
 
 // The size of the part that begins s.
 pub fn size_at(s: &[u8]) -> Size
-    ensures { λ r. ⌜ r ≡ sizeAt (now (s .entry)) ⌝ }
+    ensures { λ r. ⌜ r ≡ sizeAt (was s) ⌝ }
 {
     if s.len() == 0 {
         return Size::Wrong;

@@ -3,6 +3,7 @@ use frame_part_size::Size;
 use frame_part_size::size_at;
 use refusal::Refusal;
 ghost use mathlib.Core.Path.{_≡_};
+ghost use Rattle.bytes_number.specs.Lent.{was};
 ghost use Rattle.frame_parts.specs.WorkingCounting.{countingOf};
 
 // How many parts there are; how many of them stand in front of the first empty one, all where none is empty, and how many bytes these
@@ -22,7 +23,7 @@ pub enum Counting {
 
 // The parts of a body, counted as they come. One more than most is refused before its size is read.
 pub fn count_parts(body: &[u8], most: usize) -> Counting
-    ensures { λ r. ⌜ r ≡ countingOf most (now (body .entry)) ⌝ }
+    ensures { λ r. ⌜ r ≡ countingOf most (was body) ⌝ }
 {
     let mut at: usize = 0;
     let mut count: usize = 0;

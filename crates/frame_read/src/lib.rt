@@ -3,19 +3,20 @@ use frame_layout::Reading;
 use frame_message::FRONT;
 use refusal::Refusal;
 ghost use mathlib.Core.Path.{_≡_};
+ghost use Rattle.bytes_number.specs.Lent.{was};
 ghost use Rattle.frame_message.specs.Reading.{startsRight, readingOf};
 ghost use Rattle.frame_layout.specs.WorkingPlacing.{readAs};
 
 // Whether a frame's four bytes stand in front. They are compared as one number, FF EE 00 12.
 fn starts_right(bytes: &[u8]) -> bool
-    ensures { λ r. ⌜ r ≡ startsRight (now (bytes .entry)) ⌝ }
+    ensures { λ r. ⌜ r ≡ startsRight (was bytes) ⌝ }
 {
     bytes_number::number_at(bytes, 0) == frame_message::START
 }
 
 // Reads the frame at the front of bytes. What lies behind it is ignored.
 pub fn read(bytes: &[u8]) -> Reading
-    ensures { λ r. ⌜ r ≡ readAs (readingOf (now (bytes .entry))) ⌝ }
+    ensures { λ r. ⌜ r ≡ readAs (readingOf (was bytes)) ⌝ }
 {
     if bytes.len() < FRONT {
         return Reading::Refused(Refusal::InputShort);

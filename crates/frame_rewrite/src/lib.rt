@@ -5,12 +5,13 @@ use frame_message::Header;
 ghost use mathlib.Core.Path.{_≡_};
 ghost use Prim.Native.Nat.{_+_, _≤_, _<_};
 ghost use lib.ListN.{length};
+ghost use Rattle.bytes_number.specs.Lent.{was};
 ghost use Rattle.frame_rewrite.specs.WorkingRenewed.{bodyIn, renewed, withPart, withoutFront, withHeader};
 
 // The eight bytes in front of a body that is in its place, and zeros behind it.
 fn renew(buffer: &mut [u8], size: usize)
     requires { ⌜ (8 + size ≤ length (now buffer)) × (size < 4294967296) ⌝ }
-    ensures { λ _. ⌜ now (buffer .exit) ≡ renewed (bodyIn size (now (buffer .entry))) (now (buffer .entry)) ⌝ }
+    ensures { λ _. ⌜ now (buffer .exit) ≡ renewed (bodyIn size (was buffer)) (was buffer) ⌝ }
 {
     bytes_number::put_row(buffer, &[frame_message::START as usize, size]);
     let end = FRONT + size;
@@ -19,7 +20,7 @@ fn renew(buffer: &mut [u8], size: usize)
 
 // Puts a part of less than 255 bytes in front of a body of so many bytes, if there is room for it.
 pub fn put_part(buffer: &mut [u8], size: usize, part: &[u8])
-    ensures { λ _. ⌜ now (buffer .exit) ≡ withPart (now (part .entry)) size (now (buffer .entry)) ⌝ }
+    ensures { λ _. ⌜ now (buffer .exit) ≡ withPart (was part) size (was buffer) ⌝ }
 {
     let n = part.len();
     if n < 255 {
@@ -37,7 +38,7 @@ pub fn put_part(buffer: &mut [u8], size: usize, part: &[u8])
 
 // Takes the first n bytes from a body of so many bytes.
 pub fn take_front(buffer: &mut [u8], n: usize, size: usize)
-    ensures { λ _. ⌜ now (buffer .exit) ≡ withoutFront n size (now (buffer .entry)) ⌝ }
+    ensures { λ _. ⌜ now (buffer .exit) ≡ withoutFront n size (was buffer) ⌝ }
 {
     if size <= frame_message::MOST_BODY {
         if n <= size {
@@ -52,7 +53,7 @@ pub fn take_front(buffer: &mut [u8], n: usize, size: usize)
 
 // Puts a header behind the first so many bytes of a body, if there is room for it.
 pub fn put_header(buffer: &mut [u8], size: usize, header: Header)
-    ensures { λ _. ⌜ now (buffer .exit) ≡ withHeader header size (now (buffer .entry)) ⌝ }
+    ensures { λ _. ⌜ now (buffer .exit) ≡ withHeader header size (was buffer) ⌝ }
 {
     if size <= frame_message::MOST_BODY {
         let headed = size + frame_message::HEADER_PART;

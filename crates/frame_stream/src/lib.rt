@@ -4,6 +4,7 @@ use refusal::Refusal;
 ghost use mathlib.Core.Path.{_≡_};
 ghost use Prim.Native.Nat.{min, _/_};
 ghost use lib.ListN.{length};
+ghost use Rattle.bytes_number.specs.Lent.{was};
 ghost use Rattle.frame_stream.specs.Stream.{mostInput, entrySize, streamFrom, streamOf};
 ghost use Rattle.frame_stream.specs.WorkingStream.{Streams};
 
@@ -22,7 +23,7 @@ pub struct Stopped {
 
 // Lists the frames of an input of any length. Where the list is full, 11 comes only at a frame that is good.
 fn frames_in(bytes: &[u8], list: &mut [u8]) -> Stopped
-    ensures { λ r. ⌜ Streams (streamFrom (length (now (list .entry)) / entrySize) 0 (now (bytes .entry))) (now (list .entry)) r (now (list .exit)) ⌝ }
+    ensures { λ r. ⌜ Streams (streamFrom (length (was list) / entrySize) 0 (was bytes)) (was list) r (now (list .exit)) ⌝ }
 {
     let mut start = 0;
     let mut entries = 0;
@@ -62,7 +63,7 @@ fn end_of_input(size: usize) -> usize
 
 // Lists start and length of each whole frame in bytes, one behind another, until the first refusal; the input's end is one too.
 pub fn list_frames(bytes: &[u8], list: &mut [u8]) -> Stopped
-    ensures { λ r. ⌜ Streams (streamOf (length (now (list .entry))) (now (bytes .entry))) (now (list .entry)) r (now (list .exit)) ⌝ }
+    ensures { λ r. ⌜ Streams (streamOf (length (was list)) (was bytes)) (was list) r (now (list .exit)) ⌝ }
 {
     let end = end_of_input(bytes.len());
     frames_in(&bytes[..end], list)

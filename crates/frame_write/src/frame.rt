@@ -2,6 +2,7 @@
 ghost use mathlib.Core.Path.{_≡_};
 ghost use Prim.Native.Nat.{_≤_, _%_};
 ghost use lib.ListN.{length};
+ghost use Rattle.bytes_number.specs.Lent.{was};
 ghost use Rattle.bytes_number.specs.Laid.{laid};
 ghost use Rattle.frame_message.specs.Frame.{bodyOf, frameOf};
 ghost use Rattle.frame_message.specs.Writing.{givenMessage};
@@ -13,7 +14,7 @@ use frame_message::Header;
 fn write_body(out: &mut [u8], header: Header, routes: &[u8], topic: &[u8], payload: &[u8]) -> usize
     requires { ⌜ (length (now routes) % 37 ≡ 0) × (length (now topic) ≤ 255) ⌝ }
     requires { ⌜ length (bodyOf (givenMessage header (now routes) (now topic) (now payload))) ≤ length (now out) ⌝ }
-    ensures { λ r. ⌜ Lays (bodyOf (givenMessage header (now (routes .entry)) (now (topic .entry)) (now (payload .entry)))) (now (out .entry)) (now (out .exit)) r ⌝ }
+    ensures { λ r. ⌜ Lays (bodyOf (givenMessage header (was routes) (was topic) (was payload))) (was out) (now (out .exit)) r ⌝ }
 {
     let flags = header.flags;
     let topic_at = part::write_group(out, frame_flags::has_route(flags), routes);
@@ -40,7 +41,7 @@ pub(crate) fn write_frame(
     requires { ⌜ (length (now routes) % 37 ≡ 0) × (length (now topic) ≤ 255) ⌝ }
     requires { ⌜ n ≡ length (frameOf (givenMessage header (now routes) (now topic) (now payload))) ⌝ }
     requires { ⌜ n ≤ length (now out) ⌝ }
-    ensures { λ _. ⌜ now (out .exit) ≡ laid (frameOf (givenMessage header (now (routes .entry)) (now (topic .entry)) (now (payload .entry)))) (now (out .entry)) ⌝ }
+    ensures { λ _. ⌜ now (out .exit) ≡ laid (frameOf (givenMessage header (was routes) (was topic) (was payload))) (was out) ⌝ }
 {
     let front = [frame_message::START as usize, n - frame_message::FRONT];
     bytes_number::put_row(out, &front);

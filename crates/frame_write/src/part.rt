@@ -4,6 +4,7 @@ ghost use mathlib.Core.Path.{_≡_};
 ghost use mathlib.Core.List.{_∷_, [], _++_};
 ghost use Prim.Native.Nat.{_<_, _≤_, _%_};
 ghost use lib.ListN.{length};
+ghost use Rattle.bytes_number.specs.Lent.{was};
 ghost use Rattle.frame_message.specs.Frame.{joined, partIf, groupIf};
 ghost use Rattle.frame_message.specs.Writing.{cut};
 ghost use Rattle.bytes_number.specs.WorkingLays.{Lays};
@@ -16,7 +17,7 @@ const TOPIC: usize = 256;
 fn write_routes(out: &mut [u8], routes: &[u8]) -> usize
     requires { ⌜ length (now routes) % 37 ≡ 0 ⌝ }
     requires { ⌜ length (joined (cut (now routes))) ≤ length (now out) ⌝ }
-    ensures { λ r. ⌜ Lays (joined (cut (now (routes .entry)))) (now (out .entry)) (now (out .exit)) r ⌝ }
+    ensures { λ r. ⌜ Lays (joined (cut (was routes))) (was out) (now (out .exit)) r ⌝ }
 {
     let mut at = 0;
     let mut i = 0;
@@ -31,7 +32,7 @@ fn write_routes(out: &mut [u8], routes: &[u8]) -> usize
 pub(crate) fn write_group(out: &mut [u8], given: bool, routes: &[u8]) -> usize
     requires { ⌜ length (now routes) % 37 ≡ 0 ⌝ }
     requires { ⌜ length (joined (groupIf given (cut (now routes)))) ≤ length (now out) ⌝ }
-    ensures { λ r. ⌜ Lays (joined (groupIf given (cut (now (routes .entry))))) (now (out .entry)) (now (out .exit)) r ⌝ }
+    ensures { λ r. ⌜ Lays (joined (groupIf given (cut (was routes)))) (was out) (now (out .exit)) r ⌝ }
 {
     if given {
         let at = write_routes(out, routes);
@@ -44,7 +45,7 @@ pub(crate) fn write_group(out: &mut [u8], given: bool, routes: &[u8]) -> usize
 // Lays the topic and the zero byte that ends it over the front of an array, and tells how many bytes they are.
 fn hold_topic(held: &mut [u8], topic: &[u8]) -> usize
     requires { ⌜ length (now topic) < length (now held) ⌝ }
-    ensures { λ r. ⌜ Lays (now (topic .entry) ++ (0 ∷ [])) (now (held .entry)) (now (held .exit)) r ⌝ }
+    ensures { λ r. ⌜ Lays (was topic ++ (0 ∷ [])) (was held) (now (held .exit)) r ⌝ }
 {
     let end = topic.len();
     bytes_copy::copy(topic, held);
@@ -56,7 +57,7 @@ fn hold_topic(held: &mut [u8], topic: &[u8]) -> usize
 pub(crate) fn write_topic(out: &mut [u8], given: bool, topic: &[u8]) -> usize
     requires { ⌜ length (now topic) ≤ 255 ⌝ }
     requires { ⌜ length (joined (partIf given (now topic ++ (0 ∷ [])))) ≤ length (now out) ⌝ }
-    ensures { λ r. ⌜ Lays (joined (partIf given (now (topic .entry) ++ (0 ∷ [])))) (now (out .entry)) (now (out .exit)) r ⌝ }
+    ensures { λ r. ⌜ Lays (joined (partIf given (was topic ++ (0 ∷ [])))) (was out) (now (out .exit)) r ⌝ }
 {
     if given {
         let mut held = [0u8; TOPIC];
@@ -70,7 +71,7 @@ pub(crate) fn write_topic(out: &mut [u8], given: bool, topic: &[u8]) -> usize
 // The payload, where there is one.
 pub(crate) fn write_payload(out: &mut [u8], given: bool, payload: &[u8]) -> usize
     requires { ⌜ length (joined (partIf given (now payload))) ≤ length (now out) ⌝ }
-    ensures { λ r. ⌜ Lays (joined (partIf given (now (payload .entry)))) (now (out .entry)) (now (out .exit)) r ⌝ }
+    ensures { λ r. ⌜ Lays (joined (partIf given (was payload))) (was out) (now (out .exit)) r ⌝ }
 {
     if given { write_part(out, payload) } else { 0 }
 }

@@ -2,6 +2,7 @@
 ghost use mathlib.Core.Path.{_≡_};
 ghost use Prim.Native.Nat.{_≤_, _%_};
 ghost use lib.ListN.{length};
+ghost use Rattle.bytes_number.specs.Lent.{was};
 ghost use Rattle.frame_message.specs.Frame.{bodyOf};
 ghost use Rattle.frame_message.specs.Writing.{givenMessage};
 ghost use Rattle.frame_write_check.specs.Working.{partLength, groupLength};
@@ -35,7 +36,7 @@ fn part_length(given: bool, n: usize) -> usize
 pub(crate) fn body_length(header: Header, routes: &[u8], topic: &[u8], payload: &[u8]) -> usize
     requires { ⌜ (length (now routes) ≤ 2368) × (length (now routes) % 37 ≡ 0) ⌝ }
     requires { ⌜ (length (now topic) ≤ 255) × (length (now payload) ≤ 32768) ⌝ }
-    ensures { λ r. ⌜ r ≡ length (bodyOf (givenMessage header (now (routes .entry)) (now (topic .entry)) (now (payload .entry)))) ⌝ }
+    ensures { λ r. ⌜ r ≡ length (bodyOf (givenMessage header (was routes) (was topic) (was payload))) ⌝ }
 {
     let flags = header.flags;
     let group = group_length(frame_flags::has_route(flags), routes.len());

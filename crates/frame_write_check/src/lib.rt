@@ -2,6 +2,7 @@
 ghost use mathlib.Core.Path.{_≡_};
 ghost use mathlib.Core.Bool.{true, false, _&&_, not};
 ghost use lib.ListN.{length};
+ghost use Rattle.bytes_number.specs.Lent.{was};
 ghost use Rattle.frame_message.specs.Header.{hasTopic, partsFit};
 ghost use Rattle.frame_forms.specs.Forms.{isTopic};
 ghost use Rattle.frame_message.specs.Writing.{partsGivenFit, routesGood, cut, writingInto, givenMessage};
@@ -16,7 +17,7 @@ mod length;
 
 // Whether there is a topic that is not of the form.
 fn topic_wrong(flags: u8, topic: &[u8]) -> bool
-    ensures { λ r. ⌜ r ≡ (hasTopic flags && not (isTopic (now (topic .entry)))) ⌝ }
+    ensures { λ r. ⌜ r ≡ (hasTopic flags && not (isTopic (was topic))) ⌝ }
 {
     if frame_flags::has_topic(flags) {
         !frame_forms::is_topic(topic)
@@ -30,7 +31,7 @@ fn measure(header: Header, routes: &[u8], topic: &[u8], payload: &[u8], room: us
     requires { ⌜ (partsFit header && partsGivenFit (givenMessage header (now routes) (now topic) (now payload))) ≡ true ⌝ }
     requires { ⌜ routesGood (cut (now routes)) ≡ true ⌝ }
     requires { ⌜ (hasTopic (header .flags) && not (isTopic (now topic))) ≡ false ⌝ }
-    ensures { λ r. ⌜ r ≡ writtenAs (measured room (givenMessage header (now (routes .entry)) (now (topic .entry)) (now (payload .entry)))) ⌝ }
+    ensures { λ r. ⌜ r ≡ writtenAs (measured room (givenMessage header (was routes) (was topic) (was payload))) ⌝ }
 {
     if frame_message::MOST_BODY < payload.len() {
         return Written::Refused(Refusal::BodyLong);
@@ -55,7 +56,7 @@ pub fn check_message(
     payload: &[u8],
     room: usize,
 ) -> Written
-    ensures { λ r. ⌜ r ≡ writtenAs (writingInto room (givenMessage header (now (routes .entry)) (now (topic .entry)) (now (payload .entry)))) ⌝ }
+    ensures { λ r. ⌜ r ≡ writtenAs (writingInto room (givenMessage header (was routes) (was topic) (was payload))) ⌝ }
 {
     let known = frame_header_rules::is_known(header);
     let agree = frame_write_given::parts_agree(header, routes, topic, payload);

@@ -13,6 +13,7 @@ use json_string::text_end;
 ghost use mathlib.Core.Path.{_≡_};
 ghost use Prim.Native.Nat.{_<_};
 ghost use lib.ListN.{length};
+ghost use Rattle.bytes_number.specs.Lent.{was};
 ghost use Rattle.json_scan.specs.Scan.{inObject, inArray, value, behind, between, verdictOf};
 ghost use Rattle.json_scan.specs.WorkingReads.{valueBy, ReadsOn};
 ghost use Rattle.json_check.specs.WorkingNested.{Stands, Opened, Ends};
@@ -24,7 +25,7 @@ const MOST: u8 = 32;
 // says that it stopped, and 1 that it came to a level too many; where, is left in `place`.
 fn value_end(bytes: &[u8], at: usize, first: u8, room: u8, place: &mut usize) -> usize
     requires { ⌜ (1 < at) × Stands (now bytes) at first ⌝ }
-    ensures { λ r. ⌜ ReadsOn (now (bytes .entry)) room at (between value) (between behind) (valueBy r (now (place .exit))) ⌝ }
+    ensures { λ r. ⌜ ReadsOn (was bytes) room at (between value) (between behind) (valueBy r (now (place .exit))) ⌝ }
 {
     if first == b'"' {
         return text_end(bytes, at + 1, place);
@@ -41,7 +42,7 @@ fn value_end(bytes: &[u8], at: usize, first: u8, room: u8, place: &mut usize) ->
 // An object at its opening byte, likewise.
 fn object_end(bytes: &[u8], at: usize, room: u8, place: &mut usize) -> usize
     requires { ⌜ at < length (now bytes) ⌝ }
-    ensures { λ r. ⌜ Opened (now (bytes .entry)) room at inObject (valueBy r (now (place .exit))) ⌝ }
+    ensures { λ r. ⌜ Opened (was bytes) room at inObject (valueBy r (now (place .exit))) ⌝ }
 {
     if room == 0 {
         *place = at;
@@ -79,7 +80,7 @@ fn object_end(bytes: &[u8], at: usize, room: u8, place: &mut usize) -> usize
 // An array at its opening byte, likewise.
 fn array_end(bytes: &[u8], at: usize, room: u8, place: &mut usize) -> usize
     requires { ⌜ (0 < at) × (at < length (now bytes)) ⌝ }
-    ensures { λ r. ⌜ Opened (now (bytes .entry)) room at inArray (valueBy r (now (place .exit))) ⌝ }
+    ensures { λ r. ⌜ Opened (was bytes) room at inArray (valueBy r (now (place .exit))) ⌝ }
 {
     if room == 0 {
         *place = at;
@@ -112,7 +113,7 @@ fn array_end(bytes: &[u8], at: usize, room: u8, place: &mut usize) -> usize
 
 // Behind the outer object: white space and the zero byte, and nothing more.
 fn payload_end(bytes: &[u8], at: usize) -> Verdict
-    ensures { λ r. ⌜ Ends (now (bytes .entry)) at r ⌝ }
+    ensures { λ r. ⌜ Ends (was bytes) at r ⌝ }
 {
     let end = white_end(bytes, at);
     if end >= bytes.len() {
@@ -130,7 +131,7 @@ fn payload_end(bytes: &[u8], at: usize) -> Verdict
 
 // Whether a payload is JSON, and if not, at which byte that shows.
 pub fn check_payload(bytes: &[u8]) -> Verdict
-    ensures { λ r. ⌜ r ≡ verdictOf (now (bytes .entry)) ⌝ }
+    ensures { λ r. ⌜ r ≡ verdictOf (was bytes) ⌝ }
 {
     let i = white_end(bytes, 0);
     if i >= bytes.len() {

@@ -7,6 +7,7 @@ ghost use mathlib.Core.Bool.{cond};
 ghost use Prim.Native.Nat.{_+_, _<_};
 ghost use lib.Dec.{eqb};
 ghost use lib.ListN.{drop};
+ghost use Rattle.bytes_number.specs.Lent.{was};
 ghost use Rattle.json_scan.specs.Scan.{isDigit, isE, isSign, minus, leadingZero, exponent, sign};
 ghost use Rattle.json_scan.specs.WorkingEnds.{endOf};
 ghost use Rattle.json_number.specs.WorkingFigures.{numberEnd, scaleEnd};
@@ -25,7 +26,7 @@ fn is_sign(c: u8) -> bool
 
 // Digits, at least one.
 fn power_end(bytes: &[u8], at: usize) -> Reached
-    ensures { λ r. ⌜ r ≡ numberEnd sign at (drop at (now (bytes .entry))) ⌝ }
+    ensures { λ r. ⌜ r ≡ numberEnd sign at (drop at (was bytes)) ⌝ }
 {
     let end = digits_end(bytes, at);
     if end == at {
@@ -36,7 +37,7 @@ fn power_end(bytes: &[u8], at: usize) -> Reached
 
 // The exponent behind its e.
 fn exponent_end(bytes: &[u8], at: usize) -> Reached
-    ensures { λ r. ⌜ r ≡ numberEnd exponent at (drop at (now (bytes .entry))) ⌝ }
+    ensures { λ r. ⌜ r ≡ numberEnd exponent at (drop at (was bytes)) ⌝ }
 {
     if at >= bytes.len() {
         return Reached::Stopped(at);
@@ -49,7 +50,7 @@ fn exponent_end(bytes: &[u8], at: usize) -> Reached
 
 // Behind int, or behind int and frac: an exponent, or the number's end.
 fn scale_end(bytes: &[u8], at: usize) -> Reached
-    ensures { λ r. ⌜ r ≡ scaleEnd at (drop at (now (bytes .entry))) ⌝ }
+    ensures { λ r. ⌜ r ≡ scaleEnd at (drop at (was bytes)) ⌝ }
 {
     if at >= bytes.len() {
         return Reached::Behind(at);
@@ -62,7 +63,7 @@ fn scale_end(bytes: &[u8], at: usize) -> Reached
 
 // Behind int: a fraction or none, and an exponent or none.
 fn fraction_end(bytes: &[u8], at: usize) -> Reached
-    ensures { λ r. ⌜ r ≡ numberEnd leadingZero at (drop at (now (bytes .entry))) ⌝ }
+    ensures { λ r. ⌜ r ≡ numberEnd leadingZero at (drop at (was bytes)) ⌝ }
 {
     if at >= bytes.len() {
         return Reached::Behind(at);
@@ -81,7 +82,7 @@ fn fraction_end(bytes: &[u8], at: usize) -> Reached
 // Where int ends that begins with this digit.
 fn int_end(bytes: &[u8], at: usize, first: u8) -> usize
     requires { do ⌜ at < (← ⟦bytes.len()⟧) ⌝ }
-    ensures { λ r. ⌜ r ≡ cond (eqb first 48) (at + 1) (endOf isDigit (now (bytes .entry)) (at + 1)) ⌝ }
+    ensures { λ r. ⌜ r ≡ cond (eqb first 48) (at + 1) (endOf isDigit (was bytes) (at + 1)) ⌝ }
 {
     if first == b'0' {
         return at + 1;
@@ -91,7 +92,7 @@ fn int_end(bytes: &[u8], at: usize, first: u8) -> usize
 
 // A number behind its minus, or one that has none.
 pub fn number_end(bytes: &[u8], at: usize) -> Reached
-    ensures { λ r. ⌜ r ≡ numberEnd minus at (drop at (now (bytes .entry))) ⌝ }
+    ensures { λ r. ⌜ r ≡ numberEnd minus at (drop at (was bytes)) ⌝ }
 {
     if at >= bytes.len() {
         return Reached::Stopped(at);

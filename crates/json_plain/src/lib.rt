@@ -2,6 +2,7 @@
 ghost use mathlib.Core.Path.{_≡_};
 ghost use Prim.Native.Nat.{_+_, _<_, _≤_};
 ghost use lib.ListN.{length, take, drop};
+ghost use Rattle.bytes_number.specs.Lent.{was};
 ghost use Rattle.json_scan.specs.WorkingEnds.{endOf};
 ghost use Rattle.json_plain.specs.WorkingPlain.{isPlain};
 ghost use Rattle.json_plain.specs.WorkingWords.{wordOf, lowestMark, Marks};
@@ -30,7 +31,7 @@ fn wide(c: u8) -> u64
 // Eight bytes as a number, the first as its lowest byte: the compiler makes one load of it.
 fn word_at(bytes: &[u8], at: usize) -> u64
     requires { ⌜ at + 8 ≤ length (now bytes) ⌝ }
-    ensures { λ r. ⌜ r ≡ wordOf (take 8 (drop at (now (bytes .entry)))) ⌝ }
+    ensures { λ r. ⌜ r ≡ wordOf (take 8 (drop at (was bytes))) ⌝ }
 {
     wide(bytes[at])
         + wide(bytes[at + 1]) * 0x100
@@ -61,7 +62,7 @@ fn marked(marks: u64) -> usize
 
 // The first place from `at` on whose byte does not stand for itself.
 pub fn plain_end(bytes: &[u8], at: usize) -> usize
-    ensures { λ r. ⌜ r ≡ endOf isPlain (now (bytes .entry)) at ⌝ }
+    ensures { λ r. ⌜ r ≡ endOf isPlain (was bytes) at ⌝ }
 {
     let mut i = at;
     if bytes.len() >= WORDS {

@@ -8,13 +8,14 @@ ghost use mathlib.Core.Bool.{cond, _||_};
 ghost use Prim.Native.Nat.{_+_, _<_};
 ghost use lib.Dec.{eqb};
 ghost use lib.ListN.{drop, getD};
+ghost use Rattle.bytes_number.specs.Lent.{was};
 ghost use Rattle.json_scan.specs.Scan.{isDigit};
 ghost use Rattle.json_scan.specs.WorkingEnds.{settledAs, placeLeft, restEnd};
 ghost use Rattle.json_scalar.specs.WorkingScalars.{spelling, scalarEnd};
 
 // These bytes, one after another.
 fn literal_end(bytes: &[u8], at: usize, word: &[u8]) -> Reached
-    ensures { λ r. ⌜ r ≡ restEnd (spelling (now (word .entry))) at (drop at (now (bytes .entry))) ⌝ }
+    ensures { λ r. ⌜ r ≡ restEnd (spelling (was word)) at (drop at (was bytes)) ⌝ }
 {
     let mut i = at;
     let mut j = 0;
@@ -44,7 +45,7 @@ fn is_numeral(c: u8) -> bool
 // Behind the minus that stands at a place, or there if none does.
 fn behind_minus(bytes: &[u8], at: usize) -> usize
     requires { do ⌜ at < (← ⟦bytes.len()⟧) ⌝ }
-    ensures { λ r. ⌜ r ≡ cond (eqb (getD (now (bytes .entry)) at 0) 45) (at + 1) at ⌝ }
+    ensures { λ r. ⌜ r ≡ cond (eqb (getD (was bytes) at 0) 45) (at + 1) at ⌝ }
 {
     if bytes[at] == b'-' {
         return at + 1;
@@ -54,7 +55,7 @@ fn behind_minus(bytes: &[u8], at: usize) -> usize
 
 // Where a value is due and no string, object or array begins.
 fn scalar_read(bytes: &[u8], at: usize) -> Reached
-    ensures { λ r. ⌜ r ≡ scalarEnd at (drop at (now (bytes .entry))) ⌝ }
+    ensures { λ r. ⌜ r ≡ scalarEnd at (drop at (was bytes)) ⌝ }
 {
     if at >= bytes.len() {
         return Reached::Stopped(at);
@@ -73,8 +74,8 @@ fn scalar_read(bytes: &[u8], at: usize) -> Reached
 
 // The same, told as a number.
 pub fn scalar_end(bytes: &[u8], at: usize, place: &mut usize) -> usize
-    ensures told { λ r. ⌜ r ≡ settledAs (scalarEnd at (drop at (now (bytes .entry)))) ⌝ }
-    ensures stops { λ _. ⌜ now (place .exit) ≡ placeLeft (scalarEnd at (drop at (now (bytes .entry)))) (now (place .entry)) ⌝ }
+    ensures told { λ r. ⌜ r ≡ settledAs (scalarEnd at (drop at (was bytes))) ⌝ }
+    ensures stops { λ _. ⌜ now (place .exit) ≡ placeLeft (scalarEnd at (drop at (was bytes))) (was place) ⌝ }
 {
     settle(scalar_read(bytes, at), place)
 }

@@ -1,6 +1,7 @@
 // A payload read one byte after another: what it comes to, and how far a reader of one of its tokens came.
 use bytes_number::byte_at;
 ghost use mathlib.Core.Path.{_≡_};
+ghost use Rattle.bytes_number.specs.Lent.{was};
 ghost use Rattle.json_scan.specs.Scan.{isWhite, isDigit};
 ghost use Rattle.json_scan.specs.WorkingEnds.{endOf, tokenAt, settledAs, placeLeft};
 
@@ -21,7 +22,7 @@ pub enum Reached {
 // read, or 0, and then it is left where it stopped.
 pub fn settle(reached: Reached, place: &mut usize) -> usize
     ensures told { λ r. ⌜ r ≡ settledAs reached ⌝ }
-    ensures stops { λ _. ⌜ now (place .exit) ≡ placeLeft reached (now (place .entry)) ⌝ }
+    ensures stops { λ _. ⌜ now (place .exit) ≡ placeLeft reached (was place) ⌝ }
 {
     match reached {
         Reached::Behind(at) => at,
@@ -52,7 +53,7 @@ pub fn is_digit(c: u8) -> bool
 
 // The first place from `at` on that has no white space.
 pub fn white_end(bytes: &[u8], at: usize) -> usize
-    ensures { λ r. ⌜ r ≡ endOf isWhite (now (bytes .entry)) at ⌝ }
+    ensures { λ r. ⌜ r ≡ endOf isWhite (was bytes) at ⌝ }
 {
     let mut i = at;
     while i < bytes.len() {
@@ -66,7 +67,7 @@ pub fn white_end(bytes: &[u8], at: usize) -> usize
 
 // The first place from `at` on that has no digit.
 pub fn digits_end(bytes: &[u8], at: usize) -> usize
-    ensures { λ r. ⌜ r ≡ endOf isDigit (now (bytes .entry)) at ⌝ }
+    ensures { λ r. ⌜ r ≡ endOf isDigit (was bytes) at ⌝ }
 {
     let mut j = at;
     while j < bytes.len() {
@@ -86,7 +87,7 @@ pub struct Token {
 
 // The first place from `at` on that has no white space. Mostly that is `at` itself.
 pub fn token_at(bytes: &[u8], at: usize) -> Token
-    ensures { λ r. ⌜ r ≡ tokenAt (now (bytes .entry)) at ⌝ }
+    ensures { λ r. ⌜ r ≡ tokenAt (was bytes) at ⌝ }
 {
     let byte = byte_at(bytes, at);
     if byte > b' ' {

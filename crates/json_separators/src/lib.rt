@@ -4,6 +4,7 @@ use json_scan::settle;
 use json_scan::token_at;
 use json_string::text_end;
 ghost use mathlib.Core.Path.{_≡_};
+ghost use Rattle.bytes_number.specs.Lent.{was};
 ghost use Rattle.json_scan.specs.WorkingEnds.{settledAs, placeLeft};
 ghost use Rattle.json_separators.specs.WorkingSeparators.{nameEnd, nextOf};
 
@@ -16,8 +17,8 @@ pub enum Next {
 
 // The name of a member and the colon behind it.
 pub fn name_end(bytes: &[u8], at: usize, place: &mut usize) -> usize
-    ensures told { λ r. ⌜ r ≡ settledAs (nameEnd (now (bytes .entry)) at) ⌝ }
-    ensures stops { λ _. ⌜ now (place .exit) ≡ placeLeft (nameEnd (now (bytes .entry)) at) (now (place .entry)) ⌝ }
+    ensures told { λ r. ⌜ r ≡ settledAs (nameEnd (was bytes) at) ⌝ }
+    ensures stops { λ _. ⌜ now (place .exit) ≡ placeLeft (nameEnd (was bytes) at) (was place) ⌝ }
 {
     let first = token_at(bytes, at);
     let from = first.at;
@@ -38,7 +39,7 @@ pub fn name_end(bytes: &[u8], at: usize, place: &mut usize) -> usize
 
 // What comes behind a value, where this byte closes what it stands in.
 pub fn next_value(bytes: &[u8], at: usize, close: u8) -> Next
-    ensures { λ r. ⌜ r ≡ nextOf close (now (bytes .entry)) at ⌝ }
+    ensures { λ r. ⌜ r ≡ nextOf close (was bytes) at ⌝ }
 {
     let mark = token_at(bytes, at);
     let i = mark.at;

@@ -5,6 +5,7 @@ use json_scan::Reached;
 use json_scan::settle;
 ghost use mathlib.Core.Path.{_≡_};
 ghost use lib.ListN.{drop, replicate};
+ghost use Rattle.bytes_number.specs.Lent.{was};
 ghost use Rattle.json_scan.specs.Scan.{isHexDigit, isEscape, hex};
 ghost use Rattle.json_scan.specs.WorkingEnds.{settledAs, placeLeft, restEnd};
 ghost use Rattle.json_string.specs.WorkingText.{textEnd, Escaped};
@@ -32,7 +33,7 @@ fn is_escape(c: u8) -> bool
 
 // So many hex digits.
 fn hex_end(bytes: &[u8], at: usize, count: u8) -> Reached
-    ensures { λ r. ⌜ r ≡ restEnd (replicate count hex) at (drop at (now (bytes .entry))) ⌝ }
+    ensures { λ r. ⌜ r ≡ restEnd (replicate count hex) at (drop at (was bytes)) ⌝ }
 {
     let mut i = at;
     let mut left = count;
@@ -51,7 +52,7 @@ fn hex_end(bytes: &[u8], at: usize, count: u8) -> Reached
 
 // What stands behind a backslash.
 fn escape_end(bytes: &[u8], at: usize) -> Reached
-    ensures { λ r. ⌜ Escaped (now (bytes .entry)) at r ⌝ }
+    ensures { λ r. ⌜ Escaped (was bytes) at r ⌝ }
 {
     if at >= bytes.len() {
         return Reached::Stopped(at);
@@ -68,8 +69,8 @@ fn escape_end(bytes: &[u8], at: usize) -> Reached
 
 // What stands between the quotation marks, and the closing one.
 pub fn text_end(bytes: &[u8], at: usize, place: &mut usize) -> usize
-    ensures told { λ r. ⌜ r ≡ settledAs (textEnd at (drop at (now (bytes .entry)))) ⌝ }
-    ensures stops { λ _. ⌜ now (place .exit) ≡ placeLeft (textEnd at (drop at (now (bytes .entry)))) (now (place .entry)) ⌝ }
+    ensures told { λ r. ⌜ r ≡ settledAs (textEnd at (drop at (was bytes))) ⌝ }
+    ensures stops { λ _. ⌜ now (place .exit) ≡ placeLeft (textEnd at (drop at (was bytes))) (was place) ⌝ }
 {
     let mut i = at;
     loop {

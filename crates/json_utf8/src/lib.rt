@@ -4,6 +4,7 @@ use json_scan::Reached;
 ghost use mathlib.Core.Path.{_≡_};
 ghost use mathlib.Core.List.{_∷_};
 ghost use lib.ListN.{length, drop, replicate};
+ghost use Rattle.bytes_number.specs.Lent.{was};
 ghost use Rattle.json_scan.specs.Scan.{isWithin, tail, secondOf, tailsOf};
 ghost use Rattle.json_scan.specs.WorkingEnds.{restEnd};
 ghost use Rattle.json_utf8.specs.Working.{lowestSecond, highestSecond};
@@ -49,7 +50,7 @@ fn highest_second(lead: u8) -> u8
 
 // So many tails.
 fn tails_end(bytes: &[u8], at: usize, count: u8) -> Reached
-    ensures { λ r. ⌜ r ≡ restEnd (replicate count tail) at (drop at (now (bytes .entry))) ⌝ }
+    ensures { λ r. ⌜ r ≡ restEnd (replicate count tail) at (drop at (was bytes)) ⌝ }
 {
     let mut i = at;
     let mut left = count;
@@ -65,7 +66,7 @@ fn tails_end(bytes: &[u8], at: usize, count: u8) -> Reached
 
 // The second byte of a character, and so many tails behind it.
 pub fn second_end(bytes: &[u8], at: usize, lead: u8, more: u8) -> Reached
-    ensures { λ r. ⌜ r ≡ restEnd (secondOf lead ∷ replicate more tail) at (drop at (now (bytes .entry))) ⌝ }
+    ensures { λ r. ⌜ r ≡ restEnd (secondOf lead ∷ replicate more tail) at (drop at (was bytes)) ⌝ }
 {
     if !is_tail(
         byte_at(bytes, at),

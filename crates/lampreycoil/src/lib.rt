@@ -1,6 +1,7 @@
 // The library that a C program links. Every call takes numbers and byte slices, returns 0 or the refusal's number, and lists its
 // answer as a row of four-byte numbers in a lent slice. include/lampreycoil.h declares them for C.
 ghost use mathlib.Core.Path.{_≡_};
+ghost use Rattle.bytes_number.specs.Lent.{was};
 ghost use Rattle.frame_message.specs.Writing.{givenMessage};
 ghost use Rattle.table_services.specs.Services;
 ghost use Rattle.table_identities.specs.Identities;
@@ -11,7 +12,7 @@ ghost use Rattle.call_specs.specs.Calls.{returned, Reads, headerOf, Writes, Rea
 // Reads the frame at the front of bytes, and lists where its parts lie.
 #[no_mangle]
 pub extern "C" fn lampreycoil_read(bytes: &[u8], row: &mut [u8]) -> u32
-    ensures { λ r. ⌜ Reads (now (bytes .entry)) (now (row .entry)) r (now (row .exit)) ⌝ }
+    ensures { λ r. ⌜ Reads (was bytes) (was row) r (now (row .exit)) ⌝ }
 {
     call_frame::read(bytes, row)
 }
@@ -31,7 +32,7 @@ pub extern "C" fn lampreycoil_write(
     out: &mut [u8],
     row: &mut [u8],
 ) -> u32
-    ensures { λ r. ⌜ Writes (givenMessage (headerOf kind flags userid rolemask first second) (now (routes .entry)) (now (topic .entry)) (now (payload .entry))) (now (out .entry)) (now (row .entry)) r (now (out .exit)) (now (row .exit)) ⌝ }
+    ensures { λ r. ⌜ Writes (givenMessage (headerOf kind flags userid rolemask first second) (was routes) (was topic) (was payload)) (was out) (was row) r (now (out .exit)) (now (row .exit)) ⌝ }
 {
     call_frame::write(
         kind,
@@ -51,7 +52,7 @@ pub extern "C" fn lampreycoil_write(
 // Lists start and length of each whole frame in bytes, and in the record how many they are, which refusal stopped it and where.
 #[no_mangle]
 pub extern "C" fn lampreycoil_read_stream(bytes: &[u8], list: &mut [u8], row: &mut [u8]) -> u32
-    ensures { λ r. ⌜ ReadsStream (now (bytes .entry)) (now (list .entry)) (now (row .entry)) r (now (list .exit)) (now (row .exit)) ⌝ }
+    ensures { λ r. ⌜ ReadsStream (was bytes) (was list) (was row) r (now (list .exit)) (now (row .exit)) ⌝ }
 {
     call_stream::read_stream(bytes, list, row)
 }
@@ -59,7 +60,7 @@ pub extern "C" fn lampreycoil_read_stream(bytes: &[u8], list: &mut [u8], row: &m
 // Checks a tree, writes one depth byte a rank to the front of depths, and lists how many they are.
 #[no_mangle]
 pub extern "C" fn lampreycoil_check_tree(tree: &[u8], depths: &mut [u8], row: &mut [u8]) -> u32
-    ensures { λ r. ⌜ ChecksTree (now (tree .entry)) (now (depths .entry)) (now (row .entry)) r (now (depths .exit)) (now (row .exit)) ⌝ }
+    ensures { λ r. ⌜ ChecksTree (was tree) (was depths) (was row) r (now (depths .exit)) (now (row .exit)) ⌝ }
 {
     call_table::check_tree(tree, depths, row)
 }
@@ -67,7 +68,7 @@ pub extern "C" fn lampreycoil_check_tree(tree: &[u8], depths: &mut [u8], row: &m
 // Checks the services of a tree.
 #[no_mangle]
 pub extern "C" fn lampreycoil_check_services(tree: &[u8], services: &[u8]) -> u32
-    ensures { λ r. ⌜ r ≡ returned (Services.servicesCheck (now (tree .entry)) (now (services .entry))) ⌝ }
+    ensures { λ r. ⌜ r ≡ returned (Services.servicesCheck (was tree) (was services)) ⌝ }
 {
     call_table::check_services(tree, services)
 }
@@ -75,7 +76,7 @@ pub extern "C" fn lampreycoil_check_services(tree: &[u8], services: &[u8]) -> u3
 // Checks the identities of a tree's ranks.
 #[no_mangle]
 pub extern "C" fn lampreycoil_check_identities(tree: &[u8], identities: &[u8]) -> u32
-    ensures { λ r. ⌜ r ≡ returned (Identities.identitiesCheck (now (tree .entry)) (now (identities .entry))) ⌝ }
+    ensures { λ r. ⌜ r ≡ returned (Identities.identitiesCheck (was tree) (was identities)) ⌝ }
 {
     call_table::check_identities(tree, identities)
 }
@@ -91,7 +92,7 @@ pub extern "C" fn lampreycoil_step(
     buffer: &mut [u8],
     row: &mut [u8],
 ) -> u32
-    ensures { λ r. ⌜ Steps (tablesOf (now (tree .entry)) (now (services .entry)) (now (identities .entry))) (hostBroker rank «from_client») (now (buffer .entry)) (now (row .entry)) r (now (buffer .exit)) (now (row .exit)) ⌝ }
+    ensures { λ r. ⌜ Steps (tablesOf (was tree) (was services) (was identities)) (hostBroker rank «from_client») (was buffer) (was row) r (now (buffer .exit)) (now (row .exit)) ⌝ }
 {
     call_step::steps::step(tree, services, identities, rank, from_client, buffer, row)
 }
@@ -106,7 +107,7 @@ pub extern "C" fn lampreycoil_walk(
     buffer: &mut [u8],
     row: &mut [u8],
 ) -> u32
-    ensures { λ r. ⌜ Plays (tablesOf (now (tree .entry)) (now (services .entry)) (now (identities .entry))) (hostBroker rank 1) (now (buffer .entry)) (now (row .entry)) r (now (buffer .exit)) (now (row .exit)) ⌝ }
+    ensures { λ r. ⌜ Plays (tablesOf (was tree) (was services) (was identities)) (hostBroker rank 1) (was buffer) (was row) r (now (buffer .exit)) (now (row .exit)) ⌝ }
 {
     call_step::walks::walk(tree, services, identities, rank, buffer, row)
 }
@@ -114,7 +115,7 @@ pub extern "C" fn lampreycoil_walk(
 // Says whether a payload is JSON, and lists the answer and the byte that tells against it.
 #[no_mangle]
 pub extern "C" fn lampreycoil_check_json(payload: &[u8], row: &mut [u8]) -> u32
-    ensures { λ r. ⌜ ChecksJson (now (payload .entry)) (now (row .entry)) r (now (row .exit)) ⌝ }
+    ensures { λ r. ⌜ ChecksJson (was payload) (was row) r (now (row .exit)) ⌝ }
 {
     call_json::check_json(payload, row)
 }

@@ -2,6 +2,7 @@
 use refusal::Refusal;
 use step_routing::Broker;
 use step_routing::Stepped;
+ghost use Rattle.bytes_number.specs.Lent.{was};
 ghost use Rattle.step_routing.specs.Routed.{tablesOf};
 ghost use Rattle.step_pass.specs.Step.{stepOf};
 ghost use Rattle.step_pass.specs.Working.{Makes};
@@ -14,7 +15,7 @@ pub fn step(
     b: Broker,
     buffer: &mut [u8],
 ) -> Stepped
-    ensures { λ r. ⌜ Makes (stepOf (tablesOf (now (tree .entry)) (now (services .entry)) (now (identities .entry))) b (now (buffer .entry))) (now (buffer .entry)) r (now (buffer .exit)) ⌝ }
+    ensures { λ r. ⌜ Makes (stepOf (tablesOf (was tree) (was services) (was identities)) b (was buffer)) (was buffer) r (now (buffer .exit)) ⌝ }
 {
     if !table_tree_check::is_tree(tree) {
         return Stepped::Refused(Refusal::TreeWrong);

@@ -9,6 +9,7 @@ use step_routing::Back;
 use step_routing::Broker;
 use step_routing::Stepped;
 use step_routing::Way;
+ghost use Rattle.bytes_number.specs.Lent.{was};
 ghost use Rattle.step_routing.specs.Routed.{tablesOf};
 ghost use Rattle.step_pass.specs.Step.{passOf};
 ghost use Rattle.step_pass.specs.Working.{Makes, Lies, requestOutcome, responseOutcome};
@@ -23,7 +24,7 @@ fn request(
     buffer: &mut [u8],
 ) -> Stepped
     requires { ⌜ Lies (now buffer) f 1 ⌝ }
-    ensures { λ r. ⌜ Makes (requestOutcome (tablesOf (now (tree .entry)) (now (services .entry)) (now (identities .entry))) b (now (buffer .entry))) (now (buffer .entry)) r (now (buffer .exit)) ⌝ }
+    ensures { λ r. ⌜ Makes (requestOutcome (tablesOf (was tree) (was services) (was identities)) b (was buffer)) (was buffer) r (now (buffer .exit)) ⌝ }
 {
     let topic = f.topic;
     let start = topic.start;
@@ -53,7 +54,7 @@ fn request(
 // A response: home, or forwarded without its top route.
 fn response(tree: &[u8], identities: &[u8], rank: u32, f: Layout, buffer: &mut [u8]) -> Stepped
     requires { ⌜ Lies (now buffer) f 2 ⌝ }
-    ensures { λ r. ⌜ Makes (responseOutcome (now (tree .entry)) (now (identities .entry)) rank (now (buffer .entry))) (now (buffer .entry)) r (now (buffer .exit)) ⌝ }
+    ensures { λ r. ⌜ Makes (responseOutcome (was tree) (was identities) rank (was buffer)) (was buffer) r (now (buffer .exit)) ⌝ }
 {
     if f.routes == 0 {
         return Stepped::Home;
@@ -79,7 +80,7 @@ pub fn pass(
     b: Broker,
     buffer: &mut [u8],
 ) -> Stepped
-    ensures { λ r. ⌜ Makes (passOf (tablesOf (now (tree .entry)) (now (services .entry)) (now (identities .entry))) b (now (buffer .entry))) (now (buffer .entry)) r (now (buffer .exit)) ⌝ }
+    ensures { λ r. ⌜ Makes (passOf (tablesOf (was tree) (was services) (was identities)) b (was buffer)) (was buffer) r (now (buffer .exit)) ⌝ }
 {
     if b.rank as usize >= table_tree::ranks_in(tree) {
         return Stepped::Refused(Refusal::RankWrong);

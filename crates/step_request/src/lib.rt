@@ -3,6 +3,7 @@ use frame_message::Header;
 use step_routing::Way;
 use table_records::Found;
 ghost use mathlib.Core.Path.{_≡_};
+ghost use Rattle.bytes_number.specs.Lent.{was};
 ghost use Rattle.step_routing.specs.Requests.{deliverOr, toParent, upwards, toRank, requestWay};
 
 // The nodeid of any rank.
@@ -24,7 +25,7 @@ fn deliver_or(found: Found, other: Way) -> Way
 
 // To the parent, and an error at rank 0.
 fn to_parent(tree: &[u8], rank: u32) -> Way
-    ensures { λ r. ⌜ r ≡ toParent (now (tree .entry)) rank ⌝ }
+    ensures { λ r. ⌜ r ≡ toParent (was tree) rank ⌝ }
 {
     if rank == 0 {
         return Way::Fail(NO_SERVICE);
@@ -34,7 +35,7 @@ fn to_parent(tree: &[u8], rank: u32) -> Way
 
 // Delivered where this rank registers the service, unless it is skipped; else to the parent.
 fn upwards(tree: &[u8], services: &[u8], rank: u32, topic: &[u8], skipped: bool) -> Way
-    ensures { λ r. ⌜ r ≡ upwards (now (tree .entry)) (now (services .entry)) rank (now (topic .entry)) skipped ⌝ }
+    ensures { λ r. ⌜ r ≡ upwards (was tree) (was services) rank (was topic) skipped ⌝ }
 {
     let up = to_parent(tree, rank);
     if skipped {
@@ -48,7 +49,7 @@ fn upwards(tree: &[u8], services: &[u8], rank: u32, topic: &[u8], skipped: bool)
 
 // To the rank that is named: delivered there or an error; else to the next broker on the way.
 fn to_rank(tree: &[u8], services: &[u8], rank: u32, nodeid: u32, topic: &[u8]) -> Way
-    ensures { λ r. ⌜ r ≡ toRank (now (tree .entry)) (now (services .entry)) rank nodeid (now (topic .entry)) ⌝ }
+    ensures { λ r. ⌜ r ≡ toRank (was tree) (was services) rank nodeid (was topic) ⌝ }
 {
     if nodeid as usize >= table_tree::ranks_in(tree) {
         return Way::Fail(HOST_UNREACHABLE);
@@ -73,7 +74,7 @@ pub fn request_way(
     header: Header,
     topic: &[u8],
 ) -> Way
-    ensures { λ r. ⌜ r ≡ requestWay (now (tree .entry)) (now (services .entry)) rank «from_client» header (now (topic .entry)) ⌝ }
+    ensures { λ r. ⌜ r ≡ requestWay (was tree) (was services) rank «from_client» header (was topic) ⌝ }
 {
     if header.first == ANY_RANK {
         return upwards(tree, services, rank, topic, false);

@@ -4,6 +4,7 @@ use table_records::MOST_RECORDS;
 ghost use mathlib.Core.Path.{_≡_};
 ghost use Prim.Native.Nat.{_+_, _*_, _%_, _<_, _≤_};
 ghost use lib.ListN.{length};
+ghost use Rattle.bytes_number.specs.Lent.{was};
 ghost use Rattle.table_records.specs.Records.{mostRecords};
 ghost use Rattle.table_records.specs.Working.{distinct, fresh};
 ghost use Rattle.table_distinct.specs.WorkingChains.{stirred, mixOf, hashOf, hashAt, lastBelow, ChainLinked};
@@ -22,7 +23,7 @@ fn stir_in(h: u32, a: u32, b: u32) -> u32
 // Takes eight bytes into a hash. The first byte is the lightest: as a machine has it that the library is made for, so that four bytes are one load.
 fn stir(h: u32, s: &[u8], at: usize) -> u32
     requires { ⌜ at + 8 ≤ length (now s) ⌝ }
-    ensures { λ r. ⌜ r ≡ stirred h (now (s .entry)) at ⌝ }
+    ensures { λ r. ⌜ r ≡ stirred h (was s) at ⌝ }
 {
     let a = bytes_number::number_of(s[at + 3], s[at + 2], s[at + 1], s[at]);
     let b = bytes_number::number_of(s[at + 7], s[at + 6], s[at + 5], s[at + 4]);
@@ -32,7 +33,7 @@ fn stir(h: u32, s: &[u8], at: usize) -> u32
 // A number of 32 bits for bytes. Equal bytes have equal numbers, and that is all that is asked of it. The last eight bytes are taken in once more,
 // so that there is no rest to go through byte by byte. Fewer than eight bytes, of which no table has its records, are all taken for the same.
 fn mix(s: &[u8]) -> u32
-    ensures { λ r. ⌜ r ≡ mixOf (now (s .entry)) ⌝ }
+    ensures { λ r. ⌜ r ≡ mixOf (was s) ⌝ }
 {
     if s.len() < 8 {
         return 0;
@@ -49,7 +50,7 @@ fn mix(s: &[u8]) -> u32
 
 // The chain that bytes belong to. There are four times as many as records, so that most of them have one record or none.
 fn hash(s: &[u8]) -> usize
-    ensures { λ r. ⌜ (r ≡ hashOf (now (s .entry))) × (r < 4096) ⌝ }
+    ensures { λ r. ⌜ (r ≡ hashOf (was s)) × (r < 4096) ⌝ }
 {
     (mix(s) as u64 * 1540483477 % 4294967296 / 1048576) as usize
 }
@@ -65,7 +66,7 @@ enum Seen {
 // plus 1, and 0 ends the chain.
 fn look(table: &[u8], width: usize, next: &[u16; MOST_RECORDS], i: usize, start: usize) -> Seen
     requires { ⌜ (i < mostRecords) × ChainLinked (hashAt width (now table)) (now next) i × (start ≡ lastBelow (hashAt width (now table)) i (hashAt width (now table) i)) ⌝ }
-    ensures { λ r. ⌜ Sees (fresh width (now (table .entry)) i) r ⌝ }
+    ensures { λ r. ⌜ Sees (fresh width (was table) i) r ⌝ }
 {
     let mut at = start;
     let mut left = LONGEST;
@@ -88,7 +89,7 @@ fn look(table: &[u8], width: usize, next: &[u16; MOST_RECORDS], i: usize, start:
 
 // Whether the table holds n records, at most 1,024 of them, no two of which are equal. head[h] is the last record of the chain h so far, plus 1.
 pub fn are_distinct(table: &[u8], width: u8, n: usize) -> bool
-    ensures { λ r. ⌜ r ≡ distinct width (now (table .entry)) n ⌝ }
+    ensures { λ r. ⌜ r ≡ distinct width (was table) n ⌝ }
 {
     let size = width as usize;
     if n > MOST_RECORDS {

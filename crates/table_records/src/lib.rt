@@ -1,5 +1,6 @@
 // What the tables share: one record, what a look-up finds, and bytes compared.
 ghost use mathlib.Core.Path.{_≡_};
+ghost use Rattle.bytes_number.specs.Lent.{was};
 ghost use Rattle.table_records.specs.Bytes.{sameBytes};
 ghost use Rattle.table_records.specs.Records.{recordAt};
 ghost use Rattle.table_records.specs.Working.{equalInFours};
@@ -15,7 +16,7 @@ pub enum Found {
 
 // The record with the number i, counted from 0, or what the table has of it. In a loop that ends at `table.len() / width` the compiler drops the tests.
 pub fn record_at(table: &[u8], width: usize, i: usize) -> &[u8]
-    ensures { λ r. ⌜ now r ≡ recordAt width (now (table .entry)) i ⌝ }
+    ensures { λ r. ⌜ now r ≡ recordAt width (was table) i ⌝ }
 {
     if width == 0 {
         return &table[..0];
@@ -34,7 +35,7 @@ pub fn record_at(table: &[u8], width: usize, i: usize) -> &[u8]
 
 // How many bytes in front of two slices are surely equal: four at a time, up to the first four in which they differ, or to the end of either.
 pub fn equal_front(a: &[u8], b: &[u8]) -> usize
-    ensures { λ r. ⌜ r ≡ equalInFours (now (a .entry)) (now (b .entry)) ⌝ }
+    ensures { λ r. ⌜ r ≡ equalInFours (was a) (was b) ⌝ }
 {
     let mut i = 0;
     while i + 4 <= a.len() {
@@ -51,7 +52,7 @@ pub fn equal_front(a: &[u8], b: &[u8]) -> usize
 
 // Whether two slices hold the same bytes, to the end of both.
 pub fn same(a: &[u8], b: &[u8]) -> bool
-    ensures { λ r. ⌜ r ≡ sameBytes (now (a .entry)) (now (b .entry)) ⌝ }
+    ensures { λ r. ⌜ r ≡ sameBytes (was a) (was b) ⌝ }
 {
     if a.len() != b.len() {
         return false;

@@ -3,6 +3,7 @@ ghost use mathlib.Core.Path.{_≡_};
 ghost use mathlib.Core.Bool.{cond, _&&_};
 ghost use lib.Dec.{eqb};
 ghost use lib.ListN.{length, getD};
+ghost use Rattle.bytes_number.specs.Lent.{was};
 ghost use Rattle.table_records.specs.Below.{allBelow};
 ghost use Rattle.table_services.specs.Working.{mayStand};
 ghost use Rattle.table_services.specs.Services.{serviceWidth, serviceGood};
@@ -40,7 +41,7 @@ fn stray(x: u8, at: u8, end: u8) -> u8
 // at many at a time, whatever the name's length is.
 fn strays(row: &[u8], end: u8) -> u8
     requires { ⌜ length (now row) ≡ serviceWidth ⌝ }
-    ensures { λ r. ⌜ eqb r 0 ≡ allBelow serviceWidth (λ at. mayStand end at (getD (now (row .entry)) at 0)) ⌝ }
+    ensures { λ r. ⌜ eqb r 0 ≡ allBelow serviceWidth (λ at. mayStand end at (getD (was row) at 0)) ⌝ }
 {
     let mut n: u8 = 0;
     let mut at = 0;
@@ -53,7 +54,7 @@ fn strays(row: &[u8], end: u8) -> u8
 
 // Whether the bytes are a record, and of the form, in a tree of so many ranks.
 pub fn is_service(row: &[u8], ranks: usize) -> bool
-    ensures { λ r. ⌜ r ≡ (eqb (length (now (row .entry))) serviceWidth && serviceGood ranks (now (row .entry))) ⌝ }
+    ensures { λ r. ⌜ r ≡ (eqb (length (was row)) serviceWidth && serviceGood ranks (was row)) ⌝ }
 {
     if row.len() != WIDTH {
         return false;

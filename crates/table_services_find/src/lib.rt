@@ -6,13 +6,14 @@ use table_services::WIDTH;
 ghost use mathlib.Core.Path.{_≡_};
 ghost use Prim.Native.Nat.{_≤_};
 ghost use lib.ListN.{length};
+ghost use Rattle.bytes_number.specs.Lent.{was};
 ghost use Rattle.table_services.specs.Services.{serviceWidth, longestName};
 ghost use Rattle.table_services_find.specs.Lookup.{serviceOf, registers, registeredAs};
 ghost use Rattle.table_services_find.specs.Working.{wholeOrNone};
 
 // The service that a topic names: all before the first period, or all of it.
 pub fn service_of(topic: &[u8]) -> &[u8]
-    ensures { λ r. ⌜ now r ≡ serviceOf (now (topic .entry)) ⌝ }
+    ensures { λ r. ⌜ now r ≡ serviceOf (was topic) ⌝ }
 {
     let mut i = 0;
     while i < topic.len() {
@@ -26,7 +27,7 @@ pub fn service_of(topic: &[u8]) -> &[u8]
 
 // The service, or nothing in place of one that is longer than a name can be: it is not cut to match.
 fn whole_or_none(service: &[u8]) -> &[u8]
-    ensures { λ r. ⌜ now r ≡ wholeOrNone (now (service .entry)) ⌝ }
+    ensures { λ r. ⌜ now r ≡ wholeOrNone (was service) ⌝ }
 {
     if service.len() > LONGEST {
         return &service[..0];
@@ -37,7 +38,7 @@ fn whole_or_none(service: &[u8]) -> &[u8]
 // Whether a record registers a service at a rank.
 fn is_registered(row: &[u8], rank: u32, service: &[u8]) -> bool
     requires { ⌜ (length (now row) ≡ serviceWidth) × (length (now service) ≤ longestName) ⌝ }
-    ensures { λ r. ⌜ r ≡ registers (now (row .entry)) rank (now (service .entry)) ⌝ }
+    ensures { λ r. ⌜ r ≡ registers (was row) rank (was service) ⌝ }
 {
     let asked = service.len();
     if asked < 1 {
@@ -54,7 +55,7 @@ fn is_registered(row: &[u8], rank: u32, service: &[u8]) -> bool
 
 // The record that registers a service at a rank, if there is one.
 pub fn find_service(services: &[u8], rank: u32, service: &[u8]) -> Found
-    ensures { λ r. ⌜ r ≡ registeredAs (now (services .entry)) rank (now (service .entry)) ⌝ }
+    ensures { λ r. ⌜ r ≡ registeredAs (was services) rank (was service) ⌝ }
 {
     let name = whole_or_none(service);
     let n = services.len() / WIDTH;

@@ -4,6 +4,7 @@ use table_records::MOST_RECORDS;
 ghost use mathlib.Core.Path.{_≡_};
 ghost use Prim.Native.Nat.{_≤_};
 ghost use lib.ListN.{length};
+ghost use Rattle.bytes_number.specs.Lent.{was};
 ghost use Rattle.table_records.specs.Records.{mostRecords};
 ghost use Rattle.table_tree.specs.Depths.{depthOf, treeGood};
 ghost use Rattle.refusal.specs.Answer.{writtenOver};
@@ -19,7 +20,7 @@ pub enum Checked {
 // The depth of a rank, where `depths` has those of the ranks below it. A rank whose parent is among them needs no climb.
 fn depth_after(tree: &[u8], depths: &[u8], rank: u32) -> u8
     requires { ⌜ (rank ≤ length (now depths)) × Shallow (now tree) (now depths) rank ⌝ }
-    ensures { λ d. ⌜ d ≡ depthOf (now (tree .entry)) rank ⌝ }
+    ensures { λ d. ⌜ d ≡ depthOf (was tree) rank ⌝ }
 {
     let parent = table_tree::parent_of(tree, rank);
     if parent < rank {
@@ -32,7 +33,7 @@ fn depth_after(tree: &[u8], depths: &[u8], rank: u32) -> u8
 // Whether the bytes are a tree, and then the depths of all its ranks, in an array that has room for as many as a tree can have.
 fn find_depths(tree: &[u8], depths: &mut [u8]) -> bool
     requires { ⌜ mostRecords ≤ length (now depths) ⌝ }
-    ensures { λ r. ⌜ Finds (now (tree .entry)) (now (depths .exit)) r ⌝ }
+    ensures { λ r. ⌜ Finds (was tree) (now (depths .exit)) r ⌝ }
 {
     if !table_tree::is_whole(tree) {
         return false;
@@ -55,7 +56,7 @@ fn find_depths(tree: &[u8], depths: &mut [u8]) -> bool
 
 // Whether the bytes are a tree.
 pub fn is_tree(tree: &[u8]) -> bool
-    ensures { λ r. ⌜ r ≡ treeGood (now (tree .entry)) ⌝ }
+    ensures { λ r. ⌜ r ≡ treeGood (was tree) ⌝ }
 {
     let mut depths = [0u8; MOST_RECORDS];
     find_depths(tree, &mut depths)
@@ -64,7 +65,7 @@ pub fn is_tree(tree: &[u8]) -> bool
 // The tree check: 14, then 11, or the depths of all ranks, one byte each, and how many they are. They are found in an array of our own, since a
 // refusal writes nothing, and copied when nothing can be refused any more.
 pub fn check_tree(tree: &[u8], depths: &mut [u8]) -> Checked
-    ensures { λ r. ⌜ (told r ≡ howMany (depthsInto (length (now (depths .entry))) (now (tree .entry)))) × (now (depths .exit) ≡ writtenOver (depthsInto (length (now (depths .entry))) (now (tree .entry))) (now (depths .entry))) ⌝ }
+    ensures { λ r. ⌜ (told r ≡ howMany (depthsInto (length (was depths)) (was tree))) × (now (depths .exit) ≡ writtenOver (depthsInto (length (was depths)) (was tree)) (was depths)) ⌝ }
 {
     let mut found = [0u8; MOST_RECORDS];
     if !find_depths(tree, &mut found) {

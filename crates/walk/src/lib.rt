@@ -2,6 +2,7 @@
 use refusal::Refusal;
 use step_routing::Broker;
 use step_routing::Stepped;
+ghost use Rattle.bytes_number.specs.Lent.{was};
 ghost use Rattle.step_routing.specs.Routed.{tablesOf};
 ghost use Rattle.walk.specs.Walk.{walkOf};
 ghost use Rattle.walk.specs.WorkingPasses.{Walks};
@@ -20,7 +21,7 @@ const LEAST: usize = 32776;
 
 // A walk that begins at a broker: 11 for a short buffer before all else, then the steps. The first of them checks the tables.
 pub fn walk(tree: &[u8], services: &[u8], identities: &[u8], b: Broker, buffer: &mut [u8]) -> Walked
-    ensures { λ r. ⌜ Walks (walkOf (tablesOf (now (tree .entry)) (now (services .entry)) (now (identities .entry))) b (now (buffer .entry))) r (now (buffer .exit)) ⌝ }
+    ensures { λ r. ⌜ Walks (walkOf (tablesOf (was tree) (was services) (was identities)) b (was buffer)) r (now (buffer .exit)) ⌝ }
 {
     if buffer.len() < LEAST {
         return Walked {

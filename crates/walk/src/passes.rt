@@ -3,6 +3,7 @@ use crate::Walked;
 use refusal::Refusal;
 use step_routing::Broker;
 use step_routing::Stepped;
+ghost use Rattle.bytes_number.specs.Lent.{was};
 ghost use Rattle.step_routing.specs.Routed.{tablesOf};
 ghost use Rattle.walk.specs.Onward.{onward};
 ghost use Rattle.walk.specs.WorkingPasses.{Walks, passesFrom};
@@ -19,7 +20,7 @@ pub(crate) fn go_on(
     b: Broker,
     buffer: &mut [u8],
 ) -> Walked
-    ensures { λ r. ⌜ Walks (passesFrom 64 (tablesOf (now (tree .entry)) (now (services .entry)) (now (identities .entry))) (onward first b) 1 (now (buffer .entry))) r (now (buffer .exit)) ⌝ }
+    ensures { λ r. ⌜ Walks (passesFrom 64 (tablesOf (was tree) (was services) (was identities)) (onward first b) 1 (was buffer)) r (now (buffer .exit)) ⌝ }
 {
     let mut rank = first;
     let mut links: u32 = 1;
