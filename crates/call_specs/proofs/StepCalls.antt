@@ -4,7 +4,7 @@ use Prim.Native.Nat.{ℕ, _-_, _<_, _≤_}
 use mathlib.Core.List.{List}
 use native.Mathlib.Omega.{arith}
 use borrow.Author.Tests.{lt-ltb, le-ltb}
-use lib.ListN.{length, replicate, length-append, length-replicate}
+use lib.ListN.{length}
 use Rattle.bytes_number.specs.Number.{rowBytes}
 use Rattle.bytes_number.specs.WorkingLays.{laidIfRoom}
 use Rattle.bytes_number.proofs.Rows.{row-length}
@@ -13,19 +13,14 @@ use Rattle.refusal.specs.declared.Refusal.{Refusal}
 use Rattle.refusal.specs.declared.Refusal.the-variants.{OutputShort}
 use Rattle.refusal.specs.Refusals.{numberOf}
 use Rattle.refusal.specs.Answer.{Answer, refused, answered}
-use Rattle.frame_message.specs.Frame.{frameOf}
-use Rattle.frame_rewrite.specs.Renewed.{cleared}
 use Rattle.refusal.proofs.Answers.{some-number}
-use Rattle.frame_message.proofs.Frames.{reading}
 use Rattle.step_routing.specs.declared.Broker.{Broker}
 use Rattle.step_routing.specs.Routed.{Tables, Outcome, delivered, forwarded, replied, silenced, home}
 use Rattle.step_routing.specs.declared.Stepped.{Stepped}
 use Rattle.step_pass.specs.Step.{stepOf, leftBy, toldAs}
-use Rattle.step_pass.proofs.Passing.{step-took}
 use Rattle.call_step_record.specs.Steps.{stepRow, frameLength}
 use Rattle.call_step_record.specs.WorkingRows.{refusalIn}
 use Rattle.call_specs.specs.Calls.{stepCall, Tells}
-use Rattle.call_specs.proofs.Telling.{Done}
 
 module _ (t : Tables) (b : Broker) (buffer : List ℕ) (rowRoom : ℕ) where
   pub step-short : rowRoom < 16 → stepCall t b buffer rowRoom ≡ refused OutputShort
@@ -75,29 +70,3 @@ module _ {s : Stepped} {buffer row left : List ℕ} where
         leaves = leaves;
         lists = lists ∙ ap (λ (l : List ℕ). laidIfRoom (rowBytes l) row) are ∙ laid-room (rowBytes (stepRow (toldAs (answered o)) (frameLength left))) row (omega (arith, four-numbers o (frameLength left), row-length (stepRow (toldAs (answered o)) (frameLength left))));
       }
-
--- ---- a step that is not refused has a frame in its buffer
-
-cleared-long : (xs buffer : List ℕ) → length buffer ≤ length (cleared xs buffer)
-cleared-long xs buffer = omega (arith, length-append xs (replicate (length buffer - length xs) 0), length-replicate {A = ℕ} (length buffer - length xs) 0)
-
-step-done : (answer : Answer Outcome) → refusalIn (toldAs answer) ≡ 0 → Done answer
-step-done (refused q) e = absurd (some-number q e)
-step-done (answered o) e = record { value = o; is = refl }
-
-answered-long : (t : Tables) (b : Broker) (buffer : List ℕ) (o : Outcome) → stepOf t b buffer ≡ answered o → 8 ≤ length buffer
-answered-long t b buffer o e = let took = step-took t b buffer o e in reading buffer (took .message) (took .read) .long
-
--- the buffer is as long afterwards, or longer by this law
-left-long : (answer : Answer Outcome) (buffer : List ℕ) → length buffer ≤ length (leftBy answer buffer)
-left-long (refused q) buffer = omega arith
-left-long (answered (delivered number)) buffer = omega arith
-left-long (answered (forwarded next m)) buffer = cleared-long (frameOf m) buffer
-left-long (answered (replied errnum m)) buffer = cleared-long (frameOf m) buffer
-left-long (answered (silenced errnum)) buffer = omega arith
-left-long (answered home) buffer = omega arith
-
-pub frame-there : (t : Tables) (b : Broker) (buffer : List ℕ) {s : Stepped} {left : List ℕ} → s ≡ toldAs (stepOf t b buffer) → left ≡ leftBy (stepOf t b buffer) buffer → refusalIn s ≡ 0 → 8 ≤ length left
-frame-there t b buffer says leaves none =
-    let d = step-done (stepOf t b buffer) (sym (ap refusalIn says) ∙ none) in
-    omega (arith, answered-long t b buffer (d .value) (d .is), left-long (stepOf t b buffer) buffer, ap length leaves)

@@ -1,15 +1,11 @@
 -- The walk call: one law for each way that it ends.
-use mathlib.Core.Path.{_≡_, refl, sym, ap, _∙_}
-use mathlib.Core.Logic.{⊎-elim}
+use mathlib.Core.Path.{_≡_, refl, ap, _∙_}
 use Prim.Native.Nat.{ℕ, _<_, _≤_}
 use mathlib.Core.List.{List, [], _∷_, _++_}
 use native.Mathlib.Omega.{arith}
-use borrow.Author.Tests.{ltb-true, ltb-false}
-use lib.Dec.{ltb}
 use lib.ListN.{length, length-append}
 use Rattle.bytes_number.specs.Number.{rowBytes}
 use Rattle.bytes_number.specs.WorkingLays.{laidIfRoom}
-use Rattle.bytes_number.proofs.Truth.{outcome}
 use Rattle.bytes_number.proofs.Rows.{row-length}
 use Rattle.bytes_number.proofs.Buffers.{laid-room}
 use Rattle.refusal.specs.declared.Refusal.the-variants.{OutputShort}
@@ -23,7 +19,6 @@ use Rattle.step_pass.specs.Step.{toldAs}
 use Rattle.walk.specs.declared.Walked.{Walked}
 use Rattle.walk.specs.Walk.{Walk, walkOf}
 use Rattle.walk.specs.WorkingPasses.{Walks}
-use Rattle.walk.proofs.Walking.{walk-short}
 use Rattle.call_step_record.specs.Steps.{stepRow, frameLength}
 use Rattle.call_step_record.specs.WorkingRows.{refusalIn, walkRow}
 use Rattle.call_specs.specs.Calls.{returned, walkNumbers, Reports, Plays}
@@ -86,12 +81,3 @@ module _ (w : Walk) {walked : Walked} {left : List ℕ} (does : Walks w walked l
     pub reports-yes : {n : ℕ} → n ≡ frameLength left → ns ≡ walkRow walked n → Reports w row r left listed
     reports-yes {n} size e =
         reports (e ∙ numbers n ∙ ap (λ (k : ℕ). stepRow (toldAs (w .answer)) k ++ (w .rank ∷ w .links ∷ [])) (size ∙ ap frameLength (does .leaves)))
-
--- a walk that is not refused has a long buffer
-pub walk-long : (t : Tables) (b : Broker) (buffer : List ℕ) {walked : Walked} {left : List ℕ} → Walks (walkOf t b buffer) walked left → refusalIn (walked .step) ≡ 0 → 32776 ≤ length buffer
-walk-long t b buffer does none = ⊎-elim (λ y. absurd (short (ltb-true (length buffer) 32776 y))) (λ n. ltb-false (length buffer) 32776 n) (outcome (ltb (length buffer) 32776))
-  where
-    short : length buffer < 32776 → ⊥
-    short h =
-        let no : refusalIn (toldAs (walkOf t b buffer .answer)) ≡ 11 = ap (λ (w : Walk). refusalIn (toldAs (w .answer))) (walk-short t b buffer h) in
-        omega (arith, no, sym (ap refusalIn (says (walkOf t b buffer) does)) ∙ none)

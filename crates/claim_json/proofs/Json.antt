@@ -1,6 +1,6 @@
 -- The claim of specs/Json.antt: the verdict is the grammar's, and the record tells it.
 use mathlib.Core.Path.{_≡_, refl, sym, ap, subst, _∙_}
-use Prim.Native.Nat.{ℕ, _<_, _≤_, min}
+use Prim.Native.Nat.{ℕ, _<_, _≤_}
 use mathlib.Core.List.{List, [], _∷_}
 use native.Mathlib.Omega.{arith}
 use lib.ListN.{length, drop}
@@ -15,7 +15,7 @@ use Rattle.json_scan.specs.Scan.{verdictOf}
 use Rattle.json_sound.proofs.Places.{Told, says, good-json, no-at, deep-at}
 use Rattle.json_complete.proofs.Payloads.{payload-reached}
 use Rattle.call_specs.specs.JsonCalls.{jsonNumbers, toldByte, jsonReturn, TellsJson}
-use Rattle.claim_json.specs.Json.{answerIn, byteIn, SaysYes, SaysNo, SaysDeep, JsonOf, JsonIsTheGrammar}
+use Rattle.claim_json.specs.Json.{answerIn, byteIn, JsonOf, JsonIsTheGrammar}
 
 -- ---- the record's two numbers
 

@@ -14,10 +14,6 @@ use Rattle.frame_header.specs.WorkingHead.{headAs}
 
 -- ---- the fields
 
--- x is the number at a place, put together from the four bytes there
-abbrev pub NumberAt : List ℕ → ℕ → ℕ → Type 0
-NumberAt p n x = x ≡ number (getD p (n + 0) 0 ∷ getD p (n + 1) 0 ∷ getD p (n + 2) 0 ∷ getD p (n + 3) 0 ∷ [])
-
 pub fields-in : (p : List ℕ) {u r f s : ℕ} → u ≡ number (drop 4 p) → r ≡ number (drop 8 p) → f ≡ number (drop 12 p) → s ≡ number (drop 16 p) → _≡_ {A = Header} (record { kind = getD p 2 0; flags = getD p 3 0; userid = u; rolemask = r; first = f; second = s }) (headerIn p)
 unfolding headerIn
 fields-in p eu er ef es = rw (eu, er, ef, es)

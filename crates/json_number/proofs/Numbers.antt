@@ -1,5 +1,5 @@
 -- Where a number ends it is read on from, whatever is open around it.
-use mathlib.Core.Path.{_≡_, refl, sym, ap, subst⁻¹, _∙_}
+use mathlib.Core.Path.{_≡_, refl, ap, subst⁻¹, _∙_}
 use mathlib.Core.Bool.{Bool, true, false, cond}
 use mathlib.Core.List.{List, []}
 use mathlib.Core.Logic.{⊎-elim}
@@ -8,12 +8,12 @@ use native.Mathlib.Omega.{arith}
 use borrow.Author.Tests.{ltb-true, ltb-false}
 use lib.Dec.{eqb, ltb}
 use lib.ListN.{length, drop, getD}
-use Rattle.bytes_number.proofs.Truth.{outcome, true-false}
+use Rattle.bytes_number.proofs.Truth.{outcome}
 use Rattle.json_scan.specs.declared.Reached.{Reached}
 use Rattle.json_scan.specs.declared.Reached.the-variants.{Behind, Stopped}
 use Rattle.json_scan.specs.Scan.{isDigit, isE, isSign, Kind, Figure, minus, leadingZero, whole, point, fraction, exponent, sign, power, behind, between, number, nowhere, to, numberMove, moveOf}
 use Rattle.json_scan.specs.WorkingReads.{came, ReadsOn}
-use Rattle.json_scan.proofs.Reading.{Takes, ReadsToken, reads-none, reads-more, reads-stuck, reads-alike, takes-from}
+use Rattle.json_scan.proofs.Reading.{ReadsToken, reads-none, reads-more, reads-stuck, reads-alike}
 use Rattle.json_number.specs.WorkingFigures.{isOver, overAt, numberEnd}
 use Rattle.json_number.proofs.Figures.{number-on, number-stuck, number-stands}
 
@@ -109,24 +109,3 @@ module _ (bytes : List ℕ) (room : ℕ) where
 
 pub number-reads : (bytes : List ℕ) (figure : Figure) (at : ℕ) → ReadsToken bytes at (number figure) (between behind) (came (numberEnd figure at (drop at bytes)))
 number-reads bytes figure at room = reads bytes room (length bytes) figure at (omega arith)
-
--- behind a minus there is a digit at least
-module _ (bytes : List ℕ) (at : ℕ) where
-  abbrev TakesBy : Reached → Type 0
-  TakesBy r = Takes at (came r)
-
-  none : (at < length bytes → moveOf (number minus) [] (getD bytes at 0) ≡ nowhere) → TakesBy (numberEnd minus at (drop at bytes))
-  none e = subst⁻¹ TakesBy (number-stuck minus bytes at e) tt
-
-  some : at < length bytes → Turn minus (getD bytes at 0) → TakesBy (numberEnd minus at (drop at bytes))
-  some l (on figure e) =
-      subst⁻¹ TakesBy (number-on minus bytes at figure l (e [])) (takes-from (at + 1) (came (numberEnd figure (at + 1) (drop (at + 1) bytes))) (omega arith) (number-reads bytes figure (at + 1) 0 .onward))
-  some l (stands may e) = absurd (true-false (sym may))
-  some l (stuck may e) = none (λ m. e [])
-
-  pub number-takes : TakesBy (numberEnd minus at (drop at bytes))
-  number-takes =
-      ⊎-elim
-      (λ t. some (ltb-true at (length bytes) t) (turn minus (getD bytes at 0)))
-      (λ t. none (λ l. absurd (omega (arith, l, ltb-false at (length bytes) t))))
-      (outcome (ltb at (length bytes)))
