@@ -9,24 +9,12 @@ set -u
 cd "$(dirname "$0")/../.." || exit 2
 # shellcheck source=host/test/examples.sh
 . host/test/examples.sh
+# shellcheck source=host/test/good.sh
+. host/test/good.sh
 
 ARCHIVE=${ARCHIVE:-target/staticlib/liblampreycoil.a}
 room=$(mktemp -d) || exit 2
 trap 'rm -rf "$room"' EXIT
-passed=0 failed=0
-
-# The words are a command that succeeds.
-good() { # LABEL WORDS...
-    local label=$1
-    shift
-    if "$@" >"$room/out" 2>"$room/err"; then
-        passed=$((passed + 1))
-    else
-        failed=$((failed + 1))
-        echo "FAILED: $label"
-        tail -n 15 "$room/out" "$room/err" | sed 's/^/  /'
-    fi
-}
 
 # ---- the examples
 

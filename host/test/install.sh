@@ -4,24 +4,13 @@
 # to be there. The last line is 'N passed, M failed'.
 set -u
 cd "$(dirname "$0")/../.." || exit 2
+# shellcheck source=host/test/good.sh
+. host/test/good.sh
 
 room=$(mktemp -d) || exit 2
 trap 'rm -rf "$room"' EXIT
-passed=0 failed=0
 CC=${CC:-gcc}
 
-# The words are a command that succeeds.
-good() { # LABEL WORDS...
-    local label=$1
-    shift
-    if "$@" >"$room/out" 2>"$room/err"; then
-        passed=$((passed + 1))
-    else
-        failed=$((failed + 1))
-        echo "FAILED: $label"
-        tail -n 15 "$room/out" "$room/err" | sed 's/^/  /'
-    fi
-}
 says() { [ "$("${@:2}")" = "$1" ]; } # TEXT WORDS...
 files() { (cd "$1" && find . -type f | LC_ALL=C sort); }
 quiet_make() { make --no-print-directory -s "$@"; }
