@@ -38,6 +38,7 @@ pub record ReplyComesHome (t : Tables) (owner : Owner) (buffer : List ℕ) (m : 
       let left = cleared (frameOf reply) buffer in
       Goes t owner (final 0 (p .brokers)) left (reverse (p .brokers)) Home (leftOf (eqb (linksOf p) 0) (withRoutes reply (m .routes)) left)
 
+-- of an owner whose userid and rolemask have four bytes, as those of every call have: a reply's frame holds no more of them
 abbrev pub EveryReplyComesHome : Tables → Owner → ℕ → List ℕ → Type 0
 EveryReplyComesHome t owner entry buffer =
     (m : Message) → Enters t entry buffer m → noResponse (m .header .flags) ≡ false →
