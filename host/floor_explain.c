@@ -141,7 +141,7 @@ int explain_services(const struct floor *floor, FILE *stream)
     return rules;
 }
 
-/* The first character of an identity that is not of the form; its length where all are. */
+/* The first character of an identity that is not well-formed; its length where all are. */
 static size_t first_wrong(const char *identity)
 {
     static const char form[] = "xxxxxxxx-xxxx-xxxx-xxxx-xxxxxxxxxxxx";

@@ -127,8 +127,8 @@ n4="a part's size or data passes the body's end, or a 4-byte size below 255"
 n5='a 69th part begins'
 n6='no part at all; last part not 20 bytes; its magic, version, type or flag 80 wrong'
 n7='parts disagree with type or flags'
-n8='a route not of the form, or above 64'
-n9='topic not of the form'
+n8='a route not well-formed, or more than 64'
+n9='topic not well-formed'
 n10="request nodeid 4294967294; event's unused field not zero"
 
 # What dump tells of a byte at which a payload is not JSON.

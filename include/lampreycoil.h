@@ -711,9 +711,9 @@ static inline const char *lampreycoil_refusal_words(uint32_t refusal)
     case LAMPREYCOIL_PARTS_DISAGREE:
         return "parts disagree with type or flags";
     case LAMPREYCOIL_ROUTE_WRONG:
-        return "a route not of the form, or above 64";
+        return "a route not well-formed, or more than 64";
     case LAMPREYCOIL_TOPIC_WRONG:
-        return "topic not of the form";
+        return "topic not well-formed";
     case LAMPREYCOIL_FIELD_WRONG:
         return "request nodeid 4294967294; event's unused field not zero";
     case LAMPREYCOIL_OUTPUT_SHORT:
