@@ -56,17 +56,17 @@ static int goes_up(const struct seen *seen)
     return seen->first == LAMPREYCOIL_NODEID_ANY || (seen->flags & LAMPREYCOIL_UPSTREAM) != 0;
 }
 
-/* Why the services of this broker did not serve a request that goes up. */
-static void tell_passed_over(const struct seen *seen, uint32_t from_client)
+/* Why the services of the broker at `rank` did not serve a request that goes up. */
+static void tell_passed_over(const struct seen *seen, uint32_t rank)
 {
-    if (from_client != 0 && seen->first != LAMPREYCOIL_NODEID_ANY)
-        printf("upstream from a client of its own: its services are not tried");
+    if (seen->first == rank)
+        printf("rank %lu is named and is passed by", (unsigned long)rank);
     else
         tell_service(seen, "it has no service");
 }
 
 static void tell_forward(const struct floor *floor, const struct seen *seen, uint32_t rank,
-                         uint32_t from_client, uint32_t to)
+                         uint32_t to)
 {
     int up = floor->rank[rank].parent == to;
 
@@ -74,7 +74,7 @@ static void tell_forward(const struct floor *floor, const struct seen *seen, uin
     if (seen->type == LAMPREYCOIL_RESPONSE)
         printf("the top route is rank %lu's, and is taken off", (unsigned long)seen->top);
     else if (goes_up(seen))
-        tell_passed_over(seen, from_client);
+        tell_passed_over(seen, rank);
     else if (to == seen->first)
         printf("that is the request's rank");
     else
@@ -83,14 +83,14 @@ static void tell_forward(const struct floor *floor, const struct seen *seen, uin
     putchar('\n');
 }
 
-static void tell_error(const struct seen *seen, uint32_t from_client, uint32_t error)
+static void tell_error(const struct seen *seen, uint32_t rank, uint32_t error)
 {
     const struct error_name *name = error_by_number(error);
 
     if (error == LAMPREYCOIL_NO_RANK) {
         printf("rank %lu is not on this floor", (unsigned long)seen->first);
     } else if (goes_up(seen)) {
-        tell_passed_over(seen, from_client);
+        tell_passed_over(seen, rank);
         printf(", and it has no parent");
     } else {
         tell_service(seen, "it is the request's rank, and has no service");
@@ -105,8 +105,8 @@ static void tell_home(const struct seen *seen)
                                     : "the top route is no broker's, so it is a client's");
 }
 
-void tell_step(const struct floor *floor, const struct seen *seen, uint32_t rank,
-               uint32_t from_client, uint32_t refusal, const uint8_t *record)
+void tell_step(const struct floor *floor, const struct seen *seen, uint32_t rank, uint32_t refusal,
+               const uint8_t *record)
 {
     uint32_t number = lampreycoil_number(record, LAMPREYCOIL_STEP_NUMBER);
     uint32_t error = lampreycoil_number(record, LAMPREYCOIL_STEP_ERROR);
@@ -124,15 +124,15 @@ void tell_step(const struct floor *floor, const struct seen *seen, uint32_t rank
         printf(" (record %lu)\n", (unsigned long)number);
         break;
     case LAMPREYCOIL_FORWARD:
-        tell_forward(floor, seen, rank, from_client, number);
+        tell_forward(floor, seen, rank, number);
         break;
     case LAMPREYCOIL_REPLIED:
         printf("makes the error reply: ");
-        tell_error(seen, from_client, error);
+        tell_error(seen, rank, error);
         break;
     case LAMPREYCOIL_SILENCED:
         printf("drops it in silence, for noresponse is set: ");
-        tell_error(seen, from_client, error);
+        tell_error(seen, rank, error);
         break;
     default:
         tell_home(seen);

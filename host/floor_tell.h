@@ -21,8 +21,8 @@ uint32_t see(struct seen *seen, const struct floor *floor, const uint8_t *frame,
 void tell_message(const struct seen *seen);
 
 /* The step of the broker at `rank`, with its refusal and its record. */
-void tell_step(const struct floor *floor, const struct seen *seen, uint32_t rank,
-               uint32_t from_client, uint32_t refusal, const uint8_t *record);
+void tell_step(const struct floor *floor, const struct seen *seen, uint32_t rank, uint32_t refusal,
+               const uint8_t *record);
 
 /* The frame's routes, and whose they are. */
 void tell_routes(const struct floor *floor, const uint8_t *frame, size_t length);

@@ -34,19 +34,19 @@ static uint32_t last(const struct play *play, size_t index)
 }
 
 /* One step, and what it did. */
-static void play_step(struct play *play, uint32_t from_client)
+static void play_step(struct play *play)
 {
     const struct floor *floor = play->floor;
     struct seen seen;
 
     memset(play->record, 0, sizeof play->record);
     see(&seen, floor, play->buffer, sizeof play->buffer);
-    play->refusal = lampreycoil_step(
-        floor->tree_table, floor->tree_length, floor->service_table, floor->service_length,
-        floor->identity_table, floor->identity_length, last_rank(play), from_client, play->buffer,
-        sizeof play->buffer, play->record, sizeof play->record);
+    play->refusal = lampreycoil_step(floor->tree_table, floor->tree_length, floor->service_table,
+                                     floor->service_length, floor->identity_table,
+                                     floor->identity_length, last_rank(play), play->buffer,
+                                     sizeof play->buffer, play->record, sizeof play->record);
     printf("step %-4lu ", (unsigned long)play->links + 1);
-    tell_step(floor, &seen, last_rank(play), from_client, play->refusal, play->record);
+    tell_step(floor, &seen, last_rank(play), play->refusal, play->record);
 }
 
 /* The steps until an answer other than 2, or a refusal. Returns 0, or has said what is wrong. */
@@ -54,7 +54,7 @@ static int play_steps(struct play *play)
 {
     play->visited[0] = play->enter;
     play->links = 0;
-    play_step(play, 1);
+    play_step(play);
     while (play->refusal == LAMPREYCOIL_OK &&
            last(play, LAMPREYCOIL_STEP_ANSWER) == LAMPREYCOIL_FORWARD) {
         if (play->links + 1 == STEPS_MOST) {
@@ -62,7 +62,7 @@ static int play_steps(struct play *play)
             return EXIT_DIFFERS;
         }
         play->visited[++play->links] = last(play, LAMPREYCOIL_STEP_NUMBER);
-        play_step(play, 0);
+        play_step(play);
     }
     return 0;
 }

@@ -81,9 +81,9 @@
 #include <stdint.h>
 
 /* The version of this header, and of the archive that comes with it. */
-#define LAMPREYCOIL_VERSION "0.2.0-dev"
-/* The same for the preprocessor, without what follows a hyphen: 10000 * 0 + 100 * 2 + 0. */
-#define LAMPREYCOIL_VERSION_NUMBER 200
+#define LAMPREYCOIL_VERSION "0.3.0-dev"
+/* The same for the preprocessor, without what follows a hyphen: 10000 * 0 + 100 * 3 + 0. */
+#define LAMPREYCOIL_VERSION_NUMBER 300
 
 /* Marks a function whose result has to be looked at. */
 #if defined(__GNUC__)
@@ -438,11 +438,14 @@ uint32_t lampreycoil_check_identities(const uint8_t *tree, size_t tree_length,
  * LAMPREYCOIL_STEP_RECORD bytes.
  *
  * tree, services and identities are the tables that the checks above take. Every step checks all
- * three, so nobody has to check them before. rank is the broker's own. from_client is 0 where
- * another broker sent the message, or the broker made it by itself; any other number says that it
- * came from a local client. It matters only to a request with LAMPREYCOIL_UPSTREAM and a nodeid
- * other than LAMPREYCOIL_NODEID_ANY. A client's own route is never added or removed here: the
+ * three, so nobody has to check them before. rank is the broker's own. Whether a client or another
+ * broker gave the message does not matter. A client's own route is never added or removed here: the
  * daemon whose client it is pushes it before the first step, and pops it when the response is home.
+ *
+ * Upstream (LAMPREYCOIL_UPSTREAM set, and a nodeid other than LAMPREYCOIL_NODEID_ANY) the nodeid is
+ * the rank to be passed by, such as the sender's own: that broker does not try its services, and
+ * every other one on the way up does. A nodeid that is not in the tree passes nobody by, and is no
+ * error.
  *
  * buffer is the frame and all the room behind it, and buffer_length the length of both:
  * - After 2 a request has this broker's identity on top of its routes, and its frame is
@@ -451,7 +454,7 @@ uint32_t lampreycoil_check_identities(const uint8_t *tree, size_t tree_length,
  *   response is without its top route, and as many bytes shorter.
  * - After 3 the frame is the error reply: a response with the request's routes, topic and matchtag,
  *   the error as errnum, userid LAMPREYCOIL_USERID_UNKNOWN, rolemask 0 and no payload. It is never
- *   longer than the request. Another step, with from_client 0, tells where it goes.
+ *   longer than the request. Another step of the same broker tells where it goes.
  * - After 2 and 3 every byte behind the new frame is zero, to the end of buffer. Lend only what may
  *   be cleared: a next message that was received behind the first one would be lost. The shorter
  *   buffer is the quicker one.
@@ -464,17 +467,15 @@ uint32_t lampreycoil_check_identities(const uint8_t *tree, size_t tree_length,
 LAMPREYCOIL_CHECKED
 uint32_t lampreycoil_step(const uint8_t *tree, size_t tree_length, const uint8_t *services,
                           size_t services_length, const uint8_t *identities,
-                          size_t identities_length, uint32_t rank, uint32_t from_client,
-                          uint8_t *buffer, size_t buffer_length, uint8_t *record,
-                          size_t record_length);
+                          size_t identities_length, uint32_t rank, uint8_t *buffer,
+                          size_t buffer_length, uint8_t *record, size_t record_length);
 
 /*
  * Plays a whole walk of the message whose frame begins at buffer's front: the step of the broker at
- * rank, as from a local client, then that of the broker to which it forwards the message, as from
- * another broker, and so on until an answer other than 2. Writes the result to record, which
- * takes LAMPREYCOIL_WALK_RECORD bytes. It is there to try the tables of a whole tree: where a
- * message ends, and over how many links. A broker's daemon acts for one broker, and calls
- * lampreycoil_step.
+ * rank, then that of the broker to which it forwards the message, and so on until an answer other
+ * than 2. Writes the result to record, which takes LAMPREYCOIL_WALK_RECORD bytes. It is there to
+ * try the tables of a whole tree: where a message ends, and over how many links. A broker's daemon
+ * acts for one broker, and calls lampreycoil_step.
  *
  * The tables are checked once. Each step is lampreycoil_step's, on the buffer that the one before
  * left. After 1, 4 and 5 on 0 links no byte of buffer has changed; after any other answer every

@@ -165,7 +165,7 @@ static uint32_t play(enum slice out, uint8_t *empty, int walk)
         return lampreycoil_walk(tables[0], lengths[0], tables[1], lengths[1], tables[2], lengths[2],
                                 6, lent, room, row, row_length);
     return lampreycoil_step(tables[0], lengths[0], tables[1], lengths[1], tables[2], lengths[2], 6,
-                            1, lent, room, row, row_length);
+                            lent, room, row, row_length);
 }
 
 static void take_plays(uint8_t *other)

@@ -195,12 +195,26 @@ told 'rank 5 makes the error reply: it is the request'"'"'s rank, and has no ser
 walks W7 0 'error reply 113 at rank 3, links 0: 3' walk --enter 3 "$example" --nodeid 7 --topic bench.run
 told 'step 1    rank 3 makes the error reply: rank 7 is not on this floor (error 113, EHOSTUNREACH)'
 walks W8 0 'delivered at rank 1, links 1: 4 > 1' walk --enter 4 "$example" --nodeid 4 --upstream --topic bench.run
-told 'upstream from a client of its own: its services are not tried'
+told 'step 1    rank 4 forwards it to rank 1, its parent: rank 4 is named and is passed by'
 walks W9 0 'error reply 38 at rank 0, links 0: 0' walk --enter 0 "$example" --nodeid 0 --upstream --topic log.put
-told 'its services are not tried, and it has no parent (error 38, ENOSYS)'
+told 'step 1    rank 0 makes the error reply: rank 0 is named and is passed by, and it has no parent (error 38, ENOSYS)'
 walks W10 0 'error reply 38 at rank 0, links 2: 3 > 1 > 0' walk --enter 3 "$example" --topic benchmark.run
 walks W11 0 'silenced 38 at rank 0, links 2: 5 > 2 > 0' walk --enter 5 "$example" --topic bench.run --noresponse
 told 'step 3    rank 0 drops it in silence, for noresponse is set: it has no service "bench"'
+
+# ---- upstream: the broker that the nodeid names is passed by, and no other
+
+walks 'upstream, the entry that is not named' 0 'delivered at rank 4, links 0: 4' walk --enter 4 "$example" --nodeid 5 --upstream --topic bench.run
+told 'step 1    rank 4 delivers it: it has the service "bench" (record 2)'
+walks 'upstream, the named rank on the way' 0 'error reply 38 at rank 0, links 2: 3 > 1 > 0' walk --enter 3 "$example" --nodeid 1 --upstream --topic bench.run
+told 'step 1    rank 3 forwards it to rank 1, its parent: it has no service "bench"'
+told 'step 2    rank 1 forwards it to rank 0, its parent: rank 1 is named and is passed by'
+told 'step 3    rank 0 makes the error reply: it has no service "bench", and it has no parent (error 38, ENOSYS)'
+walks 'upstream, a rank that is not on this floor' 0 'delivered at rank 0, links 0: 0' walk --enter 0 "$example" --nodeid 7 --upstream --topic log.put
+walks 'upstream, any rank' 0 'delivered at rank 4, links 0: 4' walk --enter 4 "$example" --nodeid any --upstream --topic bench.run
+sed 's/^3 .*/& bench/' "$example" >"$room/three.floor"
+walks 'upstream, the service of rank 3 itself' 0 'delivered at rank 3, links 0: 3' walk --enter 3 "$room/three.floor" --nodeid 5 --upstream --topic bench.run
+told 'step 1    rank 3 delivers it: it has the service "bench" (record 2)'
 
 # ---- bytes left, frames, and home
 

@@ -62,7 +62,7 @@ static uint32_t step(uint32_t rank, uint8_t *record)
 {
     return lampreycoil_step(tables.tree, sizeof tables.tree, tables.services,
                             sizeof tables.services, tables.identities, sizeof tables.identities,
-                            rank, 1, buffer, sizeof buffer, record, LAMPREYCOIL_STEP_RECORD);
+                            rank, buffer, sizeof buffer, record, LAMPREYCOIL_STEP_RECORD);
 }
 
 /* A request of a client of rank 2 is delivered at rank 0, and its response is home with the client.

@@ -207,9 +207,9 @@ static uint32_t check_identities(void)
 
 static uint32_t step(void)
 {
-    uint32_t refusal = lampreycoil_step(tree, sizeof tree, lent_services, sizeof services,
-                                        lent_identities, sizeof identities, at_rank, 1, buffer,
-                                        sizeof buffer, record, sizeof record);
+    uint32_t refusal =
+        lampreycoil_step(tree, sizeof tree, lent_services, sizeof services, lent_identities,
+                         sizeof identities, at_rank, buffer, sizeof buffer, record, sizeof record);
 
     return refusal ? refusal : 100 + lampreycoil_number(record, LAMPREYCOIL_STEP_ANSWER);
 }

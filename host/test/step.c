@@ -13,20 +13,19 @@ static const struct broker at_rank_0 = {
 static const struct floor_tables on_floor = {
     tree, services, identities, sizeof tree, sizeof services, RANKS *LAMPREYCOIL_ROUTE_SIZE};
 
-static uint32_t step(uint32_t rank, uint32_t from_client, uint8_t *buffer, size_t room,
-                     uint8_t *record, size_t record_length)
+static uint32_t step(uint32_t rank, uint8_t *buffer, size_t room, uint8_t *record,
+                     size_t record_length)
 {
     return lampreycoil_step(tree, sizeof tree, services, sizeof services, identities,
-                            RANKS * LAMPREYCOIL_ROUTE_SIZE, rank, from_client, buffer, room, record,
+                            RANKS * LAMPREYCOIL_ROUTE_SIZE, rank, buffer, room, record,
                             record_length);
 }
 
 static uint8_t buffer[ROOM], want[ROOM];
 
 /* The step answers so, and leaves the frame of `left`, or what was there if that is NULL. */
-static void answers(const char *label, uint32_t rank, uint32_t from_client,
-                    const struct message *given, uint32_t answer, uint32_t number, uint32_t error,
-                    const struct message *left)
+static void answers(const char *label, uint32_t rank, const struct message *given, uint32_t answer,
+                    uint32_t number, uint32_t error, const struct message *left)
 {
     uint8_t record[LAMPREYCOIL_STEP_RECORD + 4];
     size_t length = write_message(given, buffer);
@@ -39,7 +38,7 @@ static void answers(const char *label, uint32_t rank, uint32_t from_client,
         memset(want + length, 0, ROOM - length);
     }
     memset(record, FILL, sizeof record);
-    refusal = step(rank, from_client, buffer, ROOM, record, sizeof record);
+    refusal = step(rank, buffer, ROOM, record, sizeof record);
     good = refusal == LAMPREYCOIL_OK && memcmp(buffer, want, ROOM) == 0 &&
            lampreycoil_number(record, LAMPREYCOIL_STEP_ANSWER) == answer &&
            lampreycoil_number(record, LAMPREYCOIL_STEP_NUMBER) == number &&
@@ -61,7 +60,7 @@ static void refuses(const char *label, uint32_t rank, const struct message *give
     write_message(given, buffer);
     write_message(given, want);
     memset(record, FILL, sizeof record);
-    refusal = step(rank, 1, buffer, room, record, record_length);
+    refusal = step(rank, buffer, room, record, record_length);
     good = refusal == number && memcmp(buffer, want, ROOM) == 0;
     for (size_t i = 0; i < sizeof record; i++)
         good = good && record[i] == FILL;
@@ -114,8 +113,7 @@ static void ends(const char *label, uint32_t entry, const struct message *given,
 }
 
 /* The daemon of this rank does so with a message, and leaves what is behind a route's room. */
-static void does(const char *label, uint32_t rank, uint32_t from_client,
-                 const struct message *given, const char *so)
+static void does(const char *label, uint32_t rank, const struct message *given, const char *so)
 {
     struct broker b = at_rank_0;
     size_t length = write_message(given, buffer);
@@ -123,7 +121,7 @@ static void does(const char *label, uint32_t rank, uint32_t from_client,
 
     b.rank = rank;
     told[0] = '\0';
-    take_message(&b, from_client, buffer, length);
+    take_message(&b, buffer, length);
     good = strcmp(told, so) == 0;
     for (size_t i = length + LAMPREYCOIL_ROUTE_STEP; i < ROOM; i++)
         good = good && buffer[i] == FILL;
@@ -142,8 +140,14 @@ static const struct message bench = {
     LAMPREYCOIL_REQUEST, PLAIN, LAMPREYCOIL_NODEID_ANY, "bench.run", 0, 0, 0};
 static const struct message bench_3 = {
     LAMPREYCOIL_REQUEST, PLAIN, LAMPREYCOIL_NODEID_ANY, "bench.run", 3, 1, 0};
-static const struct message up = {LAMPREYCOIL_REQUEST, UPSTREAM, 4, "bench.run", 0, 0, 0};
-static const struct message up_4 = {LAMPREYCOIL_REQUEST, UPSTREAM, 4, "bench.run", 4, 1, 0};
+static const struct message past_4 = {LAMPREYCOIL_REQUEST, UPSTREAM, 4, "bench.run", 0, 0, 0};
+static const struct message past_4_up = {LAMPREYCOIL_REQUEST, UPSTREAM, 4, "bench.run", 4, 1, 0};
+static const struct message past_5 = {LAMPREYCOIL_REQUEST, UPSTREAM, 5, "bench.run", 0, 0, 0};
+static const struct message past_7 = {LAMPREYCOIL_REQUEST, UPSTREAM, 7, "bench.run", 0, 0, 0};
+static const struct message past_0 = {LAMPREYCOIL_REQUEST, UPSTREAM, 0, "log", 0, 0, 0};
+static const struct message past_0_38 = {LAMPREYCOIL_RESPONSE, PLAIN, 38, "log", 0, 0, 0};
+static const struct message past_any = {
+    LAMPREYCOIL_REQUEST, UPSTREAM, LAMPREYCOIL_NODEID_ANY, "bench.run", 0, 0, 0};
 static const struct message kvs = {
     LAMPREYCOIL_REQUEST, FULL, LAMPREYCOIL_NODEID_ANY, "kvs.get", 1, 2, 300};
 static const struct message kvs_38 = {LAMPREYCOIL_RESPONSE, PLAIN, 38, "kvs.get", 1, 2, 0};
@@ -159,19 +163,31 @@ static const struct message event = {LAMPREYCOIL_EVENT, LAMPREYCOIL_TOPIC, 0, "u
 
 static void test_answers(void)
 {
-    answers("1: delivered, with its record", 4, 1, &bench, LAMPREYCOIL_DELIVERED, 1, 0, NULL);
-    answers("2: a request goes up, with our identity", 3, 1, &bench, LAMPREYCOIL_FORWARD, 1, 0,
+    answers("1: delivered, with its record", 4, &bench, LAMPREYCOIL_DELIVERED, 1, 0, NULL);
+    answers("2: a request goes up, with our identity", 3, &bench, LAMPREYCOIL_FORWARD, 1, 0,
             &bench_3);
-    answers("2: a response goes on, without its top route", 3, 0, &back, LAMPREYCOIL_FORWARD, 1, 0,
+    answers("2: a response goes on, without its top route", 3, &back, LAMPREYCOIL_FORWARD, 1, 0,
             &back_home);
-    answers("3: an error reply, 38", 0, 0, &kvs, LAMPREYCOIL_REPLIED, 0, LAMPREYCOIL_NO_SERVICE,
+    answers("3: an error reply, 38", 0, &kvs, LAMPREYCOIL_REPLIED, 0, LAMPREYCOIL_NO_SERVICE,
             &kvs_38);
-    answers("3: an error reply, 113", 3, 1, &far, LAMPREYCOIL_REPLIED, 0, LAMPREYCOIL_NO_RANK,
+    answers("3: an error reply, 113", 3, &far, LAMPREYCOIL_REPLIED, 0, LAMPREYCOIL_NO_RANK,
             &far_113);
-    answers("4: silenced", 0, 1, &quiet, LAMPREYCOIL_SILENCED, 0, LAMPREYCOIL_NO_SERVICE, NULL);
-    answers("5: home", 3, 0, &back_home, LAMPREYCOIL_HOME, 0, 0, NULL);
-    answers("upstream, not from a client", 4, 0, &up, LAMPREYCOIL_DELIVERED, 1, 0, NULL);
-    answers("upstream, from a client that is 2", 4, 2, &up, LAMPREYCOIL_FORWARD, 1, 0, &up_4);
+    answers("4: silenced", 0, &quiet, LAMPREYCOIL_SILENCED, 0, LAMPREYCOIL_NO_SERVICE, NULL);
+    answers("5: home", 3, &back_home, LAMPREYCOIL_HOME, 0, 0, NULL);
+}
+
+static void test_upstream(void)
+{
+    answers("upstream, the named rank is passed by", 4, &past_4, LAMPREYCOIL_FORWARD, 1, 0,
+            &past_4_up);
+    answers("upstream, another rank tries its services", 1, &past_4, LAMPREYCOIL_DELIVERED, 0, 0,
+            NULL);
+    answers("upstream, the entry too, where another is named", 4, &past_5, LAMPREYCOIL_DELIVERED, 1,
+            0, NULL);
+    answers("upstream, rank 7 passes nobody by", 4, &past_7, LAMPREYCOIL_DELIVERED, 1, 0, NULL);
+    answers("upstream, rank 0 that is named is 38", 0, &past_0, LAMPREYCOIL_REPLIED, 0,
+            LAMPREYCOIL_NO_SERVICE, &past_0_38);
+    answers("upstream for any rank is as without", 4, &past_any, LAMPREYCOIL_DELIVERED, 1, 0, NULL);
 }
 
 static void test_refusals(void)
@@ -191,13 +207,13 @@ static void test_refusals(void)
 
 static void test_examples(void)
 {
-    does("C-GUIDE.md: delivered", 4, 1, &bench, "service 1 (41); ");
-    does("C-GUIDE.md: forwarded", 3, 1, &bench, "broker 1 (79); ");
-    does("C-GUIDE.md: a reply goes to the broker below", 0, 0, &kvs, "broker 1 (77); ");
-    does("C-GUIDE.md: a reply to a client", 3, 1, &far, "client 0 (41); ");
-    does("C-GUIDE.md: silenced", 0, 1, &quiet, "silence 38 (0); ");
-    does("C-GUIDE.md: home", 3, 0, &back_home, "client 0 (344); ");
-    does("C-GUIDE.md: refused", 7, 1, &bench, "refusal 17 (41); ");
+    does("C-GUIDE.md: delivered", 4, &bench, "service 1 (41); ");
+    does("C-GUIDE.md: forwarded", 3, &bench, "broker 1 (79); ");
+    does("C-GUIDE.md: a reply goes to the broker below", 0, &kvs, "broker 1 (77); ");
+    does("C-GUIDE.md: a reply to a client", 3, &far, "client 0 (41); ");
+    does("C-GUIDE.md: silenced", 0, &quiet, "silence 38 (0); ");
+    does("C-GUIDE.md: home", 3, &back_home, "client 0 (344); ");
+    does("C-GUIDE.md: refused", 7, &bench, "refusal 17 (41); ");
 
     ends("C-GUIDE.md: a walk that is delivered", 3, &bench, 1, 1);
     ends("C-GUIDE.md: a walk that ends in an error", 3, &kvs, 0, RANKS);
@@ -208,6 +224,7 @@ int main(void)
 {
     make_floor();
     test_answers();
+    test_upstream();
     test_refusals();
     test_examples();
     return 0;

@@ -1,9 +1,8 @@
 -- The C calls, as include/lampreycoil.h describes them: what each returns, and what it leaves in the slices that it was lent.
 use mathlib.Core.Path.{_≡_}
 use Prim.Native.Nat.{ℕ, _<_, _≤_}
-use mathlib.Core.Bool.{not}
 use mathlib.Core.List.{List, [], _∷_, _++_}
-use lib.Dec.{eqb, ltb}
+use lib.Dec.{ltb}
 use lib.ListN.{length}
 use Rattle.bytes_number.specs.Number.{rowBytes}
 use Rattle.bytes_number.specs.Laid.{laid}
@@ -95,17 +94,17 @@ ChecksTree tree depths row r filled listed = Fills (treeCall tree (length depths
 abbrev pub stepRecord : ℕ
 stepRecord = 16
 
--- the broker of a rank, whose error replies are this owner's: from_client is no where it is 0
-abbrev pub brokerAs : Owner → ℕ → ℕ → Broker
-brokerAs owner rank fromClient = record { rank = rank; client = not (eqb fromClient 0); userid = owner .userid; rolemask = owner .rolemask }
+-- the broker of a rank, whose error replies are this owner's
+abbrev pub brokerAs : Owner → ℕ → Broker
+brokerAs owner rank = record { rank = rank; userid = owner .userid; rolemask = owner .rolemask }
 
 -- "userid FFFFFFFF, rolemask 0"
 abbrev pub nobody : Owner
 nobody = ownerOf 4294967295 0
 
 -- the broker of the host's calls
-abbrev pub hostBroker : ℕ → ℕ → Broker
-hostBroker rank fromClient = brokerAs nobody rank fromClient
+abbrev pub hostBroker : ℕ → Broker
+hostBroker rank = brokerAs nobody rank
 
 -- "A record buffer below 16 bytes gives 11 before anything else"
 unfoldable pub stepCall : Tables → Broker → List ℕ → ℕ → Answer Outcome

@@ -16,18 +16,16 @@ pub fn step(
     services: &[u8],
     identities: &[u8],
     rank: u32,
-    from_client: u32,
     buffer: &mut [u8],
     row: &mut [u8],
 ) -> u32
-    ensures { λ r. ⌜ Steps (tablesOf (was tree) (was services) (was identities)) (hostBroker rank «from_client») (was buffer) (was row) r (now (buffer .exit)) (now (row .exit)) ⌝ }
+    ensures { λ r. ⌜ Steps (tablesOf (was tree) (was services) (was identities)) (hostBroker rank) (was buffer) (was row) r (now (buffer .exit)) (now (row .exit)) ⌝ }
 {
     if row.len() < STEP_RECORD {
         return refusal::number(Refusal::OutputShort);
     }
     let b = Broker {
         rank,
-        client: from_client != 0,
         userid: NO_USER,
         rolemask: 0,
     };

@@ -19,14 +19,13 @@ pub fn walk(
     buffer: &mut [u8],
     row: &mut [u8],
 ) -> u32
-    ensures { λ r. ⌜ Plays (tablesOf (was tree) (was services) (was identities)) (hostBroker rank 1) (was buffer) (was row) r (now (buffer .exit)) (now (row .exit)) ⌝ }
+    ensures { λ r. ⌜ Plays (tablesOf (was tree) (was services) (was identities)) (hostBroker rank) (was buffer) (was row) r (now (buffer .exit)) (now (row .exit)) ⌝ }
 {
     if row.len() < WALK_RECORD {
         return refusal::number(Refusal::OutputShort);
     }
     let b = Broker {
         rank,
-        client: true,
         userid: NO_USER,
         rolemask: 0,
     };

@@ -1,5 +1,6 @@
 // The claims, for every slice and number that a call can get. Each theorem is the postcondition of an empty function, whose parameters are those of the
 // call that it is about. So the premises of a law, that bytes are below 256 and that a field has four bytes, are met here once and for all.
+use frame_message::Header;
 use step_routing::Broker;
 ghost use Rattle.bytes_number.specs.Lent.{was};
 ghost use Rattle.bytes_number.specs.Number.{Bytes};
@@ -15,6 +16,7 @@ ghost use Rattle.step_routing.specs.Messages.{ownerOf};
 ghost use Rattle.step_routing.specs.Routed.{tablesOf};
 ghost use Rattle.claim_walks.specs.Demand3.{DemandThree};
 ghost use Rattle.claim_walks.specs.Corollaries.{EveryReplyComesHome, AtMost32Links, EveryWalkIsRun};
+ghost use Rattle.claim_walks.specs.Upstream.{UpstreamSkips};
 ghost use Rattle.claim_walks.specs.Walks.{WalksOfTheTable};
 
 // Takes any slice.
@@ -86,10 +88,9 @@ pub fn steps_by_the_rules(
     userid: u32,
     rolemask: u32,
     rank: u32,
-    from_client: u32,
     buffer: &[u8],
 )
-    ensures { λ _. ⌜ StepsByTheRules (tablesOf (was tree) (was services) (was identities)) (ownerOf userid rolemask) rank «from_client» (was buffer) ⌝ }
+    ensures { λ _. ⌜ StepsByTheRules (tablesOf (was tree) (was services) (was identities)) (ownerOf userid rolemask) rank (was buffer) ⌝ }
 {
     are_bytes(buffer);
 }
@@ -162,6 +163,11 @@ pub fn every_walk_is_run(tree: &[u8], services: &[u8], identities: &[u8], b: Bro
 {
     are_bytes(buffer);
 }
+
+// Upstream, the broker that the nodeid names is skipped, and no other.
+pub fn upstream_skips(tree: &[u8], services: &[u8], entry: u32, header: Header, topic: &[u8])
+    ensures { λ _. ⌜ UpstreamSkips (was tree) (was services) entry header (was topic) ⌝ }
+{}
 
 // The walks of the example floor's table, as the walk call reports them and as the steps end them.
 pub fn walks_of_the_table(userid: u32, rolemask: u32)

@@ -1,10 +1,9 @@
 -- The way of a request by the conditions of specs/Rules.antt: each leads to one way, and one of them holds.
 use mathlib.Core.Path.{_≡_, refl, sym, ap, _∙_}
-use mathlib.Core.Bool.{true, false}
 use mathlib.Core.Logic.{⊎-elim}
 use Prim.Native.Nat.{ℕ, _<_}
 use native.Mathlib.Omega.{arith}
-use borrow.Author.Tests.{eqb-true, eqb-false, ltb-true, ltb-false}
+use borrow.Author.Tests.{eqb-true, eqb-false, eq-eqb, ne-eqb, ltb-true, ltb-false}
 use lib.Dec.{eqb, ltb}
 use Rattle.bytes_number.proofs.Truth.{outcome}
 use Rattle.frame_message.specs.Header.{isUpstream}
@@ -77,19 +76,19 @@ module _ (t : Tables) (b : Broker) (m : Message) (right : Right t b) where
 
   there : ForRank m → n ≡ b .rank → way ≡ deliverOr found (Fail 38)
   there f e =
-      way-rank (t .tree) (t .services) (b .rank) (m .topic) (b .client) (m .header) (f .other) (f .clear)
+      way-rank (t .tree) (t .services) (b .rank) (m .topic) (m .header) (f .other) (f .clear)
       ∙ rank-reached (t .tree) (t .services) (b .rank) (m .topic) n (omega (arith, right .rank)) e
 
   anyhow : ForAny m → way ≡ deliverOr found up
-  anyhow a = way-any (t .tree) (t .services) (b .rank) (m .topic) (b .client) (m .header) a ∙ up-tried (t .tree) (t .services) (b .rank) (m .topic) refl
+  anyhow a = way-any (t .tree) (t .services) (b .rank) (m .topic) (m .header) a ∙ up-tried (t .tree) (t .services) (b .rank) (m .topic) refl
 
-  upstream-tried : Upstream m → b .client ≡ false → way ≡ deliverOr found up
+  upstream-tried : Upstream m → (b .rank ≡ n → ⊥) → way ≡ deliverOr found up
   upstream-tried u c =
-      way-upstream (t .tree) (t .services) (b .rank) (m .topic) (b .client) (m .header) (u .other) (u .set) ∙ up-tried (t .tree) (t .services) (b .rank) (m .topic) c
+      way-upstream (t .tree) (t .services) (b .rank) (m .topic) (m .header) (u .other) (u .set) ∙ up-tried (t .tree) (t .services) (b .rank) (m .topic) (ne-eqb (b .rank) n c)
 
-  upstream-skipped : Upstream m → b .client ≡ true → way ≡ up
+  upstream-skipped : Upstream m → b .rank ≡ n → way ≡ up
   upstream-skipped u c =
-      way-upstream (t .tree) (t .services) (b .rank) (m .topic) (b .client) (m .header) (u .other) (u .set) ∙ up-skipped (t .tree) (t .services) (b .rank) (m .topic) c
+      way-upstream (t .tree) (t .services) (b .rank) (m .topic) (m .header) (u .other) (u .set) ∙ up-skipped (t .tree) (t .services) (b .rank) (m .topic) (eq-eqb (b .rank) n c)
 
   pub way-served : (number : ℕ) → Tries b m → Registers t b m number → way ≡ Deliver number
   way-served number (Tries.any a) r = anyhow a ∙ ap (λ (f : Found). deliverOr f up) (registers-found number r)
@@ -100,15 +99,15 @@ module _ (t : Tables) (b : Broker) (m : Message) (right : Right t b) where
   way-up (GoesUp.any a none) = anyhow a ∙ ap (λ (f : Found). deliverOr f up) (none-found none)
   way-up (GoesUp.upstream u none) =
       ⊎-elim
-      (λ c. upstream-skipped u c)
-      (λ c. upstream-tried u c ∙ ap (λ (f : Found). deliverOr f up) (none-found none))
-      (outcome (b .client))
+      (λ c. upstream-skipped u (eqb-true (b .rank) n c))
+      (λ c. upstream-tried u (eqb-false (b .rank) n c) ∙ ap (λ (f : Found). deliverOr f up) (none-found none))
+      (outcome (eqb (b .rank) n))
   way-up (GoesUp.skipped u c) = upstream-skipped u c
 
   pub way-goes : (next : ℕ) → GoesTo t b m next → way ≡ Forward next
   way-goes next (GoesTo.up g low e) = way-up g ∙ parent-some (t .tree) (b .rank) low ∙ ap Forward (sym e)
   way-goes next (GoesTo.ahead f inside apart e) =
-      way-rank (t .tree) (t .services) (b .rank) (m .topic) (b .client) (m .header) (f .other) (f .clear)
+      way-rank (t .tree) (t .services) (b .rank) (m .topic) (m .header) (f .other) (f .clear)
       ∙ rank-ahead (t .tree) (t .services) (b .rank) (m .topic) n (omega arith) apart ∙ ap Forward (sym e)
 
   pub way-no-service : NoService t b m → way ≡ Fail 38
@@ -117,7 +116,7 @@ module _ (t : Tables) (b : Broker) (m : Message) (right : Right t b) where
 
   pub way-no-rank : Unreachable t m → way ≡ Fail 113
   way-no-rank o =
-      way-rank (t .tree) (t .services) (b .rank) (m .topic) (b .client) (m .header) (o .named .other) (o .named .clear)
+      way-rank (t .tree) (t .services) (b .rank) (m .topic) (m .header) (o .named .other) (o .named .clear)
       ∙ rank-outside (t .tree) (t .services) (b .rank) (m .topic) n (omega (arith, o .outside))
 
   -- ---- one of them holds
@@ -140,9 +139,9 @@ module _ (t : Tables) (b : Broker) (m : Message) (right : Right t b) where
   upstream-which : Upstream m → Which t b m
   upstream-which u =
       ⊎-elim
-      (λ c. climbing (GoesUp.skipped u c))
-      (λ c. looking (Tries.upstream u c) (λ none. climbing (GoesUp.upstream u none)))
-      (outcome (b .client))
+      (λ c. climbing (GoesUp.skipped u (eqb-true (b .rank) n c)))
+      (λ c. looking (Tries.upstream u (eqb-false (b .rank) n c)) (λ none. climbing (GoesUp.upstream u none)))
+      (outcome (eqb (b .rank) n))
 
   rank-which : ForRank m → Which t b m
   rank-which f = ⊎-elim (λ inside. within (ltb-true n (ranksIn (t .tree)) inside)) (λ outside. no-rank (record { named = f; outside = omega (arith, ltb-false n (ranksIn (t .tree)) outside) })) (outcome (ltb n (ranksIn (t .tree))))

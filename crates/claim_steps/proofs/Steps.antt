@@ -16,9 +16,9 @@ use Rattle.call_specs.specs.Calls.{brokerAs, Tells}
 use Rattle.call_specs.proofs.StepCalls.{step-on}
 use Rattle.claim_steps.specs.Steps.{StepsByTheRules}
 
-pub steps-by-the-rules : (t : Tables) (owner : Owner) (rank client : ℕ) (buffer : List ℕ) → Bytes buffer → StepsByTheRules t owner rank client buffer
-steps-by-the-rules t owner rank client buffer bytes right m read row r left listed room s =
-    let b = brokerAs owner rank client in
+pub steps-by-the-rules : (t : Tables) (owner : Owner) (rank : ℕ) (buffer : List ℕ) → Bytes buffer → StepsByTheRules t owner rank buffer
+steps-by-the-rules t owner rank buffer bytes right m read row r left listed room s =
+    let b = brokerAs owner rank in
     let written = write-back buffer m bytes read .writable in
     let is = step-on t b buffer (length row) (omega arith) ∙ step-pass t b buffer (right .tables .tree) (right .tables .services) (right .tables .identities) ∙ pass-read t b buffer (right .rank) m read in
     record {

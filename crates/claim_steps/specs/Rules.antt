@@ -73,8 +73,8 @@ Unregistered t b m = (number : ℕ) → Registers t b m number → ⊥
 pub data Tries (b : Broker) (m : Message) : Type 0 where
   -- "nodeid 4294967295: deliver if this rank registers the service .. The upstream flag is ignored here."
   any : ForAny m → Tries b m
-  -- "other nodeid, upstream set: as for 4294967295, except that a broker which took the request from a local client does not try its own services"
-  upstream : Upstream m → b .client ≡ false → Tries b m
+  -- "other nodeid, upstream set: as for 4294967295", where "the broker whose rank equals nodeid is skipped, and no other" (paper 02, ticket 3)
+  upstream : Upstream m → (b .rank ≡ m .header .first → ⊥) → Tries b m
   -- "other nodeid, upstream clear: .. At the target: deliver, or error 38"
   target : ForRank m → m .header .first ≡ b .rank → Tries b m
 
@@ -84,10 +84,10 @@ pub data Tries (b : Broker) (m : Message) : Type 0 where
 pub data GoesUp (t : Tables) (b : Broker) (m : Message) : Type 0 where
   -- "deliver if this rank registers the service, else forward to the parent; at rank 0, error 38"
   any : ForAny m → Unregistered t b m → GoesUp t b m
-  -- "as for 4294967295 ..
+  -- "as for 4294967295"
   upstream : Upstream m → Unregistered t b m → GoesUp t b m
-  -- .. except that a broker which took the request from a local client does not try its own services"
-  skipped : Upstream m → b .client ≡ true → GoesUp t b m
+  -- "the broker whose rank equals nodeid is skipped"
+  skipped : Upstream m → b .rank ≡ m .header .first → GoesUp t b m
 
 -- to which broker a request is to be forwarded
 pub data GoesTo (t : Tables) (b : Broker) (m : Message) (next : ℕ) : Type 0 where

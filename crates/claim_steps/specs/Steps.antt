@@ -24,8 +24,8 @@ pub record ByTheRules (t : Tables) (b : Broker) (m : Message) (buffer row : List
   pub told : Tells (andThen answer (roomFor (length buffer))) buffer row r left listed
 
 -- of every broker of valid tables, whosever its error replies are, every buffer that a message is read from, and every record with room
-abbrev pub StepsByTheRules : Tables → Owner → ℕ → ℕ → List ℕ → Type 0
-StepsByTheRules t owner rank client buffer =
-    Right t (brokerAs owner rank client) → (m : Message) → readingOf buffer ≡ answered m →
-    (row : List ℕ) (r : ℕ) (left listed : List ℕ) → stepRecord ≤ length row → Steps t (brokerAs owner rank client) buffer row r left listed →
-    ByTheRules t (brokerAs owner rank client) m buffer row r left listed
+abbrev pub StepsByTheRules : Tables → Owner → ℕ → List ℕ → Type 0
+StepsByTheRules t owner rank buffer =
+    Right t (brokerAs owner rank) → (m : Message) → readingOf buffer ≡ answered m →
+    (row : List ℕ) (r : ℕ) (left listed : List ℕ) → stepRecord ≤ length row → Steps t (brokerAs owner rank) buffer row r left listed →
+    ByTheRules t (brokerAs owner rank) m buffer row r left listed

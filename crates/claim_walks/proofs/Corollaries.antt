@@ -14,8 +14,8 @@ use Rattle.frame_message.specs.Frame.{frameOf}
 use Rattle.frame_message.specs.Reading.{final}
 use Rattle.table_records.specs.declared.Found.{Found}
 use Rattle.table_records.specs.declared.Found.the-variants.{At, Nothing}
-use Rattle.table_tree.specs.Tree.{ranksIn, parentOf}
-use Rattle.walk_path.specs.Path.{End, fails, Path, recordOf, upPath, rankPath, endAt, ending, stopping, anyPath, upstreamPath, targetPath, pathOf, linksOf}
+use Rattle.table_tree.specs.Tree.{ranksIn}
+use Rattle.walk_path.specs.Path.{End, fails, Path, recordOf, servedAt, upPath, rankPath, endAt, ending, stopping, anyPath, upstreamPath, targetPath, pathOf, linksOf}
 use Rattle.walk_path.proofs.Chains.{tree-depth-most}
 use Rattle.frame_rewrite.specs.Renewed.{cleared}
 use Rattle.step_routing.specs.declared.Broker.{Broker}
@@ -50,17 +50,17 @@ path-error : (t : Tables) (entry : ℕ) (m : Message) (errnum : ℕ) → pathIn 
 unfolding pathOf
 path-error t entry m errnum =
     let h = m .header in
-    let up = upstreamPath (t .tree) (t .services) (m .topic) entry in
+    let up = upstreamPath (t .tree) (t .services) (m .topic) entry (h .first) in
     let named = targetPath (t .tree) (t .services) (m .topic) entry (h .first) in
-    let services : List ℕ → Path = ending (t .services) (m .topic) in
-    let climbed : List ℕ = entry ∷ upPath (t .tree) (t .services) (m .topic) (parentOf (t .tree) entry) in
-    let found : (brokers : List ℕ) → services brokers .end ≡ fails errnum → errnum ≤ 113 = λ brokers. found-error (recordOf (t .services) (m .topic) (final 0 brokers)) errnum in
+    let record-at = recordOf (t .services) (m .topic) in
+    let skipping = servedAt (t .services) (m .topic) (h .first) in
+    let found : (serves : ℕ → Found) (brokers : List ℕ) → ending serves brokers .end ≡ fails errnum → errnum ≤ 113 = λ serves brokers. found-error (serves (final 0 brokers)) errnum in
     either-error (eqb (h .first) 4294967295) (anyPath (t .tree) (t .services) (m .topic) entry) (cond (isUpstream (h .flags)) up named) errnum
-    (found (upPath (t .tree) (t .services) (m .topic) entry))
+    (found record-at (upPath (t .tree) record-at entry))
     (either-error (isUpstream (h .flags)) up named errnum
-    (either-error (eqb entry 0) (stopping entry 38) (services climbed) errnum (stop-error errnum (omega arith)) (found climbed))
-    (either-error (ltb (h .first) (ranksIn (t .tree))) (services (rankPath (t .tree) entry (h .first))) (stopping entry 113) errnum
-    (found (rankPath (t .tree) entry (h .first))) (stop-error errnum (omega arith))))
+    (found skipping (upPath (t .tree) skipping entry))
+    (either-error (ltb (h .first) (ranksIn (t .tree))) (ending record-at (rankPath (t .tree) entry (h .first))) (stopping entry 113) errnum
+    (found record-at (rankPath (t .tree) entry (h .first))) (stop-error errnum (omega arith))))
 
 -- ---- the reply comes home
 

@@ -1,7 +1,7 @@
 -- Demand 3. The path is followed (the crate walk_path's `followed`), so the request's steps are a run along it (There), and the response's a run back
 -- (Homeward); a run is what the C calls make (Stepping).
 use mathlib.Core.Path.{_≡_, refl, sym, ap, _∙_, subst, subst⁻¹}
-use mathlib.Core.Bool.{Bool, true, false, not, cond, _&&_}
+use mathlib.Core.Bool.{Bool, true, false, cond, _&&_}
 use mathlib.Core.Logic.{_⊎_, inl, ⊎-elim}
 use Prim.Native.Nat.{ℕ, suc, _+_, _-_, _*_, _≤_}
 use mathlib.Core.List.{List, [], _∷_, _++_, map, reverse, reverseAux, reverse-append}
@@ -28,7 +28,8 @@ use Rattle.walk_path.specs.WorkingLeading.{Leads, Linked}
 use Rattle.walk_path.proofs.Chains.{tree-depth-most}
 use Rattle.walk_path.proofs.Leading.{followed}
 use Rattle.frame_rewrite.specs.Renewed.{cleared}
-use Rattle.step_routing.specs.declared.Broker.{Broker}
+use Rattle.step_routing.specs.Requests.{requestWay}
+use Rattle.call_specs.specs.Calls.{brokerAs}
 use Rattle.step_routing.specs.Messages.{Owner, withRoutes, errorReply}
 use Rattle.step_routing.specs.Routed.{Tables, Outcome, delivered, replied, silenced, home, ValidTables}
 use Rattle.step_routing.proofs.Made.{reply-writable}
@@ -118,7 +119,7 @@ left-along t owner valid entry (s ∷ rs) m buffer end linked group short long f
 
 module _ (t : Tables) (owner : Owner) (entry : ℕ) (buffer : List ℕ) (m : Message) (enters : Enters t entry buffer m) (bytes : Bytes buffer)
     (rest : List ℕ) (end : End)
-    (leads : Leads (t .tree) (t .services) (m .header) (m .topic) true (entry ∷ rest) end) (linked : Linked (t .tree) (entry ∷ rest))
+    (leads : Leads (λ r. requestWay (t .tree) (t .services) r (m .header) (m .topic)) (entry ∷ rest) end) (linked : Linked (t .tree) (entry ∷ rest))
     (few : length (entry ∷ rest) ≤ 2 * treeDepth (t .tree) + 1) where
   valid : ValidTables t
   valid = enters .tables
@@ -163,14 +164,14 @@ module _ (t : Tables) (owner : Owner) (entry : ℕ) (buffer : List ℕ) (m : Mes
   request-goes =
       let o = outcomeOf owner end rested in
       let ranks = entry ∷ rest in
-      let along = request-run t valid (owner .userid) (owner .rolemask) true entry rest end m buffer leads linked sound kind (enters .held .read) routes-fit body-fits long in
-      let first : Bool → Broker = λ client. record { rank = entry; client = client; userid = owner .userid; rolemask = owner .rolemask } in
-      let there = subst (λ (x : Message). Run t (first true) buffer ranks (answered (outcomeOf owner end x)) (leftAfter (outcomeOf owner end x) (bufferAt (t .identities) entry rest m buffer))) rested-is along in
+      let along = request-run t valid (owner .userid) (owner .rolemask) entry rest end m buffer leads linked sound kind (enters .held .read) routes-fit body-fits long in
+      let first = brokerAs owner entry in
+      let there = subst (λ (x : Message). Run t first buffer ranks (answered (outcomeOf owner end x)) (leftAfter (outcomeOf owner end x) (bufferAt (t .identities) entry rest m buffer))) rested-is along in
       let leaves = left-along t owner valid entry rest m buffer end linked (sound-route m sound (inl kind)) body-fits long (omega (arith, frame-long rested, sound-short rested rested-sound, long)) in
-      let run = subst (λ (l : List ℕ). Run t (first true) buffer ranks (answered o) l) leaves there in
+      let run = subst (λ (l : List ℕ). Run t first buffer ranks (answered o) l) leaves there in
       subst (λ (s : Stepped). Goes t owner entry buffer ranks s left) (end-told owner end rested)
       (run-goes t owner entry buffer ranks left o
-      (λ client some. subst⁻¹ (λ (c : Bool). Run t (first c) buffer ranks (answered o) left) (ap not (ne-eqb client 0 some)) run)
+      run
       long (omega (arith, links-few)))
 
   -- ---- and home
@@ -197,11 +198,11 @@ module _ (t : Tables) (owner : Owner) (entry : ℕ) (buffer : List ℕ) (m : Mes
     response-goes =
         let last = final 0 (entry ∷ rest) in
         let linked-back = subst (λ (l : List ℕ). Back-linked (t .tree) l) way-back (back-linked (t .tree) entry rest linked) in
-        let run : (client : Bool) → Run t (record { rank = last; client = client; userid = owner .userid; rolemask = owner .rolemask }) back (last ∷ behind) (answered home) (homeBuffer behind n (m .routes) back) =
-        λ client. response-run t valid (owner .userid) (owner .rolemask) (m .routes) (enters .stranger) client last behind n back linked-back stack reply-sound (responds .held .typed) (responds .held .read) back-long in
+        let run : Run t (brokerAs owner last) back (last ∷ behind) (answered home) (homeBuffer behind n (m .routes) back) =
+        response-run t valid (owner .userid) (owner .rolemask) (m .routes) (enters .stranger) last behind n back linked-back stack reply-sound (responds .held .typed) (responds .held .read) back-long in
         subst⁻¹ (λ (l : List ℕ). Goes t owner last back l Home (leftOf (eqb (linksOf path) 0) (withRoutes n (m .routes)) back)) way-back
         (subst (λ (l : List ℕ). Goes t owner last back (last ∷ behind) Home l) back-left
-        (run-goes t owner last back (last ∷ behind) (homeBuffer behind n (m .routes) back) home (λ client some. run (not (eqb client 0))) back-long (omega (arith, front-length entry rest, links-few))))
+        (run-goes t owner last back (last ∷ behind) (homeBuffer behind n (m .routes) back) home run back-long (omega (arith, front-length entry rest, links-few))))
 
     response-written : writing (withRoutes n (m .routes)) ≡ answered (frameOf (withRoutes n (m .routes)))
     response-written = home-sound t valid (owner .userid) (owner .rolemask) (m .routes) (enters .stranger) behind n stack reply-sound (responds .held .typed) .writes
@@ -227,7 +228,7 @@ module _ (t : Tables) (owner : Owner) (entry : ℕ) (buffer : List ℕ) (m : Mes
 pub record Along (t : Tables) (entry : ℕ) (m : Message) (path : Path) : Type 0 where
   pub rest : List ℕ
   pub starts : path ≡ record { brokers = entry ∷ rest; end = path .end }
-  pub leads : Leads (t .tree) (t .services) (m .header) (m .topic) true (entry ∷ rest) (path .end)
+  pub leads : Leads (λ r. requestWay (t .tree) (t .services) r (m .header) (m .topic)) (entry ∷ rest) (path .end)
   pub linked : Linked (t .tree) (entry ∷ rest)
   pub few : length (entry ∷ rest) ≤ 2 * treeDepth (t .tree) + 1
   pub ends : (number : ℕ) → path .end ≡ delivers number → registeredAs (t .services) (final 0 (entry ∷ rest)) (serviceOf (m .topic)) ≡ At number
@@ -242,7 +243,7 @@ along t entry buffer m enters =
     record {
       rest = f .rest;
       starts = λ i. record { brokers = f .starts i; end = path .end };
-      leads = subst (λ (l : List ℕ). Leads (t .tree) (t .services) (m .header) (m .topic) true l (path .end)) (f .starts) (f .leads);
+      leads = subst (λ (l : List ℕ). Leads (λ r. requestWay (t .tree) (t .services) r (m .header) (m .topic)) l (path .end)) (f .starts) (f .leads);
       linked = subst (λ (l : List ℕ). Linked (t .tree) l) (f .starts) (f .linked);
       few = subst (λ (l : List ℕ). length l ≤ 2 * treeDepth (t .tree) + 1) (f .starts) (f .few);
       ends = subst (λ (l : List ℕ). (number : ℕ) → path .end ≡ delivers number → registeredAs (t .services) (final 0 l) (serviceOf (m .topic)) ≡ At number) (f .starts) (f .ends);

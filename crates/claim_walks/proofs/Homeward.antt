@@ -1,6 +1,6 @@
 -- A response's walk: back over the brokers whose identities are its routes, to the one at which these end.
 use mathlib.Core.Path.{_≡_, refl, sym, ap, _∙_, subst}
-use mathlib.Core.Bool.{Bool, true, false}
+use mathlib.Core.Bool.{true, false}
 use mathlib.Core.Logic.{inr}
 use Prim.Native.Nat.{ℕ, _+_, _<_, _≤_}
 use mathlib.Core.List.{List, [], _∷_, _++_, map, reverse, reverseAux}
@@ -128,8 +128,8 @@ homeBuffer [] m routes buffer = buffer
 homeBuffer (s ∷ rs) m routes buffer = cleared (frameOf (withRoutes m routes)) buffer
 
 module _ (t : Tables) (valid : ValidTables t) (userid rolemask : ℕ) (routes : List (List ℕ)) (strangers : Strangers t routes) where
-  abbrev at : ℕ → Bool → Broker
-  at r client = record { rank = r; client = client; userid = userid; rolemask = rolemask }
+  abbrev at : ℕ → Broker
+  at r = record { rank = r; userid = userid; rolemask = rolemask }
 
   abbrev names : List ℕ → List (List ℕ)
   names = map (λ rank. identityAt (t .identities) rank)
@@ -140,16 +140,16 @@ module _ (t : Tables) (valid : ValidTables t) (userid rolemask : ℕ) (routes : 
   home-left [] m buffer stack fits = ap (λ (rs : List (List ℕ)). cleared (frameOf (withRoutes m rs)) buffer) stack
   home-left (s ∷ rs) m buffer stack fits = cleared-again (frameOf (withRoutes m routes)) (frameOf (popped m)) buffer fits
 
-  pub response-run : (client : Bool) (r : ℕ) (rs : List ℕ) (m : Message) (buffer : List ℕ) → Back-linked (t .tree) (r ∷ rs) → m .routes ≡ names rs ++ routes →
+  pub response-run : (r : ℕ) (rs : List ℕ) (m : Message) (buffer : List ℕ) → Back-linked (t .tree) (r ∷ rs) → m .routes ≡ names rs ++ routes →
       Sound m → m .header .kind ≡ 2 → readingOf buffer ≡ answered m → 32776 ≤ length buffer →
-      Run t (at r client) buffer (r ∷ rs) (answered home) (homeBuffer rs m routes buffer)
-  response-run client r [] m buffer linked stack sound kind read long =
-      rests (at r client) buffer (answered home)
-      (home-step t valid (at r client) m buffer sound kind read (back-rank (t .tree) r [] linked)
+      Run t (at r) buffer (r ∷ rs) (answered home) (homeBuffer rs m routes buffer)
+  response-run r [] m buffer linked stack sound kind read long =
+      rests (at r) buffer (answered home)
+      (home-step t valid (at r) m buffer sound kind read (back-rank (t .tree) r [] linked)
       (λ top below e. strangers top below (sym stack ∙ e)))
       refl
-  response-run client r (s ∷ rs) m buffer linked stack sound kind read long =
-      let b = at r client in
+  response-run r (s ∷ rs) m buffer linked stack sound kind read long =
+      let b = at r in
       let inside = back-rank (t .tree) r (s ∷ rs) linked in
       let rest = back-on (t .tree) r s rs linked in
       let there = back-rank (t .tree) s rs rest in
@@ -158,7 +158,7 @@ module _ (t : Tables) (valid : ValidTables t) (userid rolemask : ℕ) (routes : 
       let fits = on-fits t valid b m buffer sound kind read inside s below stack there near long in
       let fewer = on-sound t valid b m buffer sound kind read inside s below stack there near in
       let after = cleared (frameOf (popped m)) buffer in
-      let on = response-run false s rs (popped m) after rest (ap (drop 1) stack) fewer kind (read-cleared (popped m) fewer buffer) (omega (arith, cleared-length (frameOf (popped m)) buffer fits)) in
+      let on = response-run s rs (popped m) after rest (ap (drop 1) stack) fewer kind (read-cleared (popped m) fewer buffer) (omega (arith, cleared-length (frameOf (popped m)) buffer fits)) in
       subst (λ (left : List ℕ). Run t b buffer (r ∷ s ∷ rs) (answered home) left) (home-left rs m buffer (ap (drop 1) stack) fits)
       (goes b buffer s (popped m) (s ∷ rs) (answered home) (homeBuffer rs (popped m) routes after)
       (on-step t valid b m buffer sound kind read inside s below stack there near long) on)

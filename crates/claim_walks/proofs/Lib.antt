@@ -4,4 +4,5 @@ pub mod There
 pub mod Homeward
 pub mod Demand3
 pub mod Corollaries
+pub mod Upstream
 pub mod Walks

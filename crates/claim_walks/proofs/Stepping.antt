@@ -35,11 +35,11 @@ tells-says {o} {row = row} {after = after} w =
     (record { returns = w .returns; lists = w .lists ∙ ap (λ (n : ℕ). rowBytes numbers ++ drop n row) sixteen }, w .leaves)
 
 -- what the definition of the step answers, the host's call says
-steps-says : (t : Tables) (owner : Owner) (b : Broker) (buffer : List ℕ) {o : Outcome} (rank client : ℕ) → b ≡ brokerAs owner rank client → stepOf t b buffer ≡ answered o →
-    (row : List ℕ) (r : ℕ) (after listed : List ℕ) → 16 ≤ length row → Steps t (brokerAs owner rank client) buffer row r after listed →
+steps-says : (t : Tables) (owner : Owner) (b : Broker) (buffer : List ℕ) {o : Outcome} (rank : ℕ) → b ≡ brokerAs owner rank → stepOf t b buffer ≡ answered o →
+    (row : List ℕ) (r : ℕ) (after listed : List ℕ) → 16 ≤ length row → Steps t (brokerAs owner rank) buffer row r after listed →
     Says (toldAs (answered o)) row r after listed × (after ≡ leftAfter o buffer)
-steps-says t owner b buffer rank client who e row r after listed room s =
-    let answer = step-on t (brokerAs owner rank client) buffer (length row) room ∙ ap (λ (x : Broker). stepOf t x buffer) (sym who) ∙ e in
+steps-says t owner b buffer rank who e row r after listed room s =
+    let answer = step-on t (brokerAs owner rank) buffer (length row) room ∙ ap (λ (x : Broker). stepOf t x buffer) (sym who) ∙ e in
     tells-says (subst (λ (a : Answer Outcome). Tells a buffer row r after listed) answer s)
 
 -- ---- one after another
@@ -49,45 +49,45 @@ run-first (rests b buffer answer e n) = ([], refl)
 run-first (goes b buffer next m ranks answer left e r) = (ranks, refl)
 
 -- one more in front
-steps-next : (t : Tables) (owner : Owner) (client : ℕ) (buffer : List ℕ) (rank next : ℕ) (ranks : List ℕ) (answer : Stepped) (left : List ℕ) →
-    ((row : List ℕ) (r : ℕ) (after listed : List ℕ) → 16 ≤ length row → Steps t (brokerAs owner rank client) buffer row r after listed →
-    Says (Forwarded next) row r after listed × StepsOver t owner 0 after (next ∷ ranks) answer left) →
-    StepsOver t owner client buffer (rank ∷ next ∷ ranks) answer left
+steps-next : (t : Tables) (owner : Owner) (buffer : List ℕ) (rank next : ℕ) (ranks : List ℕ) (answer : Stepped) (left : List ℕ) →
+    ((row : List ℕ) (r : ℕ) (after listed : List ℕ) → 16 ≤ length row → Steps t (brokerAs owner rank) buffer row r after listed →
+    Says (Forwarded next) row r after listed × StepsOver t owner after (next ∷ ranks) answer left) →
+    StepsOver t owner buffer (rank ∷ next ∷ ranks) answer left
 unfolding StepsOver
-steps-next t owner client buffer rank next ranks answer left f = f
+steps-next t owner buffer rank next ranks answer left f = f
 
-steps-last : (t : Tables) (owner : Owner) (client : ℕ) (buffer : List ℕ) (rank : ℕ) (answer : Stepped) (left : List ℕ) →
-    ((row : List ℕ) (r : ℕ) (after listed : List ℕ) → 16 ≤ length row → Steps t (brokerAs owner rank client) buffer row r after listed →
+steps-last : (t : Tables) (owner : Owner) (buffer : List ℕ) (rank : ℕ) (answer : Stepped) (left : List ℕ) →
+    ((row : List ℕ) (r : ℕ) (after listed : List ℕ) → 16 ≤ length row → Steps t (brokerAs owner rank) buffer row r after listed →
     Says answer row r after listed × (after ≡ left)) →
-    StepsOver t owner client buffer (rank ∷ []) answer left
+    StepsOver t owner buffer (rank ∷ []) answer left
 unfolding StepsOver
-steps-last t owner client buffer rank answer left f = f
+steps-last t owner buffer rank answer left f = f
 
 pub run-steps : {t : Tables} {b : Broker} {buffer ranks left : List ℕ} {answer : Answer Outcome} → Run t b buffer ranks answer left →
-    (o : Outcome) → answer ≡ answered o → (owner : Owner) (client : ℕ) → b ≡ brokerAs owner (b .rank) client → StepsOver t owner client buffer ranks (toldAs (answered o)) left
-run-steps {t} (rests b buffer answer e n) o is owner client who =
-    steps-last t owner client buffer (b .rank) (toldAs (answered o)) (leftBy answer buffer)
+    (o : Outcome) → answer ≡ answered o → (owner : Owner) → b ≡ brokerAs owner (b .rank) → StepsOver t owner buffer ranks (toldAs (answered o)) left
+run-steps {t} (rests b buffer answer e n) o is owner who =
+    steps-last t owner buffer (b .rank) (toldAs (answered o)) (leftBy answer buffer)
     (λ row r after listed room s.
-    let w = steps-says t owner b buffer (b .rank) client who (e ∙ is) row r after listed room s in
+    let w = steps-says t owner b buffer (b .rank) who (e ∙ is) row r after listed room s in
     (w .0, w .1 ∙ sym (ap (λ (a : Answer Outcome). leftBy a buffer) is)))
-run-steps {t} (goes b buffer next m ranks answer left e run) o is owner client who =
+run-steps {t} (goes b buffer next m ranks answer left e run) o is owner who =
     let first = run-first run in
     let told = toldAs (answered o) in
-    let rest = subst (λ (l : List ℕ). StepsOver t owner 0 (leftAfter (forwarded next m) buffer) l told left) (first .1) (run-steps run o is owner 0 (ap (onward next) who)) in
-    subst⁻¹ (λ (l : List ℕ). StepsOver t owner client buffer (b .rank ∷ l) told left) (first .1)
-    (steps-next t owner client buffer (b .rank) next (first .0) told left
+    let rest = subst (λ (l : List ℕ). StepsOver t owner (leftAfter (forwarded next m) buffer) l told left) (first .1) (run-steps run o is owner (ap (onward next) who)) in
+    subst⁻¹ (λ (l : List ℕ). StepsOver t owner buffer (b .rank ∷ l) told left) (first .1)
+    (steps-next t owner buffer (b .rank) next (first .0) told left
     (λ row r after listed room s.
-    let w = steps-says t owner b buffer (b .rank) client who e row r after listed room s in
-    (w .0, subst⁻¹ (λ (x : List ℕ). StepsOver t owner 0 x (next ∷ first .0) told left) (w .1) rest)))
+    let w = steps-says t owner b buffer (b .rank) who e row r after listed room s in
+    (w .0, subst⁻¹ (λ (x : List ℕ). StepsOver t owner x (next ∷ first .0) told left) (w .1) rest)))
 
 -- ---- the walk call
 
-pub run-plays : (t : Tables) (owner : Owner) (first : ℕ) (buffer ranks left : List ℕ) (o : Outcome) → Run t (brokerAs owner first 1) buffer ranks (answered o) left →
+pub run-plays : (t : Tables) (owner : Owner) (first : ℕ) (buffer ranks left : List ℕ) (o : Outcome) → Run t (brokerAs owner first) buffer ranks (answered o) left →
     32776 ≤ length buffer → length ranks ≤ 65 →
-    (row : List ℕ) (r : ℕ) (after listed : List ℕ) → 24 ≤ length row → Plays t (brokerAs owner first 1) buffer row r after listed →
+    (row : List ℕ) (r : ℕ) (after listed : List ℕ) → 24 ≤ length row → Plays t (brokerAs owner first) buffer row r after listed →
     WalksOver ranks (toldAs (answered o)) left row r after listed
 run-plays t owner first buffer ranks left o run long few row r after listed room played =
-    let came = walk-whole t (brokerAs owner first 1) buffer long ∙ run-walk run 65 0 few in
+    let came = walk-whole t (brokerAs owner first) buffer long ∙ run-walk run 65 0 few in
     let reports = subst (λ (w : Walk). Reports w row r after listed) came (played .walks room) in
     let numbers = stepRow (toldAs (answered o)) (frameLength left) in
     let links : 0 + (length ranks - 1) ≡ length ranks - 1 = omega arith in
@@ -101,10 +101,10 @@ run-plays t owner first buffer ranks left o run long few row r after listed room
     }
 
 -- both
-pub run-goes : (t : Tables) (owner : Owner) (first : ℕ) (buffer ranks left : List ℕ) (o : Outcome) → ((client : ℕ) → (client ≡ 0 → ⊥) → Run t (brokerAs owner first client) buffer ranks (answered o) left) →
+pub run-goes : (t : Tables) (owner : Owner) (first : ℕ) (buffer ranks left : List ℕ) (o : Outcome) → Run t (brokerAs owner first) buffer ranks (answered o) left →
     32776 ≤ length buffer → length ranks ≤ 65 → Goes t owner first buffer ranks (toldAs (answered o)) left
 run-goes t owner first buffer ranks left o run long few =
     record {
-      steps = λ client some. run-steps (run client some) o refl owner client refl;
-      walk = run-plays t owner first buffer ranks left o (run 1 (λ e. omega arith)) long few;
+      steps = run-steps run o refl owner refl;
+      walk = run-plays t owner first buffer ranks left o run long few;
     }

@@ -1,6 +1,6 @@
 -- A request's walk: over the brokers of its path, each of which sends it to the next, to where the last one ends it.
 use mathlib.Core.Path.{_≡_, refl, sym, ap, _∙_}
-use mathlib.Core.Bool.{Bool, true, false, cond}
+use mathlib.Core.Bool.{true, false, cond}
 use mathlib.Core.Logic.{inl, ⊎-elim}
 use Prim.Native.Nat.{ℕ, suc, _+_, _-_, _*_, _<_, _≤_}
 use mathlib.Core.List.{List, [], _∷_, _++_, map, reverse, reverseAux-eq, append-assoc}
@@ -72,7 +72,7 @@ cleared-again xs ys b h = ap (λ (n : ℕ). xs ++ replicate (n - length xs) 0) (
 module _ (t : Tables) (valid : ValidTables t) (b : Broker) (m : Message) (buffer : List ℕ) (sound : Sound m) (kind : m .header .kind ≡ 1)
     (read : readingOf buffer ≡ answered m) (inside : b .rank < ranksIn (t .tree)) where
   abbrev way : Way
-  way = requestWay (t .tree) (t .services) (b .rank) (b .client) (m .header) (m .topic)
+  way = requestWay (t .tree) (t .services) (b .rank) (m .header) (m .topic)
 
   abbrev identity : List ℕ
   identity = identityAt (t .identities) (b .rank)
@@ -126,21 +126,21 @@ bufferAt identities r (s ∷ rs) m buffer =
     bufferAt identities s rs n (cleared (frameOf n) buffer)
 
 module _ (t : Tables) (valid : ValidTables t) (userid rolemask : ℕ) where
-  abbrev at : ℕ → Bool → Broker
-  at r client = record { rank = r; client = client; userid = userid; rolemask = rolemask }
+  abbrev at : ℕ → Broker
+  at r = record { rank = r; userid = userid; rolemask = rolemask }
 
-  pub request-run : (client : Bool) (r : ℕ) (rs : List ℕ) (end : End) (m : Message) (buffer : List ℕ) →
-      Leads (t .tree) (t .services) (m .header) (m .topic) client (r ∷ rs) end → Linked (t .tree) (r ∷ rs) →
+  pub request-run : (r : ℕ) (rs : List ℕ) (end : End) (m : Message) (buffer : List ℕ) →
+      Leads (λ s. requestWay (t .tree) (t .services) s (m .header) (m .topic)) (r ∷ rs) end → Linked (t .tree) (r ∷ rs) →
       Sound m → m .header .kind ≡ 1 → readingOf buffer ≡ answered m →
       length (m .routes) + length rs ≤ 64 → length (bodyOf m) + 38 * length rs ≤ 32768 → 32776 ≤ length buffer →
-      Run t (at r client) buffer (r ∷ rs) (answered (endOutcome userid rolemask end (atEnd (t .identities) r rs m)))
+      Run t (at r) buffer (r ∷ rs) (answered (endOutcome userid rolemask end (atEnd (t .identities) r rs m)))
       (leftAfter (endOutcome userid rolemask end (atEnd (t .identities) r rs m)) (bufferAt (t .identities) r rs m buffer))
-  request-run client r [] end m buffer leads linked sound kind read few short long =
-      rests (at r client) buffer (answered (endOutcome userid rolemask end m))
-      (last-step t valid (at r client) m buffer sound kind read (linked-rank (t .tree) r [] linked) end (leads-ends (t .tree) (t .services) (m .header) (m .topic) client r end leads))
-      (end-rests t (at r client) m end)
-  request-run client r (s ∷ rs) end m buffer leads linked sound kind read few short long =
-      let b = at r client in
+  request-run r [] end m buffer leads linked sound kind read few short long =
+      rests (at r) buffer (answered (endOutcome userid rolemask end m))
+      (last-step t valid (at r) m buffer sound kind read (linked-rank (t .tree) r [] linked) end (leads-ends (λ x. requestWay (t .tree) (t .services) x (m .header) (m .topic)) r end leads))
+      (end-rests t (at r) m end)
+  request-run r (s ∷ rs) end m buffer leads linked sound kind read few short long =
+      let b = at r in
       let inside = linked-rank (t .tree) r (s ∷ rs) linked in
       let n = pushed (identityAt (t .identities) r) m in
       let room : length (m .routes) < 64 = omega arith in
@@ -150,8 +150,8 @@ module _ (t : Tables) (valid : ValidTables t) (userid rolemask : ℕ) where
       let next-is = next-sound t valid b m buffer sound kind read inside room fits long in
       let out = endOutcome userid rolemask end (atEnd (t .identities) s rs n) in
       goes b buffer s n (s ∷ rs) (answered out) (leftAfter out (bufferAt (t .identities) s rs n (cleared (frameOf n) buffer)))
-      (next-step t valid b m buffer sound kind read inside room fits long s (leads-here (t .tree) (t .services) (m .header) (m .topic) client r s rs end leads))
-      (request-run false s rs end n (cleared (frameOf n) buffer) (leads-on (t .tree) (t .services) (m .header) (m .topic) client r s rs end leads) (linked-on (t .tree) r s rs linked)
+      (next-step t valid b m buffer sound kind read inside room fits long s (leads-here (λ x. requestWay (t .tree) (t .services) x (m .header) (m .topic)) r s rs end leads))
+      (request-run s rs end n (cleared (frameOf n) buffer) (leads-on (λ x. requestWay (t .tree) (t .services) x (m .header) (m .topic)) r s rs end leads) (linked-on (t .tree) r s rs linked)
       next-is kind (read-cleared n next-is buffer) (omega arith) (omega (arith, grown)) (omega (arith, cleared-length (frameOf n) buffer whole)))
 
   -- the request at rest can be written

@@ -135,7 +135,7 @@ ends-as t owner entry buffer m brokers ended left premises starts goes answers r
       last = rests;
       count = omega (arith, crossed, ap length (starts .1));
       left = left;
-      steps = λ client some. subst (λ (s : Stepped). StepsOver t owner client buffer brokers s left) answers (goes .steps client some);
+      steps = subst (λ (s : Stepped). StepsOver t owner buffer brokers s left) answers (goes .steps);
       walk = λ row r after listed room plays.
           let w = goes .walk row r after listed room plays in
           record {

@@ -50,8 +50,8 @@ EveryReplyComesHome t owner entry buffer =
 abbrev pub AtMost32Links : Tables → ℕ → List ℕ → Type 0
 AtMost32Links t entry buffer = (m : Message) → Enters t entry buffer m → linksOf (pathOf (t .tree) (t .services) entry (m .header) (m .topic)) ≤ 32
 
--- ---- and whatever the tables and the buffer hold: "A walk repeats steps, the first as from a local client, the others not, until an answer other than 2
--- or a refusal. It reports that answer, the rank and the links crossed; its buffer is what the steps in turn leave."
+-- ---- and whatever the tables and the buffer hold: "A walk repeats steps .. until an answer other than 2 or a refusal. It reports that answer, the rank
+-- and the links crossed; its buffer is what the steps in turn leave."
 
 abbrev pub EveryWalkIsRun : Tables → Broker → List ℕ → Type 0
 EveryWalkIsRun t b buffer = leastBuffer ≤ length buffer → IsRun t b buffer (walkOf t b buffer)

@@ -36,8 +36,9 @@ pub record Held (type : ℕ) (buffer : List ℕ) (m : Message) : Type 0 where
   pub read : readingOf buffer ≡ answered m
   pub typed : m .header .kind ≡ type
 
--- "Let any valid request enter at any rank of the tree from a local client, in a buffer of at least 32,776 bytes, with at most 32 routes, a body of at
--- most 31,552 bytes, and no broker's identity as its top route."
+-- "Let any valid request enter at any rank of the tree .., in a buffer of at least 32,776 bytes, with at most 32 routes, a body of at most 31,552 bytes,
+-- and no broker's identity as its top route." Whether it comes from a local client is not asked: "The step no longer needs to know where the message came
+-- from." (paper 02, ticket 3)
 pub record Enters (t : Tables) (entry : ℕ) (buffer : List ℕ) (m : Message) : Type 0 where
   pub tables : ValidTables t
   pub inside : entry < ranksIn (t .tree)
@@ -65,14 +66,14 @@ pub record Says (answer : Stepped) (row : List ℕ) (r : ℕ) (left listed : Lis
 -- "the rank it begins at, then the rank that each answer 2 names, in order. Each step gets its broker's rank and the buffer which the step before left;
 -- the host's step call also gets a record buffer of at least 16 bytes": whatever records the host lends, each call names the next of these brokers, and
 -- the last one says `answer` and leaves `left`. No step is refused.
-unfoldable pub StepsOver : Tables → Owner → ℕ → List ℕ → List ℕ → Stepped → List ℕ → Type 0
-StepsOver t owner client buffer [] answer left = ⊥
-StepsOver t owner client buffer (rank ∷ []) answer left =
-    (row : List ℕ) (r : ℕ) (after listed : List ℕ) → stepRecord ≤ length row → Steps t (brokerAs owner rank client) buffer row r after listed →
+unfoldable pub StepsOver : Tables → Owner → List ℕ → List ℕ → Stepped → List ℕ → Type 0
+StepsOver t owner buffer [] answer left = ⊥
+StepsOver t owner buffer (rank ∷ []) answer left =
+    (row : List ℕ) (r : ℕ) (after listed : List ℕ) → stepRecord ≤ length row → Steps t (brokerAs owner rank) buffer row r after listed →
     Says answer row r after listed × (after ≡ left)
-StepsOver t owner client buffer (rank ∷ next ∷ ranks) answer left =
-    (row : List ℕ) (r : ℕ) (after listed : List ℕ) → stepRecord ≤ length row → Steps t (brokerAs owner rank client) buffer row r after listed →
-    Says (Forwarded next) row r after listed × StepsOver t owner 0 after (next ∷ ranks) answer left
+StepsOver t owner buffer (rank ∷ next ∷ ranks) answer left =
+    (row : List ℕ) (r : ℕ) (after listed : List ℕ) → stepRecord ≤ length row → Steps t (brokerAs owner rank) buffer row r after listed →
+    Says (Forwarded next) row r after listed × StepsOver t owner after (next ∷ ranks) answer left
 
 -- the walk call from the first of these brokers returns 0, lists the last step's numbers, the rank of the last broker, and as many links as there are
 -- brokers less one; its record's tail stays
@@ -81,12 +82,11 @@ pub record WalksOver (brokers : List ℕ) (answer : Stepped) (final-buffer row :
   pub lists : listed ≡ rowBytes (stepRow answer (frameLength final-buffer) ++ (final 0 brokers ∷ (length brokers - 1) ∷ [])) ++ drop walkRecord row
   pub leaves : left ≡ final-buffer
 
--- "It holds alike of the steps called one after another and of the walk call, in all that this call reports and leaves." The first step is from a
--- local client, the others are not.
+-- "It holds alike of the steps called one after another and of the walk call, in all that this call reports and leaves."
 pub record Goes (t : Tables) (owner : Owner) (first : ℕ) (buffer brokers : List ℕ) (answer : Stepped) (left : List ℕ) : Type 0 where
-  pub steps : (client : ℕ) → (client ≡ 0 → ⊥) → StepsOver t owner client buffer brokers answer left
+  pub steps : StepsOver t owner buffer brokers answer left
   pub walk :
-      (row : List ℕ) (r : ℕ) (after listed : List ℕ) → walkRecord ≤ length row → Plays t (brokerAs owner first 1) buffer row r after listed →
+      (row : List ℕ) (r : ℕ) (after listed : List ℕ) → walkRecord ≤ length row → Plays t (brokerAs owner first) buffer row r after listed →
       WalksOver brokers answer left row r after listed
 
 -- ---- what the request comes to

@@ -65,10 +65,10 @@ pub record EndsAs (t : Tables) (owner : Owner) (entry : ℕ) (buffer : List ℕ)
   pub count : length brokers ≡ links + 1
   pub left : List ℕ
   -- the steps over these brokers, one after another, end with this answer
-  pub steps : (client : ℕ) → (client ≡ 0 → ⊥) → StepsOver t owner client buffer brokers answer left
+  pub steps : StepsOver t owner buffer brokers answer left
   -- and so does the walk
   pub walk :
-      (row : List ℕ) (r : ℕ) (after listed : List ℕ) → walkRecord ≤ length row → Plays t (brokerAs owner entry 1) buffer row r after listed →
+      (row : List ℕ) (r : ℕ) (after listed : List ℕ) → walkRecord ≤ length row → Plays t (brokerAs owner entry) buffer row r after listed →
       ReportsEnd answer rank links left row r after listed
 
 -- ---- the claim

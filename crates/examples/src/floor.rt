@@ -33,27 +33,20 @@ pub(crate) const PICTURE: [u8; 181] = *b"
 const BRACKETS: [usize; 7] = [22, 75, 95, 146, 154, 166, 174];
 
 // The broker of a rank, which leaves the user of its error replies unknown.
-fn broker_of(rank: u32, client: bool) -> Broker {
+fn broker_of(rank: u32) -> Broker {
     Broker {
         rank,
-        client,
         userid: 4294967295,
         rolemask: 0,
     }
 }
 
-pub(crate) fn step(rank: u32, client: bool, buffer: &mut [u8]) -> Stepped {
-    step::step(
-        &TREE,
-        &SERVICES,
-        &IDENTITIES,
-        broker_of(rank, client),
-        buffer,
-    )
+pub(crate) fn step(rank: u32, buffer: &mut [u8]) -> Stepped {
+    step::step(&TREE, &SERVICES, &IDENTITIES, broker_of(rank), buffer)
 }
 
 pub(crate) fn walk(rank: u32, buffer: &mut [u8]) -> Walked {
-    walk::walk(&TREE, &SERVICES, &IDENTITIES, broker_of(rank, true), buffer)
+    walk::walk(&TREE, &SERVICES, &IDENTITIES, broker_of(rank), buffer)
 }
 
 // Puts a byte in a place of the picture.

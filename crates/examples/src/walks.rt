@@ -1,4 +1,4 @@
-// The walks of paper 01's last table: each request goes by steps and by the walk call, and a response comes home the same two ways.
+// The walks of paper 01's last table, and three upstream: each request goes by steps and by the walk call, and a response comes home the same two ways.
 use crate::floor;
 use crate::print;
 use crate::words;
@@ -38,7 +38,7 @@ fn go(entry: u32, picture: &mut [u8], buffer: &mut [u8]) -> Walked {
     let mut links: u32 = 0;
     while links < 64 {
         floor::visit(picture, rank, links);
-        let stepped = floor::step(rank, links == 0, buffer);
+        let stepped = floor::step(rank, buffer);
         if let Stepped::Forwarded(next) = stepped {
             rank = next;
             links += 1;
@@ -147,8 +147,8 @@ fn draw(entry: u32, buffer: &mut [u8]) {
     print::text(&picture);
 }
 
-fn show(number: u32, entry: u32, nodeid: u32, flags: u8, topic: &[u8]) {
-    words::request(number, entry, nodeid, flags, topic);
+fn show(case: &[u8], entry: u32, nodeid: u32, flags: u8, topic: &[u8]) {
+    words::request(case, entry, nodeid, flags, topic);
     let mut buffer = [0u8; 32776];
     frame_write::write(header(1, flags, nodeid), b"", topic, b"", &mut buffer);
     draw(entry, &mut buffer);
@@ -156,15 +156,19 @@ fn show(number: u32, entry: u32, nodeid: u32, flags: u8, topic: &[u8]) {
 
 pub(crate) fn show_all() {
     let bench: &[u8] = b"bench.run";
-    show(1, 3, ANY, PLAIN, bench);
-    show(2, 4, ANY, PLAIN, bench);
-    show(3, 5, ANY, PLAIN, bench);
-    show(4, 5, ANY, PLAIN, b"log");
-    show(5, 6, 4, PLAIN, bench);
-    show(6, 3, 5, PLAIN, bench);
-    show(7, 3, 7, PLAIN, bench);
-    show(8, 4, 4, UPSTREAM, bench);
-    show(9, 0, 0, UPSTREAM, b"log.put");
-    show(10, 3, ANY, PLAIN, b"benchmark.run");
-    show(11, 5, ANY, NORESPONSE, bench);
+    show(b"W1", 3, ANY, PLAIN, bench);
+    show(b"W2", 4, ANY, PLAIN, bench);
+    show(b"W3", 5, ANY, PLAIN, bench);
+    show(b"W4", 5, ANY, PLAIN, b"log");
+    show(b"W5", 6, 4, PLAIN, bench);
+    show(b"W6", 3, 5, PLAIN, bench);
+    show(b"W7", 3, 7, PLAIN, bench);
+    show(b"W8", 4, 4, UPSTREAM, bench);
+    show(b"W9", 0, 0, UPSTREAM, b"log.put");
+    show(b"W10", 3, ANY, PLAIN, b"benchmark.run");
+    show(b"W11", 5, ANY, NORESPONSE, bench);
+    // Upstream, the rank that the nodeid names is passed by: no other, and wherever it stands on the way.
+    show(b"U1", 4, 5, UPSTREAM, bench);
+    show(b"U2", 3, 1, UPSTREAM, bench);
+    show(b"U3", 0, 7, UPSTREAM, b"log.put");
 }

@@ -4,31 +4,33 @@ use crate::print;
 use step_routing::Stepped;
 use walk::Walked;
 
-fn target(nodeid: u32) {
+// A nodeid is a target, or upstream the rank that is passed by.
+fn target(nodeid: u32, flags: u8) {
     if nodeid == 4294967295 {
         print::text(b" for any rank");
+        return;
+    }
+    if frame_flags::is_upstream(flags) {
+        print::field(b" upstream, past rank ", nodeid as usize);
     } else {
         print::field(b" for rank ", nodeid as usize);
     }
 }
 
 fn wishes(flags: u8) {
-    if frame_flags::is_upstream(flags) {
-        print::text(b", upstream");
-    }
     if frame_flags::no_response(flags) {
         print::text(b", no response wanted");
     }
 }
 
-// A case's number, what its request asks for, and where it enters.
-pub(crate) fn request(number: u32, entry: u32, nodeid: u32, flags: u8, topic: &[u8]) {
-    print::field(b"W", number as usize);
+// A case's name, what its request asks for, and where it enters.
+pub(crate) fn request(case: &[u8], entry: u32, nodeid: u32, flags: u8, topic: &[u8]) {
+    print::text(case);
     print::text(b": ");
     print::text(topic);
-    target(nodeid);
+    target(nodeid, flags);
     wishes(flags);
-    print::field(b", from a client at rank ", entry as usize);
+    print::field(b", entry at rank ", entry as usize);
     print::text(b"\n    request   ");
 }
 

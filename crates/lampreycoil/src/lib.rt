@@ -88,13 +88,12 @@ pub extern "C" fn lampreycoil_step(
     services: &[u8],
     identities: &[u8],
     rank: u32,
-    from_client: u32,
     buffer: &mut [u8],
     row: &mut [u8],
 ) -> u32
-    ensures { λ r. ⌜ Steps (tablesOf (was tree) (was services) (was identities)) (hostBroker rank «from_client») (was buffer) (was row) r (now (buffer .exit)) (now (row .exit)) ⌝ }
+    ensures { λ r. ⌜ Steps (tablesOf (was tree) (was services) (was identities)) (hostBroker rank) (was buffer) (was row) r (now (buffer .exit)) (now (row .exit)) ⌝ }
 {
-    call_step::steps::step(tree, services, identities, rank, from_client, buffer, row)
+    call_step::steps::step(tree, services, identities, rank, buffer, row)
 }
 
 // Plays a walk that begins at a rank with the frame at the front of buffer, and lists what it came to, a refusal too.
@@ -107,7 +106,7 @@ pub extern "C" fn lampreycoil_walk(
     buffer: &mut [u8],
     row: &mut [u8],
 ) -> u32
-    ensures { λ r. ⌜ Plays (tablesOf (was tree) (was services) (was identities)) (hostBroker rank 1) (was buffer) (was row) r (now (buffer .exit)) (now (row .exit)) ⌝ }
+    ensures { λ r. ⌜ Plays (tablesOf (was tree) (was services) (was identities)) (hostBroker rank) (was buffer) (was row) r (now (buffer .exit)) (now (row .exit)) ⌝ }
 {
     call_step::walks::walk(tree, services, identities, rank, buffer, row)
 }

@@ -88,7 +88,7 @@ module _ (t : Tables) (who : Broker) (m : Message) (next : ℕ) (n : Message) wh
   goes-on e = ⊎-elim (λ y. inl (request (eqb-true (m .header .kind) 1 y))) (λ no. ⊎-elim (λ y. inr (response (eqb-true (m .header .kind) 2 y))) (λ k. absurd (neither no k)) (outcome (eqb (m .header .kind) 2))) (outcome (eqb (m .header .kind) 1))
     where
       request : m .header .kind ≡ 1 → PushedOn t who m n
-      request k = on-request (requestWay (t .tree) (t .services) (who .rank) (who .client) (m .header) (m .topic)) k (sym (routed-request t who m k) ∙ e)
+      request k = on-request (requestWay (t .tree) (t .services) (who .rank) (m .header) (m .topic)) k (sym (routed-request t who m k) ∙ e)
 
       response : m .header .kind ≡ 2 → PoppedOn m n
       response k = on-response (m .routes) refl k (sym (routed-response t who m k) ∙ e)

@@ -262,10 +262,10 @@ module _ (b : List ℕ) (f : Layout) (kind : ℕ) (l : Lies b f kind) where
       length-between at n = omega arith
 
   pub way-told : (tree services : List ℕ) (who : Broker) {way : Way} →
-      way ≡ requestWay tree services (who .rank) (who .client) (f .header) (stretch b (f .topic .start) (f .topic .start + f .topic .len - f .topic .start)) →
-      requestWay tree services (who .rank) (who .client) (heldIn b .header) (heldIn b .topic) ≡ way
+      way ≡ requestWay tree services (who .rank) (f .header) (stretch b (f .topic .start) (f .topic .start + f .topic .len - f .topic .start)) →
+      requestWay tree services (who .rank) (heldIn b .header) (heldIn b .topic) ≡ way
   way-told tree services who e =
-      sym (e ∙ ap₂ (λ (h : Header) (topic : List ℕ). requestWay tree services (who .rank) (who .client) h topic) (header-told b f kind l) topic-shown)
+      sym (e ∙ ap₂ (λ (h : Header) (topic : List ℕ). requestWay tree services (who .rank) h topic) (header-told b f kind l) topic-shown)
 
 -- ---- where a response goes, by what stands in its buffer
 

@@ -1,5 +1,5 @@
--- One broker's step on a buffer: "Given the tables, the broker's rank, whether the message came from a local client, and a buffer with the frame at its
--- front." The step on the message itself is `routed` (step_routing/specs/Routed.antt).
+-- One broker's step on a buffer: "Given the tables, the broker's rank, .. and a buffer with the frame at its front." The step on the message itself is
+-- `routed` (step_routing/specs/Routed.antt).
 use Prim.Native.Nat.{ℕ}
 use mathlib.Core.Bool.{not}
 use mathlib.Core.List.{List}

@@ -35,7 +35,7 @@ pub record Lies (buffer : List ℕ) (f : Layout) (kind : ℕ) : Type 0 where
 abbrev pub requestOutcome : Tables → Broker → List ℕ → Answer Outcome
 requestOutcome t b buffer =
     let m = heldIn buffer in
-    andThen (requested t b m (requestWay (t .tree) (t .services) (b .rank) (b .client) (m .header) (m .topic))) (roomFor (length buffer))
+    andThen (requested t b m (requestWay (t .tree) (t .services) (b .rank) (m .header) (m .topic))) (roomFor (length buffer))
 
 abbrev pub responseOutcome : List ℕ → List ℕ → ℕ → List ℕ → Answer Outcome
 responseOutcome tree identities rank buffer =

@@ -29,14 +29,7 @@ fn request(
     let topic = f.topic;
     let start = topic.start;
     let end = start + topic.len;
-    let way = step_request::request_way(
-        tree,
-        services,
-        b.rank,
-        b.client,
-        f.header,
-        &buffer[start..end],
-    );
+    let way = step_request::request_way(tree, services, b.rank, f.header, &buffer[start..end]);
     match way {
         Way::Deliver(number) => Stepped::Delivered(number),
         Way::Forward(next) => {

@@ -2,6 +2,7 @@
 use frame_message::Header;
 use step_routing::Way;
 use table_records::Found;
+ghost use mathlib.Core.Bool.{false};
 ghost use mathlib.Core.Path.{_≡_};
 ghost use Rattle.bytes_number.specs.Lent.{was};
 ghost use Rattle.step_routing.specs.Requests.{deliverOr, toParent, upwards, toRank, requestWay};
@@ -33,17 +34,13 @@ fn to_parent(tree: &[u8], rank: u32) -> Way
     Way::Forward(table_tree::parent_of(tree, rank))
 }
 
-// Delivered where this rank registers the service, unless it is skipped; else to the parent.
-fn upwards(tree: &[u8], services: &[u8], rank: u32, topic: &[u8], skipped: bool) -> Way
-    ensures { λ r. ⌜ r ≡ upwards (was tree) (was services) rank (was topic) skipped ⌝ }
+// Delivered where this rank registers the service, else to the parent.
+fn upwards(tree: &[u8], services: &[u8], rank: u32, topic: &[u8]) -> Way
+    ensures { λ r. ⌜ r ≡ upwards (was tree) (was services) rank (was topic) false ⌝ }
 {
-    let up = to_parent(tree, rank);
-    if skipped {
-        return up;
-    }
     deliver_or(
         table_services_find::find_service(services, rank, table_services_find::service_of(topic)),
-        up,
+        to_parent(tree, rank),
     )
 }
 
@@ -66,21 +63,18 @@ fn to_rank(tree: &[u8], services: &[u8], rank: u32, nodeid: u32, topic: &[u8]) -
 }
 
 // Where the broker of a rank sends a request with this header and topic.
-pub fn request_way(
-    tree: &[u8],
-    services: &[u8],
-    rank: u32,
-    from_client: bool,
-    header: Header,
-    topic: &[u8],
-) -> Way
-    ensures { λ r. ⌜ r ≡ requestWay (was tree) (was services) rank «from_client» header (was topic) ⌝ }
+pub fn request_way(tree: &[u8], services: &[u8], rank: u32, header: Header, topic: &[u8]) -> Way
+    ensures { λ r. ⌜ r ≡ requestWay (was tree) (was services) rank header (was topic) ⌝ }
 {
     if header.first == ANY_RANK {
-        return upwards(tree, services, rank, topic, false);
+        return upwards(tree, services, rank, topic);
     }
-    if frame_flags::is_upstream(header.flags) {
-        return upwards(tree, services, rank, topic, from_client);
+    if !frame_flags::is_upstream(header.flags) {
+        return to_rank(tree, services, rank, header.first, topic);
     }
-    to_rank(tree, services, rank, header.first, topic)
+    // upstream the broker that the nodeid names is skipped, and no other
+    if rank == header.first {
+        return to_parent(tree, rank);
+    }
+    upwards(tree, services, rank, topic)
 }

@@ -26,7 +26,7 @@ use Rattle.step_routing.specs.Routed.{Tables, Outcome, delivered, forwar
 
 -- the ways of a request and of a response
 abbrev pub wayOf : Tables → Broker → Message → Way
-wayOf t b m = requestWay (t .tree) (t .services) (b .rank) (b .client) (m .header) (m .topic)
+wayOf t b m = requestWay (t .tree) (t .services) (b .rank) (m .header) (m .topic)
 
 abbrev pub backOf : Tables → Broker → Message → Back
 backOf t b m = responseWay (t .tree) (t .identities) (b .rank) (m .routes)

@@ -12,7 +12,7 @@ use Rattle.table_tree_hops.specs.Towards.{isNeighbour}
 use Rattle.table_identities.specs.Identities.{brokerOf}
 use Rattle.step_routing.specs.declared.Way.the-variants.{Forward, Fail}
 use Rattle.step_routing.specs.declared.Back.the-variants.{Home, To, Stray}
-use Rattle.step_routing.specs.Requests.{registered, deliverOr, toParent, upwards, nextBroker, toRank, requestWay}
+use Rattle.step_routing.specs.Requests.{registered, deliverOr, toParent, upwards, nextBroker, toRank, requestWay, skips}
 use Rattle.step_routing.specs.Responses.{towardsBroker, responseWay}
 
 module _ (tree : List ℕ) (rank : ℕ) where
@@ -39,16 +39,16 @@ module _ (tree services : List ℕ) (rank : ℕ) (topic : List ℕ) where
     pub rank-ahead : nodeid < ranksIn tree → (nodeid ≡ rank → ⊥) → toRank tree services rank nodeid topic ≡ Forward (nextBroker tree rank nodeid)
     rank-ahead h n = rw (lt-ltb nodeid (ranksIn tree) h, ne-eqb nodeid rank n)
 
-  module _ (fromClient : Bool) (h : Header) where
-    pub way-any : h .first ≡ 4294967295 → requestWay tree services rank fromClient h topic ≡ upwards tree services rank topic false
+  module _ (h : Header) where
+    pub way-any : h .first ≡ 4294967295 → requestWay tree services rank h topic ≡ upwards tree services rank topic false
     unfolding requestWay
     way-any e = rw (eq-eqb (h .first) 4294967295 e)
 
-    pub way-upstream : (h .first ≡ 4294967295 → ⊥) → isUpstream (h .flags) ≡ true → requestWay tree services rank fromClient h topic ≡ upwards tree services rank topic fromClient
+    pub way-upstream : (h .first ≡ 4294967295 → ⊥) → isUpstream (h .flags) ≡ true → requestWay tree services rank h topic ≡ upwards tree services rank topic (skips (h .first) rank)
     unfolding requestWay
     way-upstream n u = rw (ne-eqb (h .first) 4294967295 n, u)
 
-    pub way-rank : (h .first ≡ 4294967295 → ⊥) → isUpstream (h .flags) ≡ false → requestWay tree services rank fromClient h topic ≡ toRank tree services rank (h .first) topic
+    pub way-rank : (h .first ≡ 4294967295 → ⊥) → isUpstream (h .flags) ≡ false → requestWay tree services rank h topic ≡ toRank tree services rank (h .first) topic
     unfolding requestWay
     way-rank n u = rw (ne-eqb (h .first) 4294967295 n, u)
 

@@ -42,9 +42,9 @@ toParent tree rank = cond (eqb rank 0) (Fail noService) (Forward (parentOf tree 
 abbrev pub upwards : List ℕ → List ℕ → ℕ → List ℕ → Bool → Way
 upwards tree services rank topic skipped = cond skipped (toParent tree rank) (deliverOr (registered services rank topic) (toParent tree rank))
 
--- who is skipped: "a broker which took the request from a local client does not try its own services"
-abbrev pub skips : Bool → ℕ → ℕ → Bool
-skips fromClient nodeid rank = fromClient
+-- who is skipped: "the broker whose rank equals nodeid is skipped, and no other; a nodeid outside the tree skips nobody" (paper 02, ticket 3)
+abbrev pub skips : ℕ → ℕ → Bool
+skips nodeid rank = eqb rank nodeid
 
 -- "the next broker on the tree path"
 abbrev pub nextBroker : List ℕ → ℕ → ℕ → ℕ
@@ -58,9 +58,10 @@ toRank tree services rank nodeid topic =
     (cond (eqb nodeid rank) (deliverOr (registered services rank topic) (Fail noService)) (Forward (nextBroker tree rank nodeid)))
     (Fail hostUnreachable)
 
--- "nodeid 4294967295: .. The upstream flag is ignored here."; "other nodeid, upstream set: as for 4294967295, except .."; "other nodeid, upstream clear: .."
-unfoldable pub requestWay : List ℕ → List ℕ → ℕ → Bool → Header → List ℕ → Way
-requestWay tree services rank fromClient h topic =
+-- "nodeid 4294967295: .. The upstream flag is ignored here."; "other nodeid, upstream set: as for 4294967295", but for the broker that is skipped;
+-- "other nodeid, upstream clear: .."
+unfoldable pub requestWay : List ℕ → List ℕ → ℕ → Header → List ℕ → Way
+requestWay tree services rank h topic =
     cond (eqb (h .first) anyRank) (upwards tree services rank topic false)
-    (cond (isUpstream (h .flags)) (upwards tree services rank topic (skips fromClient (h .first) rank))
+    (cond (isUpstream (h .flags)) (upwards tree services rank topic (skips (h .first) rank))
     (toRank tree services rank (h .first) topic))

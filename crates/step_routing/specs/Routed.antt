@@ -36,8 +36,8 @@ pub record ValidTables (t : Tables) : Type 0 where
   pub services : servicesGood (t .tree) (t .services) ≡ true
   pub identities : identitiesGood (t .tree) (t .identities) ≡ true
 
--- ".. the broker's rank, whether the message came from a local client": the struct Broker has them, and the userid and rolemask that an error reply
--- carries
+-- ".. the broker's rank": the struct Broker has it, and the userid and rolemask that an error reply carries. "The step no longer needs to know where the
+-- message came from." (paper 02, ticket 3)
 
 pub data Outcome : Type 0 where
   delivered : ℕ → Outcome
@@ -68,6 +68,6 @@ responded m Stray = refused NoNeighbour
 -- a request, a response, or 18: "step or walk given an event or control"
 unfoldable pub routed : Tables → Broker → Message → Answer Outcome
 routed t b m =
-    cond (eqb (m .header .kind) requestType) (requested t b m (requestWay (t .tree) (t .services) (b .rank) (b .client) (m .header) (m .topic)))
+    cond (eqb (m .header .kind) requestType) (requested t b m (requestWay (t .tree) (t .services) (b .rank) (m .header) (m .topic)))
     (cond (eqb (m .header .kind) responseType) (responded m (responseWay (t .tree) (t .identities) (b .rank) (m .routes)))
     (refused NotRouted))

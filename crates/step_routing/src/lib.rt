@@ -10,10 +10,9 @@ const REPLY: u8 = 0x09;
 
 const STREAMING_REPLY: u8 = 0x49;
 
-// The broker that makes a step: its rank, whether it has the message from a local client, and the userid and rolemask of its error replies.
+// The broker that makes a step: its rank, and the userid and rolemask of its error replies.
 pub struct Broker {
     pub rank: u32,
-    pub client: bool,
     pub userid: u32,
     pub rolemask: u32,
 }

@@ -1,7 +1,6 @@
 -- What comes of a step in a walk, whichever broker makes it: "until an answer other than 2 or a refusal. It reports that answer, the rank and the links
 -- crossed; its buffer is what the steps in turn leave." The walk itself is walk/specs/Walk.antt.
 use Prim.Native.Nat.{ℕ, _+_}
-use mathlib.Core.Bool.{false}
 use mathlib.Core.List.{List}
 use Rattle.refusal.specs.Answer.{Answer, refused, answered}
 use Rattle.step_routing.specs.declared.Broker.{Broker}
@@ -15,9 +14,9 @@ pub record Walk : Type 0 where
   pub links : ℕ
   pub left : List ℕ
 
--- the broker to which a message was forwarded: it has it from another broker and not from a client
+-- the broker to which a message was forwarded: its error replies are the same owner's
 abbrev pub onward : ℕ → Broker → Broker
-onward next b = record { rank = next; client = false; userid = b .userid; rolemask = b .rolemask }
+onward next b = record { rank = next; userid = b .userid; rolemask = b .rolemask }
 
 -- a walk ends with a step's answer other than 2, or a refusal
 abbrev pub restsAt : Answer Outcome → Broker → ℕ → List ℕ → Walk

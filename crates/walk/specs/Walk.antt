@@ -1,6 +1,5 @@
--- "A walk repeats steps, the first as from a local client, the others not, until an answer other than 2 or a refusal. It reports that answer, the rank
--- and the links crossed; its buffer is what the steps in turn leave." What comes of one step (`Walk`, `onward`, `restsAt`, `afterStep`) is said in
--- walk/specs/Onward.antt, and passed on here.
+-- "A walk repeats steps .. until an answer other than 2 or a refusal. It reports that answer, the rank and the links crossed; its buffer is what the
+-- steps in turn leave." What comes of one step (`Walk`, `onward`, `restsAt`, `afterStep`) is said in walk/specs/Onward.antt, and passed on here.
 use Prim.Native.Nat.{ℕ, zero, suc}
 use mathlib.Core.Bool.{cond}
 use mathlib.Core.List.{List}
@@ -27,6 +26,6 @@ leastBuffer = 32776
 abbrev pub mostSteps : ℕ
 mostSteps = 65
 
--- the whole walk, begun by a broker that has the message from a local client
+-- the whole walk, begun by the broker that has the message
 unfoldable pub walkOf : Tables → Broker → List ℕ → Walk
 walkOf t b buffer = cond (ltb (length buffer) leastBuffer) (restsAt (refused OutputShort) b 0 buffer) (walkFrom mostSteps t b 0 buffer)

@@ -27,7 +27,6 @@ pub(crate) fn go_on(
     while links < MOST_STEPS {
         let who = Broker {
             rank,
-            client: false,
             userid: b.userid,
             rolemask: b.rolemask,
         };

@@ -9,6 +9,7 @@ use native.Mathlib.Nat.{le-of-suc-le-suc, eq-or-lt-of-le}
 use borrow.Author.Tests.{eq-eqb, ne-eqb}
 use lib.Dec.{eqb}
 use lib.ListN.{length, getD}
+use Rattle.bytes_number.proofs.Truth.{outcome}
 use Rattle.frame_message.specs.Reading.{final}
 use Rattle.frame_message.proofs.Lists.{Each, final-snoc}
 use Rattle.table_tree.specs.Tree.{ranksIn, parentOf}
@@ -60,6 +61,20 @@ final-append : (rs : List ℕ) (r : ℕ) (ss : List ℕ) → final 0 (rs ++ (r �
 final-append [] r ss = refl
 final-append (q ∷ []) r ss = final-next q r ss
 final-append (q ∷ p ∷ rs) r ss = final-next q p (rs ++ (r ∷ ss)) ∙ final-append (p ∷ rs) r ss
+
+-- ---- a search
+
+-- a list searched by tests that agree as far as the search goes
+pub same-search : (p q : ℕ → Bool) (rs : List ℕ) → Each (λ r. p r ≡ q r) (upTo p rs) → upTo q rs ≡ upTo p rs
+unfolding upTo
+same-search p q [] e = refl
+same-search p q (r ∷ rs) e =
+    ⊎-elim
+    (λ (t : p r ≡ true). let each : Each (λ s. p s ≡ q s) (r ∷ []) = rw t at e in rw (t, sym (each .0) ∙ t) refl)
+    (λ (f : p r ≡ false).
+    let each : Each (λ s. p s ≡ q s) (r ∷ upTo p rs) = rw f at e in
+    rw (f, sym (each .0) ∙ f) (ap (λ (l : List ℕ). r ∷ l) (same-search p q rs (each .1))))
+    (outcome (p r))
 
 -- ---- the two ways along a chain
 

@@ -50,9 +50,13 @@ abbrev pub isFound : Found → Bool
 isFound (At number) = true
 isFound Nothing = false
 
--- "from the entry up to the nearest broker, itself included, that registers the service, else up to rank 0"
-unfoldable pub upPath : List ℕ → List ℕ → List ℕ → ℕ → List ℕ
-upPath tree services topic entry = upTo (λ r. isFound (recordOf services topic r)) (chain tree entry)
+-- "registers the service and is not the named rank" (paper 02, ticket 3): the same, but that the named rank is skipped
+abbrev pub servedAt : List ℕ → List ℕ → ℕ → ℕ → Found
+servedAt services topic named r = cond (eqb r named) Nothing (recordOf services topic r)
+
+-- "from the entry up to the nearest broker, itself included, that registers the service, else up to rank 0", by what a broker serves
+unfoldable pub upPath : List ℕ → (ℕ → Found) → ℕ → List ℕ
+upPath tree serves entry = upTo (λ r. isFound (serves r)) (chain tree entry)
 
 -- "the lowest common ancestor": the first in the chain of the one that is in the chain of the other
 unfoldable pub commonAncestor : List ℕ → ℕ → ℕ → ℕ
@@ -81,8 +85,8 @@ endAt (At number) = delivers number
 endAt Nothing = fails 38
 
 -- "In all other cases the last broker of the path delivers if .."
-abbrev pub ending : List ℕ → List ℕ → List ℕ → Path
-ending services topic brokers = record { brokers = brokers; end = endAt (recordOf services topic (final 0 brokers)) }
+abbrev pub ending : (ℕ → Found) → List ℕ → Path
+ending serves brokers = record { brokers = brokers; end = endAt (serves (final 0 brokers)) }
 
 -- an error "on 0 links"
 abbrev pub stopping : ℕ → ℕ → Path
@@ -90,24 +94,23 @@ stopping entry errnum = record { brokers = entry ∷ []; end = fails errnum }
 
 -- "for nodeid 4294967295, ..": any rank
 abbrev pub anyPath : List ℕ → List ℕ → List ℕ → ℕ → Path
-anyPath tree services topic entry = ending services topic (upPath tree services topic entry)
+anyPath tree services topic entry = ending (recordOf services topic) (upPath tree (recordOf services topic) entry)
 
--- "Another nodeid, upstream set: the same, and the path still starts at the entry, but the search for the service starts at the entry's parent; entry
--- at rank 0 gives error 38 on 0 links."
-abbrev pub upstreamPath : List ℕ → List ℕ → List ℕ → ℕ → Path
-upstreamPath tree services topic entry =
-    cond (eqb entry 0) (stopping entry 38) (ending services topic (entry ∷ upPath tree services topic (parentOf tree entry)))
+-- Another nodeid, upstream set: "from the entry up to the nearest broker, itself included, that registers the service and is not the named rank, else to
+-- rank 0, where the error is 38" (paper 02, ticket 3)
+abbrev pub upstreamPath : List ℕ → List ℕ → List ℕ → ℕ → ℕ → Path
+upstreamPath tree services topic entry named = ending (servedAt services topic named) (upPath tree (servedAt services topic named) entry)
 
 -- "Another nodeid, upstream clear: up to the lowest common ancestor and down to the target; if it is not in the tree, error 113 on 0 links."
 abbrev pub targetPath : List ℕ → List ℕ → List ℕ → ℕ → ℕ → Path
 targetPath tree services topic entry target =
-    cond (ltb target (ranksIn tree)) (ending services topic (rankPath tree entry target)) (stopping entry 113)
+    cond (ltb target (ranksIn tree)) (ending (recordOf services topic) (rankPath tree entry target)) (stopping entry 113)
 
 -- the path of a request with this header and topic that enters at a rank
 unfoldable pub pathOf : List ℕ → List ℕ → ℕ → Header → List ℕ → Path
 pathOf tree services entry h topic =
     cond (eqb (h .first) 4294967295) (anyPath tree services topic entry)
-    (cond (isUpstream (h .flags)) (upstreamPath tree services topic entry) (targetPath tree services topic entry (h .first)))
+    (cond (isUpstream (h .flags)) (upstreamPath tree services topic entry (h .first)) (targetPath tree services topic entry (h .first)))
 
 -- "Links are the brokers on the path less one."
 abbrev pub linksOf : Path → ℕ

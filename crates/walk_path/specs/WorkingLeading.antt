@@ -1,6 +1,6 @@
 -- A path is followed: each of its brokers, by its own step, sends the request to the next one, and the last ends it as the path does.
 use mathlib.Core.Path.{_≡_}
-use mathlib.Core.Bool.{Bool, true, false}
+use mathlib.Core.Bool.{true}
 use Prim.Native.Nat.{ℕ, _+_, _*_, _<_, _≤_}
 use mathlib.Core.List.{List, [], _∷_}
 use lib.ListN.{length}
@@ -21,11 +21,11 @@ abbrev pub wayOf : End → Way
 wayOf (delivers number) = Deliver number
 wayOf (fails errnum) = Fail errnum
 
--- along these brokers each sends the request to the next, and the last ends it so; only the first has it from a local client
-unfoldable pub Leads : List ℕ → List ℕ → Header → List ℕ → Bool → List ℕ → End → Type 0
-Leads tree services h topic client [] end = ⊥
-Leads tree services h topic client (r ∷ []) end = requestWay tree services r client h topic ≡ wayOf end
-Leads tree services h topic client (r ∷ s ∷ rs) end = (requestWay tree services r client h topic ≡ Forward s) × Leads tree services h topic false (s ∷ rs) end
+-- along these brokers each sends the request to the next, and the last ends it so, by what a broker does with it
+unfoldable pub Leads : (ℕ → Way) → List ℕ → End → Type 0
+Leads way [] end = ⊥
+Leads way (r ∷ []) end = way r ≡ wayOf end
+Leads way (r ∷ s ∷ rs) end = (way r ≡ Forward s) × Leads way (s ∷ rs) end
 
 -- each is a rank of the tree, and the one before it is its neighbour
 unfoldable pub Linked : List ℕ → List ℕ → Type 0
@@ -38,7 +38,7 @@ pub record Follows (tree services : List ℕ) (entry : ℕ) (h : Header) (topic 
   -- it starts at the entry
   pub rest : List ℕ
   pub starts : path .brokers ≡ entry ∷ rest
-  pub leads : Leads tree services h topic true (path .brokers) (path .end)
+  pub leads : Leads (λ r. requestWay tree services r h topic) (path .brokers) (path .end)
   pub linked : Linked tree (path .brokers)
   -- at most up and down again
   pub few : length (path .brokers) ≤ 2 * treeDepth tree + 1

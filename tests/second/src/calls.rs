@@ -81,19 +81,11 @@ pub fn check_identities_call(tree: &[u8], identities: &[u8]) -> u32 {
     number_of(tables::check_identities(tree, identities))
 }
 
-/// Any `from_client` but 0 is yes.
-pub fn step_call(
-    tables: Tables,
-    rank: u32,
-    from_client: u32,
-    buffer: &mut [u8],
-    record: &mut [u8],
-) -> u32 {
+pub fn step_call(tables: Tables, rank: u32, buffer: &mut [u8], record: &mut [u8]) -> u32 {
     let Some(record) = record.get_mut(..STEP_RECORD_LEN) else {
         return Refusal::OutputTooShort as u32;
     };
-    let stepped = Floor::new(tables).and_then(|floor| step(&floor, rank, from_client != 0, buffer));
-    match stepped {
+    match Floor::new(tables).and_then(|floor| step(&floor, rank, buffer)) {
         Ok(stepped) => {
             put_numbers(record, &step_numbers(&stepped));
             0
@@ -324,7 +316,6 @@ pub unsafe extern "C" fn second_step(
     identities: *const u8,
     identities_len: usize,
     rank: u32,
-    from_client: u32,
     buffer: *mut u8,
     buffer_len: usize,
     record: *mut u8,
@@ -336,8 +327,7 @@ pub unsafe extern "C" fn second_step(
         identities: from_raw_parts(identities, identities_len),
     };
     let buffer = from_raw_parts_mut(buffer, buffer_len);
-    let record = from_raw_parts_mut(record, record_len);
-    step_call(tables, rank, from_client, buffer, record)
+    step_call(tables, rank, buffer, from_raw_parts_mut(record, record_len))
 }
 
 /// # Safety

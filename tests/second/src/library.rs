@@ -71,7 +71,6 @@ extern "C" {
         identities: *const u8,
         identities_len: usize,
         rank: u32,
-        from_client: u32,
         buffer: *mut u8,
         buffer_len: usize,
         record: *mut u8,

@@ -30,38 +30,33 @@ impl Path {
 /// The tables are right, and the entry is a rank of the tree.
 pub fn path_of(tables: &Tables, entry: u32, nodeid: u32, upstream: bool, topic: &[u8]) -> Path {
     let service = topic.split(|&byte| byte == b'.').next().unwrap();
-    let registers = |rank: &u32| record_number(tables, *rank, service).is_some();
+    let registers = |rank: u32| record_number(tables, rank, service);
     let from_entry = chain(tables, entry);
-    let brokers = if nodeid == u32::MAX {
-        up_to(&from_entry, registers)
+    if nodeid == u32::MAX {
+        up_to_nearest(&from_entry, registers)
     } else if upstream {
-        let Some((_, above)) = from_entry.split_first().filter(|(_, up)| !up.is_empty()) else {
-            return error(entry, 38);
-        };
-        [&[entry], &up_to(above, registers)[..]].concat()
+        up_to_nearest(&from_entry, |rank| {
+            registers(rank).filter(|_| rank != nodeid)
+        })
     } else if (nodeid as usize) < tables.tree.len() / 4 {
-        across(&from_entry, &chain(tables, nodeid))
+        let brokers = across(&from_entry, &chain(tables, nodeid));
+        let end = end_of(registers(nodeid));
+        Path { brokers, end }
     } else {
-        return error(entry, 113);
-    };
-    let last = brokers[brokers.len() - 1];
-    let end = match record_number(tables, last, service) {
-        Some(number) => End::Delivers(number),
-        None => End::Error(38),
-    };
-    Path { brokers, end }
-}
-
-/// An error on 0 links.
-fn error(entry: u32, number: u32) -> Path {
-    Path {
-        brokers: vec![entry],
-        end: End::Error(number),
+        Path {
+            brokers: vec![entry],
+            end: End::Error(113),
+        }
     }
 }
 
+/// What the last broker does, if this is the record by which it serves.
+fn end_of(record: Option<u32>) -> End {
+    record.map_or(End::Error(38), End::Delivers)
+}
+
 /// The rank, its parent, and so on to rank 0.
-fn chain(tables: &Tables, rank: u32) -> Vec<u32> {
+pub fn chain(tables: &Tables, rank: u32) -> Vec<u32> {
     let mut ranks = vec![rank];
     let mut at = rank as usize;
     while at != 0 {
@@ -73,10 +68,14 @@ fn chain(tables: &Tables, rank: u32) -> Vec<u32> {
     ranks
 }
 
-/// The ranks up to the first that registers the service and with it, or all of them.
-fn up_to(ranks: &[u32], registers: impl Fn(&u32) -> bool) -> Vec<u32> {
-    let nearest = ranks.iter().position(registers);
-    ranks[..nearest.map_or(ranks.len(), |at| at + 1)].to_vec()
+/// Up a chain to the first rank that serves, itself included, or else to its end.
+fn up_to_nearest(chain: &[u32], serves: impl Fn(u32) -> Option<u32>) -> Path {
+    let nearest = chain.iter().position(|&rank| serves(rank).is_some());
+    let last = nearest.unwrap_or(chain.len() - 1);
+    Path {
+        brokers: chain[..=last].to_vec(),
+        end: end_of(serves(chain[last])),
+    }
 }
 
 /// Up one chain to the first rank that is in the other as well, and down that.

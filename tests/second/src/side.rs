@@ -14,14 +14,9 @@ type WriteCall = unsafe extern "C" fn(
 ) -> u32;
 type TreeCall = unsafe extern "C" fn(*const u8, usize, *mut u8, usize, *mut u8, usize) -> u32;
 type TableCall = unsafe extern "C" fn(*const u8, usize, *const u8, usize) -> u32;
+/// A step or a walk.
 #[rustfmt::skip]
 type StepCall = unsafe extern "C" fn(
-    *const u8, usize, *const u8, usize, *const u8, usize,
-    u32, u32,
-    *mut u8, usize, *mut u8, usize,
-) -> u32;
-#[rustfmt::skip]
-type WalkCall = unsafe extern "C" fn(
     *const u8, usize, *const u8, usize, *const u8, usize,
     u32,
     *mut u8, usize, *mut u8, usize,
@@ -38,7 +33,7 @@ pub struct Side {
     check_services: TableCall,
     check_identities: TableCall,
     step: StepCall,
-    walk: WalkCall,
+    walk: StepCall,
     check_json: ReadCall,
 }
 
@@ -153,14 +148,7 @@ impl Side {
         }
     }
 
-    pub fn step(
-        &self,
-        tables: Tables,
-        rank: u32,
-        from_client: u32,
-        buffer: &mut [u8],
-        record: &mut [u8],
-    ) -> u32 {
+    pub fn step(&self, tables: Tables, rank: u32, buffer: &mut [u8], record: &mut [u8]) -> u32 {
         // Safe: all slices live through the call; buffer and record are lent to it alone.
         unsafe {
             (self.step)(
@@ -171,7 +159,6 @@ impl Side {
                 tables.identities.as_ptr(),
                 tables.identities.len(),
                 rank,
-                from_client,
                 buffer.as_mut_ptr(),
                 buffer.len(),
                 record.as_mut_ptr(),

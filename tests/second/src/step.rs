@@ -41,12 +41,7 @@ enum Way {
 
 /// A refusal leaves the buffer as it was. So do all answers but a forward and an error reply, which
 /// clear it behind the new frame.
-pub fn step(
-    floor: &Floor,
-    rank: u32,
-    from_client: bool,
-    buffer: &mut [u8],
-) -> Result<Stepped, Refusal> {
+pub fn step(floor: &Floor, rank: u32, buffer: &mut [u8]) -> Result<Stepped, Refusal> {
     let rank = rank as usize;
     if rank >= floor.ranks() {
         return Err(Refusal::WrongRank);
@@ -55,7 +50,7 @@ pub fn step(
     match reading.header.kind {
         REQUEST => {
             let topic = reading.topic.unwrap_or_default().of(buffer);
-            let way = way_of(floor, rank, from_client, &reading.header, topic);
+            let way = way_of(floor, rank, &reading.header, topic);
             step_request(floor, rank, way, &reading, buffer)
         }
         RESPONSE => step_response(floor, rank, &reading, buffer),
@@ -63,13 +58,13 @@ pub fn step(
     }
 }
 
-fn way_of(floor: &Floor, rank: usize, from_client: bool, header: &Header, topic: &[u8]) -> Way {
+fn way_of(floor: &Floor, rank: usize, header: &Header, topic: &[u8]) -> Way {
     let nodeid = header.first;
     let own_record = || floor.record_of(rank, service_of(topic));
-    let to_nearest = nodeid == NODEID_ANY;
-    if to_nearest || header.has(FLAG_UPSTREAM) {
-        let skips_itself = !to_nearest && from_client;
-        let record = if skips_itself { None } else { own_record() };
+    if nodeid == NODEID_ANY || header.has(FLAG_UPSTREAM) {
+        // Upstream the nodeid is the sender's rank: the sender is skipped. 4294967295 is no rank.
+        let is_sender = nodeid as usize == rank;
+        let record = if is_sender { None } else { own_record() };
         return match (record, floor.parent(rank)) {
             (Some(record), _) => Way::Deliver(record),
             (None, Some(parent)) => Way::Forward(parent),

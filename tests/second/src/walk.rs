@@ -37,8 +37,8 @@ pub fn walk(tables: Tables, entry: u32, buffer: &mut [u8]) -> Result<Walked, Sto
     }
     let floor = Floor::new(tables).map_err(|refusal| stopped(refusal, rank, links))?;
     loop {
-        let stepped = step(&floor, rank, links == 0, buffer)
-            .map_err(|refusal| stopped(refusal, rank, links))?;
+        let stepped =
+            step(&floor, rank, buffer).map_err(|refusal| stopped(refusal, rank, links))?;
         let Answer::Forward(next) = stepped.answer else {
             return Ok(Walked {
                 stepped,

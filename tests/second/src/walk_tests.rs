@@ -11,16 +11,19 @@ use crate::walk::MIN_BUFFER;
 
 const ANY: u32 = u32::MAX;
 
-/// Parents none,0,0,1,1,2,2; bench at 1 and 4, log at 0.
+/// Bench at 1 and 4, log at 0.
 fn paper_floor() -> OwnedTables {
-    let services = [
-        service(1, b"bench"),
-        service(4, b"bench"),
-        service(0, b"log"),
-    ];
+    with_services(&[(1, b"bench"), (4, b"bench"), (0, b"log")])
+}
+
+/// Parents none,0,0,1,1,2,2.
+fn with_services(services: &[(u32, &[u8])]) -> OwnedTables {
     OwnedTables {
         tree: tree_of(&[ANY, 0, 0, 1, 1, 2, 2]),
-        services: services.concat(),
+        services: services
+            .iter()
+            .flat_map(|(rank, name)| service(*rank, name))
+            .collect(),
         identities: (0..7).flat_map(|seed| route(&mut Rng::new(seed))).collect(),
     }
 }
@@ -58,21 +61,39 @@ const ROWS: [Row; 11] = [
     (5, ANY, 0x04, "bench.run", [4, 0, 38, 0, 2]),
 ];
 
+/// Upstream with bench at 3, 5 and 0: the named rank is skipped, and no other.
+const UPSTREAM_ROWS: [Row; 8] = [
+    (3, 5, 0x10, "bench.run", [1, 0, 0, 3, 0]),
+    (5, 5, 0x10, "bench.run", [1, 2, 0, 0, 2]),
+    (3, 3, 0x10, "bench.run", [1, 2, 0, 0, 2]),
+    (6, 0, 0x10, "bench.run", [3, 0, 38, 0, 2]),
+    (0, 0, 0x10, "bench.run", [3, 0, 38, 0, 0]),
+    (0, 5, 0x10, "bench.run", [1, 2, 0, 0, 0]),
+    (5, 7, 0x10, "bench.run", [1, 1, 0, 5, 0]),
+    (5, ANY, 0x10, "bench.run", [1, 1, 0, 5, 0]),
+];
+
 #[test]
 fn the_papers_walks() {
-    let tables = paper_floor();
-    for (number, (entry, nodeid, flags, topic, end)) in ROWS.into_iter().enumerate() {
-        let message = paper_request(nodeid, flags, topic);
-        let rest = request_rest(&tables.lent(), entry, &message);
-        let [answer, number_told, error, _, rank, links] = rest.numbers;
-        assert_eq!(
-            [answer, number_told, error, rank, links],
-            end,
-            "W{}",
-            number + 1
-        );
-        there_and_home(&mut Rng::new(9), &tables, entry, &message);
+    for (number, row) in ROWS.into_iter().enumerate() {
+        check_row(&paper_floor(), row, &format!("W{}", number + 1));
     }
+}
+
+#[test]
+fn the_walks_upstream() {
+    let tables = with_services(&[(3, b"bench"), (5, b"bench"), (0, b"bench")]);
+    for row in UPSTREAM_ROWS {
+        check_row(&tables, row, &format!("entry {}, nodeid {}", row.0, row.1));
+    }
+}
+
+fn check_row(tables: &OwnedTables, (entry, nodeid, flags, topic, end): Row, name: &str) {
+    let message = paper_request(nodeid, flags, topic);
+    let rest = request_rest(&tables.lent(), entry, &message);
+    let [answer, number, error, _, rank, links] = rest.numbers;
+    assert_eq!([answer, number, error, rank, links], end, "{name}");
+    there_and_home(&mut Rng::new(9), tables, entry, &message);
 }
 
 #[test]
@@ -163,12 +184,8 @@ fn walked(tables: Tables, entry: u32, at_start: &[u8], rest: &Rest) -> Vec<u8> {
     let mut visited = Vec::new();
     let (mut rank, mut record) = (entry, [0; 16]);
     loop {
-        let from_client = visited.is_empty() as u32;
         visited.push(rank);
-        assert_eq!(
-            step_call(tables, rank, from_client, &mut by_steps, &mut record),
-            0
-        );
+        assert_eq!(step_call(tables, rank, &mut by_steps, &mut record), 0);
         if numbers(&record)[0] != 2 {
             break;
         }

@@ -11,7 +11,7 @@ are-bytes-requires c κs = search needs
 
 returns : tie.Need-returns
 returns c = let s = c .before .before .before .before .before .args in
-    steps-by-the-rules (tablesOf (s .tree .now) (s .services .now) (s .identities .now)) (ownerOf (s .userid) (s .rolemask)) (s .rank) (s .from-client) (s .buffer .now) (c .are-bytes .ensures)
+    steps-by-the-rules (tablesOf (s .tree .now) (s .services .now) (s .identities .now)) (ownerOf (s .userid) (s .rolemask)) (s .rank) (s .buffer .now) (c .are-bytes .ensures)
 
 pub steps-by-the-rules-spec : {M : Type 1} → statement M
 steps-by-the-rules-spec = tie.close (tie.spec are-bytes-requires returns)

@@ -40,7 +40,7 @@ module _ (s : tie.Start) where
   coming way = andThen (requested tables who (heldIn b) way) (roomFor (length b))
 
   abbrev asked : Way
-  asked = requestWay (s .args .tree .now) (s .args .services .now) (who .rank) (who .client) (heldIn b .header) (heldIn b .topic)
+  asked = requestWay (s .args .tree .now) (s .args .services .now) (who .rank) (heldIn b .header) (heldIn b .topic)
 
 most-taken : (n : ℕ) (xs : List ℕ) → length (take n xs) ≤ n
 most-taken n xs = omega (arith, length-take n xs)

@@ -2,6 +2,7 @@
 
 use super::{depth_of, floors::NAMES, route, OwnedTables, Rng};
 use crate::frame::{number_at, Header};
+use crate::path::chain;
 use crate::write::Message;
 
 /// The body that demand 3 leaves room to grow by 32 routes.
@@ -33,7 +34,7 @@ impl OwnedMessage {
     }
 }
 
-/// A request, and the rank at which a client hands it in.
+/// A request, and the rank at which its walk begins.
 #[derive(Clone, Debug)]
 pub struct Request {
     pub entry: u32,
@@ -57,11 +58,13 @@ pub fn request(rng: &mut Rng, tables: &OwnedTables) -> Request {
         topic: topic(rng),
         payload: Vec::new(),
     };
+    let way_up = chain(&tables.lent(), entry);
     if rng.once_in(4) {
         message.header.flags |= 0x10;
+        message.header.first = sender(rng, tables, &way_up);
     }
     if rng.once_in(2) {
-        aim(rng, tables, &mut message);
+        aim(rng, tables, &way_up, &mut message);
     }
     if rng.once_in(2) {
         add_payload(rng, &mut message, MAX_BODY);
@@ -69,11 +72,14 @@ pub fn request(rng: &mut Rng, tables: &OwnedTables) -> Request {
     Request { entry, message }
 }
 
-/// Lets a request ask for a service that some broker has, often of that broker.
-fn aim(rng: &mut Rng, tables: &OwnedTables, message: &mut OwnedMessage) {
-    let records = tables.services.len() / 32;
-    if records > 0 {
-        let record = &tables.services[32 * rng.below(records)..][..32];
+/// Lets a request ask for a service that some broker has, and often name that broker. Upstream it
+/// is one on the way: no other matters.
+fn aim(rng: &mut Rng, tables: &OwnedTables, way_up: &[u32], message: &mut OwnedMessage) {
+    let upstream = message.header.flags & 0x10 != 0;
+    let matters = |record: &&[u8]| !upstream || way_up.contains(&number_at(record, 0));
+    let records: Vec<&[u8]> = tables.services.chunks(32).filter(matters).collect();
+    if !records.is_empty() {
+        let record = rng.pick(&records);
         let name = &record[5..5 + record[4] as usize];
         message.topic = [name, rng.pick(&[&b""[..], b".run", b"."])].concat();
         if message.header.first != u32::MAX && rng.once_in(2) {
@@ -132,12 +138,29 @@ pub fn topic(rng: &mut Rng) -> Vec<u8> {
 }
 
 fn nodeid(rng: &mut Rng, tables: &OwnedTables) -> u32 {
-    let ranks = tables.ranks() as u32;
     match rng.below(12) {
         0..=3 => u32::MAX,
-        4 => rng.pick(&[ranks, ranks + 1, 1024, 1 << 31, u32::MAX - 2, ranks << 8]),
+        4 => outside(rng, tables),
         _ => far_rank(rng, tables),
     }
+}
+
+/// Whom an upstream request names: mostly the entry, its parent, rank 0 or another on the way.
+fn sender(rng: &mut Rng, tables: &OwnedTables, way_up: &[u32]) -> u32 {
+    match rng.below(8) {
+        0..=1 => way_up[0],
+        2 => way_up[1.min(way_up.len() - 1)],
+        3 => 0,
+        4 => rng.pick(way_up),
+        5 => outside(rng, tables),
+        _ => nodeid(rng, tables),
+    }
+}
+
+/// No rank of the tree.
+fn outside(rng: &mut Rng, tables: &OwnedTables) -> u32 {
+    let ranks = tables.ranks() as u32;
+    rng.pick(&[ranks, ranks + 1, 1024, 1 << 31, u32::MAX - 2, ranks << 8])
 }
 
 /// Any rank, or the deepest of several.

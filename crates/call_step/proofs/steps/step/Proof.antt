@@ -20,7 +20,7 @@ module _ (s : tie.Start) where
   tables = tablesOf (s .args .tree .now) (s .args .services .now) (s .args .identities .now)
 
   abbrev who : Broker
-  who = hostBroker (s .args .rank) (s .args .from-client)
+  who = hostBroker (s .args .rank)
 
   abbrev b : List ℕ
   b = s .args .buffer .now

@@ -93,7 +93,7 @@ fn measure_step(kind: &Kind, input: &str, floor: &OwnedTables, body: Option<usiz
             buffers.with(number, |buffer| {
                 let mut record = [0; 16];
                 let (tables, buffer) = (black_box(floor).lent(), black_box(buffer));
-                let refusal = black_box(side).step(tables, rank, 1, buffer, &mut record);
+                let refusal = black_box(side).step(tables, rank, buffer, &mut record);
                 assert_eq!((refusal, number_at(&record, 0)), (0, kind.answer));
             })
         }

@@ -32,7 +32,7 @@ fn steps() -> Vec<(u32, OwnedMessage, Told)> {
     let mut steps: Vec<_> = [(1, ANY, 0x00), (5, ANY, 0x00), (5, 7, 0x00), (5, 7, 0x04)]
         .map(|(rank, nodeid, flags)| {
             let request = request(nodeid, flags, 1, b"bench.run", b"");
-            let told = told_request(&floor, rank, true, &request, b"bench");
+            let told = told_request(&floor, rank, &request, b"bench");
             (rank, request, told)
         })
         .into();
@@ -62,7 +62,7 @@ fn step(
     let frame = frame_of(&message.lent());
     memory.bytes()[..frame.len()].copy_from_slice(&frame);
     let mut record = [0xA7; 16];
-    let answer = LIBRARY.step(tables, rank, 1, &mut memory.bytes()[..ABOVE], &mut record);
+    let answer = LIBRARY.step(tables, rank, &mut memory.bytes()[..ABOVE], &mut record);
     tester.count(answer);
     let (refusal, numbers, left) = match told {
         Told::Refused(number) => (*number, None, frame),

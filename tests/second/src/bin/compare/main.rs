@@ -47,6 +47,7 @@ mod stream_parts;
 mod table_bounds;
 mod table_calls;
 mod tester;
+mod upstream;
 mod walk_bounds;
 mod walk_calls;
 mod walk_limits;
@@ -134,6 +135,7 @@ fn step_groups() -> Vec<Group> {
 fn walk_groups() -> Vec<Group> {
     vec![
         group("walk-paper", 0, |tester, _| walk_paper::run(tester)),
+        group("upstream", 0, |tester, _| upstream::run(tester)),
         group("walk-bounds", 0, |tester, _| walk_bounds::run(tester)),
         group("walk-limits", 0, |tester, _| walk_limits::run(tester)),
         group("walks", 5, seeded_walks::walks),

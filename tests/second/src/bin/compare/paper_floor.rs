@@ -23,21 +23,49 @@ pub const NEXT: [[u32; 7]; 7] = [
 
 pub const NEIGHBOURS: [&[u32]; 7] = [&[1, 2], &[0, 3, 4], &[0, 5, 6], &[1], &[1], &[2], &[2]];
 
+/// From each rank up to rank 0.
+pub const CHAINS: [&[u32]; 7] = [
+    &[0],
+    &[1, 0],
+    &[2, 0],
+    &[3, 1, 0],
+    &[4, 1, 0],
+    &[5, 2, 0],
+    &[6, 2, 0],
+];
+
+/// Topics, and the service of each: those that are registered, one that is not, one that begins as
+/// a registered one, one that a registered one begins with, and none at all.
+pub const TOPICS: [(&[u8], &[u8]); 8] = [
+    (b"bench.run", b"bench"),
+    (b"bench", b"bench"),
+    (b"log", b"log"),
+    (b"log.put", b"log"),
+    (b"kvs.get", b"kvs"),
+    (b"benchmark.run", b"benchmark"),
+    (b"benc.run", b"benc"),
+    (b".bench", b""),
+];
+
 /// Bench at 1 and 4, log at 0.
 pub fn tables() -> OwnedTables {
-    let services = [
-        service(1, b"bench"),
-        service(4, b"bench"),
-        service(0, b"log"),
-    ];
+    with_services(&[(1, b"bench"), (4, b"bench"), (0, b"log")])
+}
+
+/// The paper's tree with other services.
+pub fn with_services(services: &[(u32, &[u8])]) -> OwnedTables {
     OwnedTables {
         tree: tree_of(&PARENTS),
-        services: services.concat(),
+        services: services
+            .iter()
+            .flat_map(|(rank, name)| service(*rank, name))
+            .collect(),
         identities: (0..7).flat_map(|rank| route(1000 + rank)).collect(),
     }
 }
 
-fn record(rank: u32, service: &[u8]) -> Option<u32> {
+/// The number of a rank's record for a service.
+pub fn record(rank: u32, service: &[u8]) -> Option<u32> {
     match (rank, service) {
         (1, b"bench") => Some(0),
         (4, b"bench") => Some(1),
@@ -67,7 +95,6 @@ pub fn request(nodeid: u32, flags: u8, count: usize, topic: &[u8], payload: &[u8
 pub fn told_request(
     tables: &OwnedTables,
     rank: u32,
-    client: bool,
     request: &OwnedMessage,
     service: &[u8],
 ) -> Told {
@@ -84,7 +111,7 @@ pub fn told_request(
             None => forward(PARENTS[rank as usize]),
         },
         _ if upstream => match own {
-            Some(record) if !client => deliver(record),
+            Some(record) if nodeid != rank => deliver(record),
             _ if rank == 0 => told_error(request, 38),
             _ => forward(PARENTS[rank as usize]),
         },

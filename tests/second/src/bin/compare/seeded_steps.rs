@@ -3,12 +3,13 @@
 
 use second::frame::number_at;
 use second::path::{path_of, End};
-use second::sample::{floor, request, route, topic, OwnedMessage, OwnedTables, Rng};
+use second::sample::{floor, request, route, topic, OwnedMessage, OwnedTables, Request, Rng};
 use second::side::LIBRARY;
 
 use crate::draft::frame_of;
 use crate::messages::right;
 use crate::seeded::{damage, Run};
+use crate::seeded_walks::skips_a_broker;
 use crate::step_calls::{popped, pushed, told_error, StepAnswer, StepCase, Told};
 use crate::tester::{Expect, Tester};
 
@@ -22,6 +23,8 @@ const NEVER_ON_THE_WIRE: u32 = u32::MAX - 1;
 struct Count {
     steps: u64,
     answers: [u64; 6],
+    /// Those whose broker has the service, and is skipped.
+    skipped: u64,
 }
 
 pub fn steps(tester: &mut Tester, run: &Run) {
@@ -34,17 +37,15 @@ pub fn steps(tester: &mut Tester, run: &Run) {
             let ranks = size(&mut rng);
             let tables = floor(&mut rng, ranks);
             for _ in 0..STEPS {
-                let answer = one_step(tester, &mut rng, &tables);
-                count.steps += 1;
-                count.answers[(answer.numbers[0] as usize).min(5)] += 1;
+                one_step(tester, &mut rng, &tables, &mut count);
             }
         });
     }
     let [refused, delivered, forwarded, replied, silenced, home] = count.answers;
     tester.end_group(&format!(
         "seed {}; {} steps: {delivered} delivered, {forwarded} forwarded, {replied} error replies, \
-         {silenced} silenced, {home} home, {refused} refused",
-        run.seed, count.steps
+         {silenced} silenced, {home} home, {refused} refused; {} at a skipped broker",
+        run.seed, count.steps, count.skipped
     ));
 }
 
@@ -58,13 +59,16 @@ pub fn size(rng: &mut Rng) -> usize {
     }
 }
 
-fn one_step(tester: &mut Tester, rng: &mut Rng, tables: &OwnedTables) -> StepAnswer {
+fn one_step(tester: &mut Tester, rng: &mut Rng, tables: &OwnedTables, count: &mut Count) {
     let mut rank = rng.below(tables.ranks()) as u32;
-    let from_client = rng.pick(&[0, 0, 1, 1, 2, 256, ANY]);
     let message = match rng.below(16) {
         0 => right(rng),
         1..=5 => response(rng, tables, rank),
-        _ => grown_request(rng, tables),
+        _ => {
+            let request = grown_request(rng, tables);
+            rank = request.entry;
+            request.message
+        }
     };
     let nodeid = message.header.first;
     if (nodeid as usize) < tables.ranks() && rng.once_in(2) {
@@ -73,20 +77,23 @@ fn one_step(tester: &mut Tester, rng: &mut Rng, tables: &OwnedTables) -> StepAns
     let frame = frame_of(&message.lent());
     let mut buffer = frame.clone();
     buffer.resize(frame.len() + behind(rng, frame.len()), rng.byte());
-    let told = told(tables, rank, from_client != 0, &message, buffer.len());
+    let told = told(tables, rank, &message, buffer.len());
     let right = StepCase {
         tables: tables.lent(),
         rank,
-        from_client,
         buffer: &buffer,
         record_len: rng.between(16, 24),
     };
-    if rng.once_in(6) {
-        return damaged_step(tester, rng, tables, &right);
-    }
-    let answer = tester.step_told(&right, &told);
-    read_again(tester, &answer);
-    answer
+    let answer = if rng.once_in(6) {
+        damaged_step(tester, rng, tables, &right)
+    } else {
+        let answer = tester.step_told(&right, &told);
+        read_again(tester, &answer);
+        count.skipped += (nodeid == rank && skips_a_broker(tables, rank, &message)) as u64;
+        answer
+    };
+    count.steps += 1;
+    count.answers[(answer.numbers[0] as usize).min(5)] += 1;
 }
 
 /// What the library leaves, it reads.
@@ -111,8 +118,8 @@ fn behind(rng: &mut Rng, frame_len: usize) -> usize {
 }
 
 /// A request of any size: up to 64 routes, a body of up to 32,768 bytes, any top route.
-pub fn grown_request(rng: &mut Rng, tables: &OwnedTables) -> OwnedMessage {
-    let mut message = request(rng, tables).message;
+pub fn grown_request(rng: &mut Rng, tables: &OwnedTables) -> Request {
+    let Request { entry, mut message } = request(rng, tables);
     if rng.once_in(64) {
         message.header.first = NEVER_ON_THE_WIRE;
     }
@@ -136,7 +143,7 @@ pub fn grown_request(rng: &mut Rng, tables: &OwnedTables) -> OwnedMessage {
         message.payload = rng.bytes(body - rest - size);
         message.header.flags |= 0x02;
     }
-    message
+    Request { entry, message }
 }
 
 fn any_route(rng: &mut Rng, tables: &OwnedTables) -> Vec<u8> {
@@ -175,35 +182,19 @@ pub fn parent(tables: &OwnedTables, rank: u32) -> u32 {
 }
 
 /// What the paper says of a right message at a rank of right tables.
-fn told(
-    tables: &OwnedTables,
-    rank: u32,
-    client: bool,
-    message: &OwnedMessage,
-    room: usize,
-) -> Told {
+fn told(tables: &OwnedTables, rank: u32, message: &OwnedMessage, room: usize) -> Told {
     match message.header.kind {
         1 if message.header.first == NEVER_ON_THE_WIRE => Told::Refused(10),
-        1 => told_request(tables, rank, client, message, room),
+        1 => told_request(tables, rank, message, room),
         2 => told_response(tables, rank, message),
         _ => Told::Refused(18),
     }
 }
 
-/// The next broker is the second on the path from here. Who did not take the request from a client
-/// tries his own services whatever the nodeid, and so the path is then that of any rank.
-fn told_request(
-    tables: &OwnedTables,
-    rank: u32,
-    client: bool,
-    request: &OwnedMessage,
-    room: usize,
-) -> Told {
+/// The next broker is the second on the path from here.
+fn told_request(tables: &OwnedTables, rank: u32, request: &OwnedMessage, room: usize) -> Told {
     let upstream = request.header.flags & 0x10 != 0;
-    let nodeid = match upstream && !client {
-        true => ANY,
-        false => request.header.first,
-    };
+    let nodeid = request.header.first;
     let path = path_of(&tables.lent(), rank, nodeid, upstream, &request.topic);
     let Some(&next) = path.brokers.get(1) else {
         return match path.end {

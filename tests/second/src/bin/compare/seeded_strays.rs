@@ -3,7 +3,7 @@
 
 use second::floor::Tables;
 use second::frame::number_at;
-use second::sample::{floor, route, OwnedMessage, OwnedTables, Rng};
+use second::sample::{floor, route, OwnedMessage, OwnedTables, Request, Rng};
 use second::side::LIBRARY;
 
 use crate::draft::frame_of;
@@ -36,13 +36,7 @@ pub fn strays(tester: &mut Tester, run: &Run) {
 fn stray(tester: &mut Tester, rng: &mut Rng) -> (u32, u32) {
     let ranks = size(rng);
     let mut tables = floor(rng, ranks);
-    let mut rank = rng.below(ranks) as u32;
-    let message = match rng.below(8) {
-        0 => right(rng),
-        1 => response(rng, &tables, rank),
-        2..=4 => tour(rng, &tables, rank),
-        _ => grown_request(rng, &tables),
-    };
+    let (mut rank, message) = start(rng, &tables);
     let mut buffer = frame_of(&message.lent());
     let mut record_len = rng.between(24, 30);
     let mut room = ROOM + rng.pick(&[0, 0, 1, 100]);
@@ -79,6 +73,21 @@ fn stray(tester: &mut Tester, rng: &mut Rng) -> (u32, u32) {
     (refusal, numbers[5])
 }
 
+/// A rank of the tree, and a message there.
+fn start(rng: &mut Rng, tables: &OwnedTables) -> (u32, OwnedMessage) {
+    let rank = rng.below(tables.ranks()) as u32;
+    let message = match rng.below(8) {
+        0 => right(rng),
+        1 => response(rng, tables, rank),
+        2..=4 => tour(rng, tables, rank),
+        _ => {
+            let Request { entry, message } = grown_request(rng, tables);
+            return (entry, message);
+        }
+    };
+    (rank, message)
+}
+
 /// What the paper makes of the library's steps: a walk's refusal, its record and its buffer.
 fn by_steps(tables: Tables, entry: u32, mut buffer: Vec<u8>) -> (u32, [u32; 6], Vec<u8>) {
     let mut numbers = [0, 0, 0, 0, entry, 0];
@@ -89,8 +98,7 @@ fn by_steps(tables: Tables, entry: u32, mut buffer: Vec<u8>) -> (u32, [u32; 6], 
     while numbers[5] <= 65 {
         let (rank, links) = (numbers[4], numbers[5]);
         let mut record = [0; 16];
-        let client = (links == 0) as u32;
-        let refusal = LIBRARY.step(tables, rank, client, &mut buffer, &mut record);
+        let refusal = LIBRARY.step(tables, rank, &mut buffer, &mut record);
         if refusal != 0 {
             return (refusal, [0, 0, 0, 0, rank, links], buffer);
         }

@@ -2,6 +2,7 @@
 //! the walk call, against the path that is worked out apart from both.
 
 use second::demand3::{frame_of, request_rest, response_rest, Rest};
+use second::path::path_of;
 use second::sample::{floor, request, response, OwnedMessage, OwnedTables, Request, Rng};
 
 use crate::pages::Edge;
@@ -18,6 +19,8 @@ struct Count {
     ends: [u64; 5],
     /// By links.
     links: [u64; 33],
+    /// Those on which a broker with the service is skipped.
+    skipped: u64,
 }
 
 pub fn walks(tester: &mut Tester, run: &Run) {
@@ -27,6 +30,7 @@ pub fn walks(tester: &mut Tester, run: &Run) {
     let mut count = Count {
         ends: [0; 5],
         links: [0; 33],
+        skipped: 0,
     };
     for number in run.from..run.from + run.cases {
         let mut rng = Rng::for_case(run.seed, "walks", number);
@@ -37,14 +41,15 @@ pub fn walks(tester: &mut Tester, run: &Run) {
             let there = there_and_home(tester, &mut rng, &mut ground, &tables, &request);
             count.ends[there.numbers[0] as usize] += 1;
             count.links[there.numbers[5] as usize] += 1;
+            count.skipped += skips_a_broker(&tables, request.entry, &request.message) as u64;
         });
     }
     let [_, delivered, _, replied, silenced] = count.ends;
     let far = count.links[17..].iter().sum::<u64>();
     tester.end_group(&format!(
         "seed {}; {delivered} delivered, {replied} error replies, {silenced} silenced; {} on 0 \
-         links, {far} on more than 16, {} on 32",
-        run.seed, count.links[0], count.links[32]
+         links, {far} on more than 16, {} on 32; {} past a skipped broker",
+        run.seed, count.links[0], count.links[32], count.skipped
     ));
 }
 
@@ -57,6 +62,13 @@ fn size(rng: &mut Rng) -> usize {
         130..=299 => rng.between(10, 32),
         _ => rng.between(1, 9),
     }
+}
+
+/// Whether a request goes upstream past a broker that has the service and is named.
+pub fn skips_a_broker(tables: &OwnedTables, entry: u32, request: &OwnedMessage) -> bool {
+    let to = |nodeid: u32| path_of(&tables.lent(), entry, nodeid, true, &request.topic);
+    let upstream = request.header.kind == 1 && request.header.flags & 0x10 != 0;
+    upstream && to(request.header.first) != to(u32::MAX)
 }
 
 /// A request's walk, and home its error reply or a response, or both.

@@ -25,13 +25,14 @@ fn of_body(nodeid: u32, flags: u8, count: usize, topic: &[u8], body: usize) -> O
     paper_floor::request(nodeid, flags | 0x02, count, topic, &vec![0x6B; payload])
 }
 
-/// Ways to be forwarded: entry, nodeid, flags, next rank.
-const WAYS: [(u32, u32, u8, u32); 5] = [
-    (5, ANY, 0x00, 2),
-    (4, 5, 0x10, 1),
-    (3, 4, 0x00, 1),
-    (2, 6, 0x00, 6),
-    (0, 3, 0x44, 1),
+/// Ways to be forwarded: rank, nodeid, flags, topic, next rank. The second broker is skipped.
+const WAYS: [(u32, u32, u8, &[u8], u32); 6] = [
+    (5, ANY, 0x00, b"kvs.get", 2),
+    (4, 4, 0x10, b"bench.x", 1),
+    (4, 5, 0x10, b"kvs.get", 1),
+    (3, 4, 0x00, b"kvs.get", 1),
+    (2, 6, 0x00, b"kvs.get", 6),
+    (0, 3, 0x44, b"kvs.get", 1),
 ];
 
 fn check(
@@ -45,7 +46,6 @@ fn check(
     let case = StepCase {
         tables: tables.lent(),
         rank,
-        from_client: 1,
         buffer,
         record_len: 16,
     };
@@ -57,10 +57,10 @@ fn check(
 fn growth(tester: &mut Tester) {
     let tables = paper_floor::tables();
     let limit = 32_768 - 38;
-    for (rank, nodeid, flags, next) in WAYS {
+    for (rank, nodeid, flags, topic, next) in WAYS {
         for count in [0, 1, 62, 63, 64] {
             for body in [4_000, limit - 1, limit, limit + 1, 32_767, 32_768] {
-                let request = of_body(nodeid, flags, count, b"kvs.get", body);
+                let request = of_body(nodeid, flags, count, topic, body);
                 let frame = frame_of(&request.lent());
                 let grown = frame.len() + 38;
                 for room in [frame.len(), grown - 1, grown, grown + 1, grown + 500] {
@@ -79,22 +79,27 @@ fn growth(tester: &mut Tester) {
     }
 }
 
+/// Ways to come to an end: rank, nodeid, flags, topic and its service.
+const ENDS: [(u32, u32, u8, &[u8], &[u8]); 9] = [
+    (1, ANY, 0x00, b"bench.run", b"bench"),
+    (4, 4, 0x00, b"bench.run", b"bench"),
+    (4, 1, 0x10, b"bench.run", b"bench"),
+    (0, 0, 0x10, b"log.put", b"log"),
+    (0, 0, 0x14, b"log.put", b"log"),
+    (0, ANY, 0x00, b"kvs", b"kvs"),
+    (0, ANY, 0x04, b"kvs", b"kvs"),
+    (6, 7, 0x40, b"kvs", b"kvs"),
+    (6, 7, 0x44, b"kvs", b"kvs"),
+];
+
 /// Delivery, errors, silence and home need no room, whatever the frame's size.
 fn no_growth(tester: &mut Tester) {
     let tables = paper_floor::tables();
-    let ends: [(u32, u32, u8, &[u8], &[u8]); 6] = [
-        (1, ANY, 0x00, b"bench.run", b"bench"),
-        (4, 4, 0x00, b"bench.run", b"bench"),
-        (0, ANY, 0x00, b"kvs", b"kvs"),
-        (0, ANY, 0x04, b"kvs", b"kvs"),
-        (6, 7, 0x40, b"kvs", b"kvs"),
-        (6, 7, 0x44, b"kvs", b"kvs"),
-    ];
-    for (rank, nodeid, flags, topic, service) in ends {
+    for (rank, nodeid, flags, topic, service) in ENDS {
         for count in [0, 1, 63, 64] {
             for body in [4_000, 32_730, 32_731, 32_768] {
                 let request = of_body(nodeid, flags, count, topic, body);
-                let told = told_request(&tables, rank, true, &request, service);
+                let told = told_request(&tables, rank, &request, service);
                 let frame = frame_of(&request.lent());
                 for longer in [0, 1, 37, 38, 39, 500] {
                     let mut buffer = frame.clone();
@@ -153,7 +158,7 @@ fn frames() -> Vec<(u32, Vec<u8>, Told)> {
         let request = paper_floor::request(nodeid, flags, 2, topic, payload);
         let told = match rank {
             7 => Told::Refused(17),
-            _ => told_request(&tables, rank, true, &request, service),
+            _ => told_request(&tables, rank, &request, service),
         };
         all.push((rank, frame_of(&request.lent()), told));
     }
@@ -193,7 +198,6 @@ fn records(tester: &mut Tester) {
             let case = StepCase {
                 tables: tables.lent(),
                 rank: *rank,
-                from_client: 0,
                 buffer: &buffer,
                 record_len,
             };

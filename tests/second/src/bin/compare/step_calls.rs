@@ -14,7 +14,6 @@ use crate::tester::{front, hex, named, Call, Expect, Tester};
 pub struct StepCase<'a> {
     pub tables: Tables<'a>,
     pub rank: u32,
-    pub from_client: u32,
     pub buffer: &'a [u8],
     pub record_len: usize,
 }
@@ -70,7 +69,7 @@ impl Tester {
     }
 
     pub fn step(&mut self, case: &StepCase, expect: Expect) -> StepAnswer {
-        let (number, client) = (case.rank, case.from_client);
+        let rank = case.rank;
         self.arena.start();
         let tree = self.arena.lend(case.tables.tree, &[0; 4]);
         let services = self.arena.lend(case.tables.services, &[]);
@@ -86,12 +85,12 @@ impl Tester {
                 services,
                 identities,
             };
-            side.step(tables, number, client, buffer, record)
+            side.step(tables, rank, buffer, record)
         });
         let written = [0, 1].map(|side| self.step_may_write(side, &buffer, &record));
         self.judge(refusals, expect, [&written[0], &written[1]], || Call {
             name: "lampreycoil_step",
-            numbers: format!("rank {number}, from_client {client}"),
+            numbers: format!("rank {rank}"),
             inputs: named(
                 ["tree", "services", "identities"],
                 [&tree, &services, &identities],

@@ -119,15 +119,14 @@ fn check(tester: &mut Tester, label: (&'static str, u64, u64), attempt: &Attempt
     let case = StepCase {
         tables: attempt.tables.lent(),
         rank: attempt.rank,
-        from_client: 1,
         buffer: &buffer,
         record_len: attempt.record_len,
     };
     tester.step_case(label, &case, &Told::Refused(number));
 }
 
-/// Requests that are forwarded, delivered, and answered with an error, and responses on their way
-/// and home.
+/// Requests that are forwarded, at a skipped broker too, delivered, and answered with an error, and
+/// responses on their way and home.
 fn bases() -> Vec<Attempt> {
     let tables = paper_floor::tables();
     let base = |rank: u32, forwards: bool, draft: Draft| Attempt {
@@ -140,6 +139,8 @@ fn bases() -> Vec<Attempt> {
     };
     let mut on_its_way = Draft::routed(2, 2, b"bench.run", Some(b"payload"));
     on_its_way.routes[0] = tables.identity(1).to_vec();
+    let mut upstream = to(Draft::request(1, b"bench.run", None), 4);
+    upstream.header[3] |= 0x10;
     vec![
         base(
             3,
@@ -148,6 +149,7 @@ fn bases() -> Vec<Attempt> {
         ),
         base(5, true, to(Draft::request(0, b"bench.run", None), u32::MAX)),
         base(4, true, to(Draft::request(1, b"kvs.get", None), 0)),
+        base(4, true, upstream),
         base(4, false, to(Draft::request(1, b"bench.run", None), 4)),
         base(2, false, to(Draft::request(1, b"kvs.get", Some(b"p")), 9)),
         base(3, false, on_its_way),

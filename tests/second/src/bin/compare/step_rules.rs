@@ -5,7 +5,7 @@ use second::frame::Header;
 use second::sample::{service, tree_of, OwnedMessage, OwnedTables};
 
 use crate::draft::{frame_of, route, routes};
-use crate::paper_floor::{self, told_request, told_response, ANY};
+use crate::paper_floor::{self, told_request, told_response, ANY, TOPICS};
 use crate::step_calls::{popped, pushed, told_error, StepCase, Told};
 use crate::tester::Tester;
 
@@ -20,15 +20,16 @@ pub fn run(tester: &mut Tester) {
     record_numbers(tester);
     larger_parents(tester);
     full_star(tester);
+    full_star_upstream(tester);
     tester.end_group("");
 }
 
 /// A step with some rubbish behind the frame.
-fn step(
+pub fn step(
     tester: &mut Tester,
     label: (&'static str, u64, u64),
     tables: &OwnedTables,
-    at: (u32, u32),
+    rank: u32,
     message: &OwnedMessage,
     told: &Told,
 ) {
@@ -36,15 +37,14 @@ fn step(
     buffer.resize(buffer.len() + 60, 0xC7);
     let case = StepCase {
         tables: tables.lent(),
-        rank: at.0,
-        from_client: at.1,
+        rank,
         buffer: &buffer,
         record_len: 16,
     };
     tester.step_case(label, &case, told);
 }
 
-/// Each rank, nodeid, flag, origin and topic with each other.
+/// Each rank, nodeid, flag and topic with each other.
 fn requests(tester: &mut Tester) {
     let tables = paper_floor::tables();
     let far = [
@@ -57,21 +57,18 @@ fn requests(tester: &mut Tester) {
         ANY,
     ];
     let nodeids: Vec<u32> = (0..=8).chain(far).collect();
-    let topics: [(&[u8], &[u8]); 3] = [(b"bench.run", b"bench"), (b"log", b"log"), (b"kvs", b"")];
     for rank in 0..7 {
         for &nodeid in &nodeids {
             for extra in [0x00, 0x10] {
                 for quiet in [0x00, 0x04, 0x40, 0x44, 0x24] {
-                    for client in [0, 1, 2, 256, 1 << 31, u32::MAX] {
-                        for (number, (topic, service)) in topics.into_iter().enumerate() {
-                            let count = (rank as usize + number) % 3;
-                            let flags = extra | quiet | 0x02;
-                            let request =
-                                paper_floor::request(nodeid, flags, count, topic, b"some payload");
-                            let told = told_request(&tables, rank, client != 0, &request, service);
-                            let label = ("request", rank as u64, nodeid as u64);
-                            step(tester, label, &tables, (rank, client), &request, &told);
-                        }
+                    for (number, (topic, service)) in TOPICS.into_iter().enumerate() {
+                        let count = (rank as usize + number) % 3;
+                        let flags = extra | quiet | 0x02;
+                        let request =
+                            paper_floor::request(nodeid, flags, count, topic, b"some payload");
+                        let told = told_request(&tables, rank, &request, service);
+                        let label = ("request", rank as u64, nodeid as u64);
+                        step(tester, label, &tables, rank, &request, &told);
                     }
                 }
             }
@@ -86,14 +83,7 @@ fn ranks(tester: &mut Tester) {
         for nodeid in [0, 6, 7, ANY] {
             let request = paper_floor::request(nodeid, 0, 0, b"log", b"");
             let label = ("rank", rank as u64, nodeid as u64);
-            step(
-                tester,
-                label,
-                &tables,
-                (rank, 1),
-                &request,
-                &Told::Refused(17),
-            );
+            step(tester, label, &tables, rank, &request, &Told::Refused(17));
         }
     }
 }
@@ -145,9 +135,7 @@ fn responses(tester: &mut Tester) {
                     let response = response(&[&top_route[..], below].concat(), flags, payload);
                     let told = told_response(rank, *top, &response);
                     let label = ("response", rank as u64, number as u64);
-                    for client in [0, 1] {
-                        step(tester, label, &tables, (rank, client), &response, &told);
-                    }
+                    step(tester, label, &tables, rank, &response, &told);
                 }
             }
         }
@@ -168,7 +156,7 @@ fn one_rank(tester: &mut Tester) {
     ] {
         let response = response(&routes, 0, b"");
         let label = ("response to one rank", number, 0);
-        step(tester, label, &tables, (0, 0), &response, &told);
+        step(tester, label, &tables, 0, &response, &told);
     }
     for nodeid in [0, 1, ANY] {
         for topic in [&b"log.x"[..], b"kvs"] {
@@ -179,7 +167,7 @@ fn one_rank(tester: &mut Tester) {
                 _ => Told::Kept([1, 0, 0]),
             };
             let label = ("request to one rank", nodeid as u64, 0);
-            step(tester, label, &tables, (0, 1), &request, &told);
+            step(tester, label, &tables, 0, &request, &told);
         }
     }
 }
@@ -235,7 +223,7 @@ fn services(tester: &mut Tester) {
                 None => Told::Made([2, 1, 0], pushed(&tables, 3, &request)),
             };
             let label = ("service", number as u64, nodeid as u64);
-            step(tester, label, &tables, (3, 0), &request, &told);
+            step(tester, label, &tables, 3, &request, &told);
         }
     }
 }
@@ -254,7 +242,7 @@ fn single_bytes(tester: &mut Tester) {
                 None => told_error(&request, 38),
             };
             let label = ("name of one byte", byte as u64, topic.len() as u64);
-            step(tester, label, &tables, (2, 1), &request, &told);
+            step(tester, label, &tables, 2, &request, &told);
         }
     }
 }
@@ -274,7 +262,7 @@ fn record_numbers(tester: &mut Tester) {
                 false => told_error(&request, 38),
             };
             let label = ("record", number as u64, rank as u64);
-            step(tester, label, &tables, (rank, 1), &request, &told);
+            step(tester, label, &tables, rank, &request, &told);
         }
     }
     tables.services = (0..7)
@@ -285,7 +273,7 @@ fn record_numbers(tester: &mut Tester) {
         let request = paper_floor::request(ANY, 0, 0, b"log", b"");
         let told = Told::Kept([1, 6 - rank, 0]);
         let label = ("one name at all ranks", rank as u64, 0);
-        step(tester, label, &tables, (rank, 1), &request, &told);
+        step(tester, label, &tables, rank, &request, &told);
     }
 }
 
@@ -317,29 +305,36 @@ fn larger_parents(tester: &mut Tester) {
             let request = paper_floor::request(target, 0, 0, b"log", b"");
             let told = Told::Made([2, next, 0], pushed(&tables, rank, &request));
             let label = ("chain of larger parents", rank as u64, target as u64);
-            step(tester, label, &tables, (rank, 1), &request, &told);
+            step(tester, label, &tables, rank, &request, &told);
             let response = response(tables.identity(target), 0, b"");
             let told = match place(target).abs_diff(place(rank)) {
                 1 => Told::Made([2, target, 0], popped(&response)),
                 _ => Told::Refused(19),
             };
-            step(tester, label, &tables, (rank, 1), &response, &told);
+            step(tester, label, &tables, rank, &response, &told);
         }
     }
 }
 
-/// 1,024 ranks, and those at the tree's edge.
-fn full_star(tester: &mut Tester) {
+/// 1,024 ranks, all of which have the service.
+fn star() -> OwnedTables {
     let mut parents = vec![0; 1024];
     parents[0] = ANY;
-    let tables = OwnedTables {
+    OwnedTables {
         tree: tree_of(&parents),
         services: (0..1024).flat_map(|rank| service(rank, b"kvs")).collect(),
         identities: routes(1024),
-    };
-    let some = [0, 1, 255, 256, 511, 512, 1022, 1023];
-    for rank in some {
-        for target in some.into_iter().chain([1024, 1025]) {
+    }
+}
+
+/// Ranks of the star, those at the tree's edge among them, and two outside of it.
+const OF_STAR: [u32; 8] = [0, 1, 255, 256, 511, 512, 1022, 1023];
+const OUTSIDE: [u32; 2] = [1024, 1025];
+
+fn full_star(tester: &mut Tester) {
+    let tables = star();
+    for rank in OF_STAR {
+        for target in OF_STAR.into_iter().chain(OUTSIDE) {
             let request = paper_floor::request(target, 0, 0, b"kvs.get", b"");
             let told = match target {
                 1024.. => told_error(&request, 113),
@@ -350,21 +345,31 @@ fn full_star(tester: &mut Tester) {
                 }
             };
             let label = ("full star", rank as u64, target as u64);
-            step(tester, label, &tables, (rank, 1), &request, &told);
+            step(tester, label, &tables, rank, &request, &told);
         }
         let request = paper_floor::request(ANY, 0, 0, b"kvs.get", b"");
         let label = ("full star", rank as u64, ANY as u64);
         let told = Told::Kept([1, rank, 0]);
-        step(tester, label, &tables, (rank, 1), &request, &told);
+        step(tester, label, &tables, rank, &request, &told);
     }
     let request = paper_floor::request(ANY, 0, 0, b"kvs.get", b"");
     let label = ("full star", 1024, ANY as u64);
-    step(
-        tester,
-        label,
-        &tables,
-        (1024, 1),
-        &request,
-        &Told::Refused(17),
-    );
+    step(tester, label, &tables, 1024, &request, &Told::Refused(17));
+}
+
+/// The broker that is named does not deliver, and each other does.
+fn full_star_upstream(tester: &mut Tester) {
+    let tables = star();
+    for rank in OF_STAR {
+        for nodeid in OF_STAR.into_iter().chain(OUTSIDE) {
+            let request = paper_floor::request(nodeid, 0x10, 0, b"kvs.get", b"");
+            let told = match rank {
+                _ if nodeid != rank => Told::Kept([1, rank, 0]),
+                0 => told_error(&request, 38),
+                _ => Told::Made([2, 0, 0], pushed(&tables, rank, &request)),
+            };
+            let label = ("full star, upstream", rank as u64, nodeid as u64);
+            step(tester, label, &tables, rank, &request, &told);
+        }
+    }
 }

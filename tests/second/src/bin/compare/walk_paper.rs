@@ -1,4 +1,4 @@
-//! The paper's walks W1 to W11, there and home, written out by hand.
+//! Walks that are written out by hand, there and home; the paper's own are W1 to W11.
 
 use second::demand3::Rest;
 use second::frame::Header;
@@ -6,14 +6,14 @@ use second::sample::{OwnedMessage, OwnedTables};
 
 use crate::draft::{frame_of, route};
 use crate::pages::Edge;
-use crate::paper_floor::{request, tables, ANY};
+use crate::paper_floor::{self, request, ANY};
 use crate::step_calls::error_reply;
 use crate::tester::Tester;
 use crate::walk_calls::{WalkCase, WalkTold};
 use crate::walk_runs::{Ground, Start};
 
 /// Entry, nodeid, flags and topic; the brokers on the path; answer, its number and error number.
-type Row = (u32, u32, u8, &'static [u8], &'static [u32], [u32; 3]);
+pub type Row = (u32, u32, u8, &'static [u8], &'static [u32], [u32; 3]);
 
 const ROWS: [Row; 11] = [
     (3, ANY, 0x00, b"bench.run", &[3, 1], [1, 0, 0]),
@@ -31,22 +31,33 @@ const ROWS: [Row; 11] = [
 
 pub fn run(tester: &mut Tester) {
     tester.begin_group("walk-paper");
-    let tables = tables();
+    let tables = paper_floor::tables();
     let mut ground = Ground::new();
-    for (number, row) in ROWS.iter().enumerate() {
-        for routes in [0, 1, 32] {
-            for longer in [0, 1, 500] {
-                let number = number as u64 + 1;
-                let there = Walk::of(row, &tables, routes);
-                walk(tester, &mut ground, ("W", number, longer), &tables, &there);
-                for home in there.home() {
-                    let label = ("home from W", number, longer);
-                    walk(tester, &mut ground, label, &tables, &home);
-                }
+    for (row, number) in ROWS.iter().zip(1..) {
+        let names = ["W", "home from W"];
+        there_and_home(tester, &mut ground, (names, number), &tables, row);
+    }
+    tester.end_group("");
+}
+
+/// A row's walk with no, one and 32 routes on entry, and its responses' walks.
+pub fn there_and_home(
+    tester: &mut Tester,
+    ground: &mut Ground,
+    (names, number): ([&'static str; 2], u64),
+    tables: &OwnedTables,
+    row: &Row,
+) {
+    for routes in [0, 1, 32] {
+        for longer in [0, 1, 500] {
+            let there = Walk::of(row, tables, routes);
+            walk(tester, ground, (names[0], number, longer), tables, &there);
+            for home in there.home() {
+                let label = (names[1], number, longer);
+                walk(tester, ground, label, tables, &home);
             }
         }
     }
-    tester.end_group("");
 }
 
 /// A message, and how its walk ends.

@@ -101,13 +101,12 @@ impl Ground {
         };
         while run.refusal == 0 && run.numbers[0] == 2 && run.brokers.len() < MOST_STEPS {
             let rank = run.numbers[1];
-            let first = run.brokers.is_empty();
             let record = self.record.lend(16 + run.brokers.len() % 3, start.edge);
             record.fill(TAIL);
-            run.refusal = LIBRARY.step(tables, rank, first as u32, buffer, record);
+            run.refusal = LIBRARY.step(tables, rank, buffer, record);
             run.numbers = numbers(record);
             run.brokers.push(rank);
-            let other = second_step(&floor, rank, first, &mut self.second_buffer, record.len());
+            let other = second_step(&floor, rank, &mut self.second_buffer, record.len());
             tester.count(run.refusal);
             tester.require(*record == other && *buffer == self.second_buffer, || {
                 format!(
@@ -164,15 +163,9 @@ impl Ground {
 }
 
 /// The record that the second program would leave.
-fn second_step(
-    floor: &Floor,
-    rank: u32,
-    first: bool,
-    buffer: &mut [u8],
-    record_len: usize,
-) -> Vec<u8> {
+fn second_step(floor: &Floor, rank: u32, buffer: &mut [u8], record_len: usize) -> Vec<u8> {
     let mut record = vec![TAIL; record_len];
-    if let Ok(stepped) = step(floor, rank, first, buffer) {
+    if let Ok(stepped) = step(floor, rank, buffer) {
         let numbers = step_numbers(&stepped).map(u32::to_be_bytes).concat();
         record[..16].copy_from_slice(&numbers);
     }
