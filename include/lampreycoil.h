@@ -159,8 +159,8 @@ enum lampreycoil_flag {
     LAMPREYCOIL_FLAG_TOPIC = 0x01,
     LAMPREYCOIL_FLAG_PAYLOAD = 0x02,
     LAMPREYCOIL_FLAG_NORESPONSE = 0x04,
-    LAMPREYCOIL_FLAG_ROUTE = 0x08, /* requests and responses have it, even with no route */
-    LAMPREYCOIL_FLAG_UPSTREAM = 0x10,
+    LAMPREYCOIL_FLAG_ROUTE = 0x08,    /* requests and responses have it, even with no route */
+    LAMPREYCOIL_FLAG_UPSTREAM = 0x10, /* the nodeid is a rank to be passed by: lampreycoil_step */
     LAMPREYCOIL_FLAG_PRIVATE = 0x20,
     LAMPREYCOIL_FLAG_STREAMING = 0x40,
 
