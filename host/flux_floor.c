@@ -31,7 +31,7 @@ const char usage[] =
     "one in its place, as for flux_frame write (see flux_frame --help): --topic TEXT,\n"
     "--nodeid N, --matchtag N, --upstream, --noresponse, --route UUID and so on. The\n"
     "type is request for walk and response for home, where --type gives no other. With\n"
-    "--upstream the nodeid names the rank that is passed by, and no target.\n"
+    "--upstream the nodeid names the rank that is skipped, and no target.\n"
     "  -o FILE              write the frame that is at rest to FILE\n"
     "\n"
     "A walk is played by the step call, and then compared with the walk call.\n"

@@ -160,7 +160,7 @@ enum lampreycoil_flag {
     LAMPREYCOIL_FLAG_PAYLOAD = 0x02,
     LAMPREYCOIL_FLAG_NORESPONSE = 0x04,
     LAMPREYCOIL_FLAG_ROUTE = 0x08,    /* requests and responses have it, even with no route */
-    LAMPREYCOIL_FLAG_UPSTREAM = 0x10, /* the nodeid is a rank to be passed by: lampreycoil_step */
+    LAMPREYCOIL_FLAG_UPSTREAM = 0x10, /* the nodeid is a rank to be skipped: see lampreycoil_step */
     LAMPREYCOIL_FLAG_PRIVATE = 0x20,
     LAMPREYCOIL_FLAG_STREAMING = 0x40,
 
@@ -443,8 +443,8 @@ uint32_t lampreycoil_check_identities(const uint8_t *tree, size_t tree_length,
  * daemon whose client it is pushes it before the first step, and pops it when the response is home.
  *
  * Upstream (LAMPREYCOIL_UPSTREAM set, and a nodeid other than LAMPREYCOIL_NODEID_ANY) the nodeid is
- * the rank to be passed by, such as the sender's own: that broker does not try its services, and
- * every other one on the way up does. A nodeid that is not in the tree passes nobody by, and is no
+ * the rank to be skipped, such as the sender's own: that broker does not try its services, and
+ * every other one on the way up does. A nodeid that is not in the tree skips nobody, and is no
  * error.
  *
  * buffer is the frame and all the room behind it, and buffer_length the length of both:

@@ -178,13 +178,13 @@ static void test_answers(void)
 
 static void test_upstream(void)
 {
-    answers("upstream, the named rank is passed by", 4, &past_4, LAMPREYCOIL_FORWARD, 1, 0,
+    answers("upstream, the named rank is skipped", 4, &past_4, LAMPREYCOIL_FORWARD, 1, 0,
             &past_4_up);
     answers("upstream, another rank tries its services", 1, &past_4, LAMPREYCOIL_DELIVERED, 0, 0,
             NULL);
     answers("upstream, the entry too, where another is named", 4, &past_5, LAMPREYCOIL_DELIVERED, 1,
             0, NULL);
-    answers("upstream, rank 7 passes nobody by", 4, &past_7, LAMPREYCOIL_DELIVERED, 1, 0, NULL);
+    answers("upstream, rank 7 skips nobody", 4, &past_7, LAMPREYCOIL_DELIVERED, 1, 0, NULL);
     answers("upstream, rank 0 that is named is 38", 0, &past_0, LAMPREYCOIL_REPLIED, 0,
             LAMPREYCOIL_NO_SERVICE, &past_0_38);
     answers("upstream for any rank is as without", 4, &past_any, LAMPREYCOIL_DELIVERED, 1, 0, NULL);

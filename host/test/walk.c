@@ -53,18 +53,10 @@ static const struct row {
     {"W9", 0, LAMPREYCOIL_UPSTREAM, "log.put", LAMPREYCOIL_REPLIED, 0, 38, 0, {0}},
     {"W10", ANY, 0, "benchmark.run", LAMPREYCOIL_REPLIED, 0, 38, 2, {3, 1, 0}},
     {"W11", ANY, LAMPREYCOIL_NORESPONSE, "bench.run", LAMPREYCOIL_SILENCED, 0, 38, 2, {5, 2, 0}},
-    /* Upstream, the rank that the nodeid names is passed by, wherever it stands, and no other. */
-    {"past 5 from 4", 5, LAMPREYCOIL_UPSTREAM, "bench.run", LAMPREYCOIL_DELIVERED, 1, 0, 0, {4}},
-    {"past 1 from 3",
-     1,
-     LAMPREYCOIL_UPSTREAM,
-     "bench.run",
-     LAMPREYCOIL_REPLIED,
-     0,
-     38,
-     2,
-     {3, 1, 0}},
-    {"past 7 from 0", NOWHERE, LAMPREYCOIL_UPSTREAM, "log", LAMPREYCOIL_DELIVERED, 2, 0, 0, {0}},
+    /* Upstream, the rank that the nodeid names is skipped, wherever it stands, and no other. */
+    {"past 5", 5, LAMPREYCOIL_UPSTREAM, "bench.run", LAMPREYCOIL_DELIVERED, 1, 0, 0, {4}},
+    {"past 1", 1, LAMPREYCOIL_UPSTREAM, "bench.run", LAMPREYCOIL_REPLIED, 0, 38, 2, {3, 1, 0}},
+    {"past 7", NOWHERE, LAMPREYCOIL_UPSTREAM, "log", LAMPREYCOIL_DELIVERED, 2, 0, 0, {0}},
 };
 
 /*

@@ -14,10 +14,10 @@ use Rattle.table_records.specs.declared.Found.{Found}
 use Rattle.table_records.specs.declared.Found.the-variants.{At, Nothing}
 use Rattle.table_tree.specs.Tree.{ranksIn}
 use Rattle.table_tree.specs.Depths.{depthOf, treeGood}
-use Rattle.walk_path.specs.Path.{delivers, Path, chain, recordOf, servedAt, isFound, upPath, endAt, ending, anyPath, pathOf}
+use Rattle.walk_path.specs.Path.{chain, isIn, delivers, Path, recordOf, servedAt, isFound, upPath, endAt, ending, anyPath, pathOf}
 use Rattle.walk_path.specs.WorkingLeading.{Linked}
 use Rattle.claim_walks.specs.Upstream.{UpstreamSkips}
-use Rattle.walk_path.proofs.Chains.{same-search}
+use Rattle.walk_path.proofs.Chains.{same-search, search-ends}
 use Rattle.walk_path.proofs.Leading.{path-upstream, up-here, followed, linked-ranks, end-found}
 
 module _ (tree services : List ℕ) (entry : ℕ) (h : Header) (topic : List ℕ) (g : treeGood tree ≡ true) (inside : entry < ranksIn tree)
@@ -43,9 +43,18 @@ module _ (tree services : List ℕ) (entry : ℕ) (h : Header) (topic : List ℕ
       let nothing : Nothing ≡ At number = rw (eq-eqb (h .first) (h .first) refl) at named in
       absurd (let no : _≡_ {A = ℕ} 0 1 = cc in omega arith)
 
-  other : (entry ≡ h .first → ⊥) → (number : ℕ) → recordOf services topic entry ≡ At number → path ≡ record { brokers = entry ∷ []; end = delivers number }
+  other :
+      (r : ℕ) → isIn r (path .brokers) ≡ true → (r ≡ h .first → ⊥) → (number : ℕ) → recordOf services topic r ≡ At number →
+      (path .end ≡ delivers number) × (final 0 (path .brokers) ≡ r)
+  unfolding upPath
+  other r within apart number registers =
+      let here = unnamed r apart ∙ registers in
+      let last = search-ends (λ s. isFound (serves s)) (chain tree entry) r (sym (ap (λ (p : Path). isIn r (p .brokers)) is) ∙ within) (ap isFound here) in
+      (ap (λ (p : Path). p .end) is ∙ ap (λ (s : ℕ). endAt (serves s)) last ∙ ap endAt here, ap (λ (p : Path). final 0 (p .brokers)) is ∙ last)
+
+  own : (entry ≡ h .first → ⊥) → (number : ℕ) → recordOf services topic entry ≡ At number → path ≡ record { brokers = entry ∷ []; end = delivers number }
   unfolding upPath chain
-  other apart number registers =
+  own apart number registers =
       let here = unnamed entry apart ∙ registers in
       is ∙ ap (ending serves) (up-here tree serves (depthOf tree entry) entry number here) ∙ rw here refl
 
@@ -80,5 +89,6 @@ upstream-skips tree services entry h topic g inside u n =
     record {
       skipped = skipped tree services entry h topic g inside u n;
       other = other tree services entry h topic g inside u n;
+      own = own tree services entry h topic g inside u n;
       nobody = nobody tree services entry h topic g inside u n;
     }

@@ -10,13 +10,17 @@ use Rattle.frame_message.specs.Reading.{final}
 use Rattle.table_records.specs.declared.Found.the-variants.{At}
 use Rattle.table_tree.specs.Tree.{ranksIn}
 use Rattle.table_tree.specs.Depths.{treeGood}
-use Rattle.walk_path.specs.Path.{delivers, Path, recordOf, anyPath, pathOf}
+use Rattle.walk_path.specs.Path.{isIn, delivers, Path, recordOf, anyPath, pathOf}
 
 pub record SkipsTheNamed (tree services : List ℕ) (entry named : ℕ) (topic : List ℕ) (path : Path) : Type 0 where
   -- "the broker whose rank equals nodeid is skipped": it never delivers
   pub skipped : (number : ℕ) → path .end ≡ delivers number → final 0 (path .brokers) ≡ named → ⊥
-  -- "and no other": "Entry at rank 3, nodeid 5", rank 3's own service is tried, and so is every entry's that is not named
+  -- "and no other": whoever of the path registers the service, and is not named, delivers the request
   pub other :
+      (r : ℕ) → isIn r (path .brokers) ≡ true → (r ≡ named → ⊥) → (number : ℕ) → recordOf services topic r ≡ At number →
+      (path .end ≡ delivers number) × (final 0 (path .brokers) ≡ r)
+  -- "Entry at rank 3, nodeid 5": rank 3's own service is tried, and so is that of every entry which is not named
+  pub own :
       (entry ≡ named → ⊥) → (number : ℕ) → recordOf services topic entry ≡ At number →
       path ≡ record { brokers = entry ∷ []; end = delivers number }
   -- "a nodeid outside the tree skips nobody": the path is that of any rank

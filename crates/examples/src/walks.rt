@@ -167,7 +167,7 @@ pub(crate) fn show_all() {
     show(b"W9", 0, 0, UPSTREAM, b"log.put");
     show(b"W10", 3, ANY, PLAIN, b"benchmark.run");
     show(b"W11", 5, ANY, NORESPONSE, bench);
-    // Upstream, the rank that the nodeid names is passed by: no other, and wherever it stands on the way.
+    // Upstream, the rank that the nodeid names is skipped: no other, and wherever it stands on the way.
     show(b"U1", 4, 5, UPSTREAM, bench);
     show(b"U2", 3, 1, UPSTREAM, bench);
     show(b"U3", 0, 7, UPSTREAM, b"log.put");

@@ -4,7 +4,7 @@ use crate::print;
 use step_routing::Stepped;
 use walk::Walked;
 
-// A nodeid is a target, or upstream the rank that is passed by.
+// A nodeid is a target, or upstream the rank that is skipped.
 fn target(nodeid: u32, flags: u8) {
     if nodeid == 4294967295 {
         print::text(b" for any rank");

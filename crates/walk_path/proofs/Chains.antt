@@ -6,10 +6,10 @@ use mathlib.Core.Logic.{⊎-elim}
 use Prim.Native.Nat.{ℕ, zero, suc, _-_, _<_, _≤_}
 use native.Mathlib.Omega.{arith}
 use native.Mathlib.Nat.{le-of-suc-le-suc, eq-or-lt-of-le}
-use borrow.Author.Tests.{eq-eqb, ne-eqb}
+use borrow.Author.Tests.{eqb-true, eq-eqb, ne-eqb}
 use lib.Dec.{eqb}
 use lib.ListN.{length, getD}
-use Rattle.bytes_number.proofs.Truth.{outcome}
+use Rattle.bytes_number.proofs.Truth.{true-false, outcome}
 use Rattle.frame_message.specs.Reading.{final}
 use Rattle.frame_message.proofs.Lists.{Each, final-snoc}
 use Rattle.table_tree.specs.Tree.{ranksIn, parentOf}
@@ -75,6 +75,31 @@ same-search p q (r ∷ rs) e =
     let each : Each (λ s. p s ≡ q s) (r ∷ upTo p rs) = rw f at e in
     rw (f, sym (each .0) ∙ f) (ap (λ (l : List ℕ). r ∷ l) (same-search p q rs (each .1))))
     (outcome (p r))
+
+-- what is behind a rank ends as it does with that rank in front
+final-behind : (s : ℕ) (rs : List ℕ) (r : ℕ) → isIn r rs ≡ true → final 0 (s ∷ rs) ≡ final 0 rs
+unfolding isIn
+final-behind s [] r e = absurd (true-false (sym e))
+final-behind s (q ∷ rs) r e = final-next s q rs
+
+only-one : (r s : ℕ) → isIn r (s ∷ []) ≡ true → s ≡ r
+unfolding isIn
+only-one r s e =
+    ⊎-elim (λ t. eqb-true s r t) (λ (f : eqb s r ≡ false). let no : false ≡ true = rw f at e in absurd (true-false (sym no))) (outcome (eqb s r))
+
+-- a search ends at what passes its test: whoever is on the way and passes is the last
+pub search-ends : (p : ℕ → Bool) (rs : List ℕ) (r : ℕ) → isIn r (upTo p rs) ≡ true → p r ≡ true → final 0 (upTo p rs) ≡ r
+unfolding upTo isIn
+search-ends p [] r e t = absurd (true-false (sym e))
+search-ends p (s ∷ rs) r e t =
+    ⊎-elim
+    (λ (found : p s ≡ true). let one : isIn r (s ∷ []) ≡ true = rw found at e in rw found (only-one r s one))
+    (λ (on : p s ≡ false).
+    let more : isIn r (s ∷ upTo p rs) ≡ true = rw on at e in
+    let apart : s ≡ r → ⊥ = λ q. true-false (sym t ∙ sym (ap p q) ∙ on) in
+    let rest : isIn r (upTo p rs) ≡ true = rw (ne-eqb s r apart) at more in
+    rw on (final-behind s (upTo p rs) r rest ∙ search-ends p rs r rest t))
+    (outcome (p s))
 
 -- ---- the two ways along a chain
 
