@@ -5,9 +5,9 @@
 #include <stddef.h>
 #include <stdint.h>
 
-#include "dump_capture.h"
-#include "dump_explain.h"
-#include "dump_split.h"
+#include "capture.h"
+#include "explain.h"
+#include "split.h"
 #include "dump_verdict.h"
 #include "lampreycoil.h"
 

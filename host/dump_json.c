@@ -3,7 +3,7 @@
 #include <string.h>
 
 #include "dump.h"
-#include "dump_layout.h"
+#include "layout.h"
 #include "json.h"
 #include "names.h"
 

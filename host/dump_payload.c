@@ -5,8 +5,8 @@
 #include <stdio.h>
 
 #include "dump.h"
-#include "dump_characters.h"
-#include "dump_layout.h"
+#include "characters.h"
+#include "layout.h"
 #include "names.h"
 #include "quoted.h"
 

@@ -5,7 +5,7 @@
 #include <stddef.h>
 #include <stdint.h>
 
-#include "dump_explain.h"
+#include "explain.h"
 
 enum verdict_kind {
     VERDICT_JSON, /* its text is all but its last byte, which is zero */

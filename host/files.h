@@ -7,10 +7,18 @@
 #include <stdio.h>
 
 /*
- * What the program exits with. EXIT_SHOWN is for a command that showed help or version in place of
- * doing anything: the program exits with EXIT_DONE.
+ * What the program exits with: the table that `statuses` (program.h) tells. EXIT_SHOWN is for a
+ * command that showed help or version in place of doing anything: the program exits with EXIT_DONE.
  */
-enum { EXIT_SHOWN = -1, EXIT_DONE = 0, EXIT_REFUSED = 1, EXIT_TROUBLE = 2, EXIT_DIFFERS = 3 };
+enum {
+    EXIT_SHOWN = -1,
+    EXIT_DONE = 0,    /* yes */
+    EXIT_REFUSED = 1, /* a frame, a table or a floor file, whatever the mistake in it */
+    EXIT_TROUBLE = 2, /* wrong usage, or a file that cannot be read or written */
+    EXIT_DIFFERS = 3, /* two calls of the library differ */
+    EXIT_NO = 4,      /* the verdict is no: an error, or findings */
+    EXIT_SILENCED = 5 /* no error reply, because noresponse is set */
+};
 
 /* Far above the largest frame, so that the library and not this program judges a long input. */
 enum { INPUT_MAX = 1048576 };

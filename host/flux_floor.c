@@ -34,11 +34,7 @@ const char usage[] =
     "--upstream the nodeid names the rank that is skipped, and no target.\n"
     "  -o FILE              write the frame that is at rest to FILE\n"
     "\n"
-    "A walk is played by the step call, and then compared with the walk call.\n"
-    "Exit status: 0 done; 1 the library refused the floor or the message, and its\n"
-    "number and words are printed; 2 wrong usage, a file that cannot be used, or an\n"
-    "output that cannot be written; 3 two calls of the library differ, which must not\n"
-    "be: please report it.\n";
+    "A walk is played by the step call, and then compared with the walk call.\n";
 
 const struct command commands[] = {{"check", command_check},
                                    {"show", command_show},

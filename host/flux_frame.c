@@ -62,10 +62,6 @@ const char usage[] =
     "The flags topic, payload and route follow from the parts given; requests and\n"
     "responses always have the flag route. To write what these options would not:\n"
     "  --flags HEX          the whole flags byte, in place of what the options say\n"
-    "  --type-number N      the type byte, in place of --type\n"
-    "\n"
-    "Exit status: 0 done; 1 the library refused the message or a frame, also one that\n"
-    "is torn, and its number and words are printed; 2 wrong usage, a frame or a payload\n"
-    "that is not there, a file that cannot be used, or an output that cannot be written.\n";
+    "  --type-number N      the type byte, in place of --type\n";
 
 const struct command commands[] = {{"write", command_write}, {"dump", command_dump}, {NULL, NULL}};

@@ -7,7 +7,7 @@ VERSION := $(shell sed -n 's/^.define LAMPREYCOIL_VERSION "\(.*\)"$$/\1/p' inclu
 
 C_FILES := $(wildcard host/*.c)
 # What only one of the host programs has; the other C files are in both.
-FRAME_C := $(wildcard host/flux_frame.c host/write_frame.c host/dump_*.c host/json.c)
+FRAME_C := $(wildcard host/flux_frame.c host/write_frame.c host/dump_*.c)
 FLOOR_C := $(wildcard host/flux_floor.c host/floor_*.c)
 BOTH_C  := $(filter-out $(FRAME_C) $(FLOOR_C), $(C_FILES))
 H_FILES := $(wildcard host/*.h) include/lampreycoil.h

@@ -3,8 +3,8 @@
 #include <stdio.h>
 #include <string.h>
 
-#include "dump_characters.h"
-#include "dump_layout.h"
+#include "characters.h"
+#include "layout.h"
 #include "quoted.h"
 
 /* Whether the next value or name has one in front of it, from which a comma parts it. */

@@ -10,6 +10,16 @@
 #include "files.h"
 #include "lampreycoil.h"
 
+const char statuses[] =
+    "\n"
+    "Exit status:\n"
+    "  0  yes: delivered, or home with errnum 0, or what was asked for was done and held\n"
+    "  1  refused: a frame, a table or a floor file; number and words say why\n"
+    "  2  wrong usage, or a file that cannot be read or written\n"
+    "  3  two calls of the library differ, which must not be: please report it\n"
+    "  4  the verdict is no: an error reply, a response home with an error, or findings\n"
+    "  5  silenced: an error that nobody is told, because noresponse is set\n";
+
 /* Ends the text that is shown in place of a command. */
 static int shown(void)
 {
@@ -21,6 +31,7 @@ static int show_if_asked(const char *word)
 {
     if (strcmp(word, "--help") == 0 || strcmp(word, "-h") == 0) {
         fputs(usage, stdout);
+        fputs(statuses, stdout);
         return shown();
     }
     if (strcmp(word, "--version") == 0) {
@@ -54,6 +65,7 @@ int main(int argc, char **argv)
     signal(SIGPIPE, SIG_IGN);
     if (argc < 2) {
         fputs(usage, stderr);
+        fputs(statuses, stderr);
         return EXIT_TROUBLE;
     }
     int status = show_if_asked(argv[1]);

@@ -7,6 +7,9 @@
 extern const char program[];
 extern const char usage[];
 
+/* The exit statuses, which are the same for both: the end of every help. */
+extern const char statuses[];
+
 /* A command gets the words after its name, and returns the exit status. */
 struct command {
     const char *name;

@@ -1,6 +1,6 @@
-#include "dump_layout.h"
+#include "layout.h"
 
-#include "dump_characters.h"
+#include "characters.h"
 
 struct layout {
     const uint8_t *at;

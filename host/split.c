@@ -1,4 +1,4 @@
-#include "dump_split.h"
+#include "split.h"
 
 #include <string.h>
 

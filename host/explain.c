@@ -1,4 +1,4 @@
-#include "dump_explain.h"
+#include "explain.h"
 
 #include <stdarg.h>
 #include <stdio.h>

@@ -1,6 +1,6 @@
 /* The characters of a text that is known to be UTF-8, such as a payload that is JSON. */
-#ifndef HOST_DUMP_CHARACTERS_H
-#define HOST_DUMP_CHARACTERS_H
+#ifndef HOST_CHARACTERS_H
+#define HOST_CHARACTERS_H
 
 #include <stddef.h>
 #include <stdint.h>

@@ -3,8 +3,8 @@
  * library looks at in one call and hold more frames than one list, so it is gone through by a
  * window that moves on.
  */
-#ifndef HOST_DUMP_CAPTURE_H
-#define HOST_DUMP_CAPTURE_H
+#ifndef HOST_CAPTURE_H
+#define HOST_CAPTURE_H
 
 #include <stddef.h>
 #include <stdint.h>

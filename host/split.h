@@ -2,8 +2,8 @@
  * A frame's parts, as far as they can be split. Only for frames that the library refuses: where
  * it accepts one, it says itself where the parts are.
  */
-#ifndef HOST_DUMP_SPLIT_H
-#define HOST_DUMP_SPLIT_H
+#ifndef HOST_SPLIT_H
+#define HOST_SPLIT_H
 
 #include <stddef.h>
 #include <stdint.h>

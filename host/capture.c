@@ -1,4 +1,4 @@
-#include "dump_capture.h"
+#include "capture.h"
 
 #include <string.h>
 

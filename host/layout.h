@@ -2,8 +2,8 @@
  * A JSON text with other white space between its tokens. No token is changed. The text is one that
  * the library has said yes to: it is not checked here.
  */
-#ifndef HOST_DUMP_LAYOUT_H
-#define HOST_DUMP_LAYOUT_H
+#ifndef HOST_LAYOUT_H
+#define HOST_LAYOUT_H
 
 #include <stddef.h>
 #include <stdint.h>

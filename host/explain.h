@@ -1,11 +1,11 @@
 /* Why the library refused a frame, more closely than the number's words: where, and by what. */
-#ifndef HOST_DUMP_EXPLAIN_H
-#define HOST_DUMP_EXPLAIN_H
+#ifndef HOST_EXPLAIN_H
+#define HOST_EXPLAIN_H
 
 #include <stddef.h>
 #include <stdint.h>
 
-#include "dump_split.h"
+#include "split.h"
 
 enum { REASON_ROOM = 200 };
 

@@ -1,4 +1,4 @@
-#include "dump_characters.h"
+#include "characters.h"
 
 #include <stdio.h>
 #include <stdlib.h>
