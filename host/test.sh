@@ -299,7 +299,7 @@ helps run '--payload-text'
 helps run '--payload-text' write
 helps run '--frame-out FILE' dump
 helps run 'a route, in lower case' write
-helps run 'a frame or a payload' dump
+helps run '  4  the verdict is no' dump
 wrong 'no command' 'flux_frame dump [OPTIONS] [FILE]'
 wrong 'an unknown command' "unknown command 'send'" send
 wrong 'an unknown option of write' "unknown option '--colour'" write --type event --colour red

@@ -278,7 +278,7 @@ report $? 'an empty topic is 9'
 
 helps floor '--enter RANK'
 helps floor '--enter RANK' walk
-helps floor 'output that cannot be written' home
+helps floor '  5  silenced' home
 floor show "$example" --help
 [ "$status" -eq 0 ] && grep -q -- '--enter RANK' "$room/out" && ! grep -q '^rank ' "$room/out"
 report $? 'flux_floor show --help, behind a word'
