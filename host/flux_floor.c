@@ -18,6 +18,9 @@ const char usage[] =
     "                              play a message that enters at RANK\n"
     "  flux_floor home --from RANK [-o FILE] FLOOR (FRAME | OPTIONS)\n"
     "                              play a response on its way home from RANK\n"
+    "  flux_floor audit [--enter RANK] [--json | --quiet] FLOOR CAPTURE\n"
+    "                              judge the replies of a capture: status 4 with any\n"
+    "                              finding\n"
     "  flux_floor --help           show this text\n"
     "  flux_floor --version        show the version\n"
     "\n"
@@ -36,8 +39,6 @@ const char usage[] =
     "\n"
     "A walk is played by the step call, and then compared with the walk call.\n";
 
-const struct command commands[] = {{"check", command_check},
-                                   {"show", command_show},
-                                   {"walk", command_walk},
-                                   {"home", command_home},
-                                   {NULL, NULL}};
+const struct command commands[] = {{"check", command_check}, {"show", command_show},
+                                   {"walk", command_walk},   {"home", command_home},
+                                   {"audit", command_audit}, {NULL, NULL}};

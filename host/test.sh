@@ -333,6 +333,9 @@ wrong 'a payload that is too long' 'longer than 1048576 bytes' write --type even
 # shellcheck source=host/test/floor.sh
 . host/test/floor.sh
 
+# shellcheck source=host/test/audit.sh
+. host/test/audit.sh
+
 # ---- the header
 
 # The examples of docs/C-GUIDE.md, which step.c, stream.c and guide.c in host/test/ run.

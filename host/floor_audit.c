@@ -1,0 +1,159 @@
+/* flux_floor audit: the buyer's question, asked of a whole capture in one pass. */
+#include "floor_audit.h"
+
+#include <stdlib.h>
+#include <string.h>
+
+#include "explain.h"
+#include "floor_commands.h"
+#include "program.h"
+#include "split.h"
+
+/* What an audit was asked for. */
+struct audit_words {
+    const char *floor;
+    const char *capture;
+    const char *enter;
+    int json;
+    int quiet;
+};
+
+static int take_words(struct audit_words *asked, struct words *words)
+{
+    enum word_kind kind;
+    int status = 0;
+
+    while (status == 0 && (kind = next_word(words)) != WORD_NONE) {
+        if (kind == WORD_PLAIN && asked->floor == NULL)
+            asked->floor = words->word;
+        else if (kind == WORD_PLAIN && asked->capture == NULL)
+            asked->capture = words->word;
+        else if (kind == WORD_PLAIN)
+            status =
+                trouble("audit takes a floor and a capture, and '%s' is one more", words->word);
+        else if (word_is(words, "--enter"))
+            status = word_once(words, &asked->enter);
+        else if (word_is(words, "--json"))
+            status = word_flag(words, &asked->json);
+        else if (word_is(words, "--quiet"))
+            status = word_flag(words, &asked->quiet);
+        else
+            status = other_option(words, "audit");
+    }
+    return status;
+}
+
+static int check_words(const struct audit_words *asked, uint32_t *enter)
+{
+    *enter = LAMPREYCOIL_NO_PARENT;
+    if (asked->floor == NULL || asked->capture == NULL)
+        return trouble("audit needs the file of a floor and that of a capture (see %s --help)",
+                       program);
+    if (strcmp(asked->floor, "-") == 0 && strcmp(asked->capture, "-") == 0)
+        return trouble("only one file can be standard input");
+    if (asked->json && asked->quiet)
+        return trouble("--json writes an object, and --quiet nothing: give one of them");
+    if (asked->enter != NULL && parse_number(asked->enter, 10, UINT32_MAX, enter) != 0)
+        return trouble("--enter takes a rank, a number, not '%s'", asked->enter);
+    return 0;
+}
+
+/* What stands where the next frame should: a refused frame, or one that is torn. */
+static void judge_refused(struct audit *audit, const struct frame *frame)
+{
+    static struct split split;
+    uint8_t record[LAMPREYCOIL_READ_RECORD];
+    char reason[REASON_ROOM];
+    struct told told = {.number = frame->number, .start = frame->start, .reason = reason};
+
+    told.refusal = lampreycoil_read(frame->bytes, frame->length, record, sizeof record);
+    if (frame->length >= FRONT)
+        split_frame(frame->bytes, frame->length, &split);
+    explain(told.refusal, frame->bytes, frame->length, &split, reason);
+    find(audit, REFUSED_FRAME, &told);
+}
+
+/* Goes through the capture. Returns 0, or has said what is wrong. */
+static int judge_capture(struct audit *audit, struct capture *capture)
+{
+    struct frame frame;
+    int status;
+
+    while ((status = next_frame(capture, &frame)) == 0 && !ferror(stdout)) {
+        if (!frame.whole && frame.length == 0)
+            break;
+        audit->counts.frames++;
+        if (frame.whole) {
+            if ((status = judge_frame(audit, &frame)) != 0)
+                break;
+        } else {
+            judge_refused(audit, &frame);
+            /* Nothing tells where the next one begins. */
+            if (pass_refused(capture, &frame) == 0)
+                break;
+        }
+    }
+    return status;
+}
+
+/* The counts, and the status: a capture without a frame is refused, as the reader refuses it. */
+static int end_audit(struct audit *audit)
+{
+    int status = EXIT_DONE;
+
+    judge_open(audit);
+    if (audit->counts.frames == 0)
+        status = EXIT_REFUSED;
+    else if (all_findings(&audit->counts) != 0)
+        status = EXIT_NO;
+    tell_counts(audit, status);
+    return flush_output() == 0 ? status : EXIT_TROUBLE;
+}
+
+static void close_audit(struct audit *audit)
+{
+    close_book(&audit->book);
+    for (struct unregistered *at = audit->unregistered, *next; at != NULL; at = next) {
+        next = at->next;
+        free(at);
+    }
+}
+
+static int audit_asked(struct audit *audit, const char *name)
+{
+    static struct capture capture;
+    int status = open_capture(&capture, name);
+
+    if (status != 0)
+        return status;
+    status = judge_capture(audit, &capture);
+    close_capture(&capture);
+    if (status == 0)
+        status = end_audit(audit);
+    close_audit(audit);
+    return status;
+}
+
+int command_audit(int count, char **words)
+{
+    static struct floor floor;
+    static struct audit audit;
+    struct words reading = {.words = words, .count = count};
+    struct audit_words asked = {0};
+    int status = take_words(&asked, &reading);
+
+    memset(&audit, 0, sizeof audit);
+    if (status == 0)
+        status = check_words(&asked, &audit.enter);
+    if (status == 0)
+        status = read_valid_floor(&floor, asked.floor);
+    if (status == 0 && asked.enter != NULL && audit.enter >= floor.ranks)
+        status = trouble("--enter takes a rank of the floor, and %s has no rank %s", floor.file,
+                         asked.enter);
+    if (status != 0)
+        return status;
+    audit.floor = &floor;
+    audit.json = asked.json;
+    audit.quiet = asked.quiet;
+    return audit_asked(&audit, asked.capture);
+}
