@@ -24,7 +24,7 @@ struct told {
     unsigned long long number;                 /* of the frame in the capture */
     unsigned long long start;                  /* and where that begins */
     const struct lampreycoil_message *message; /* its topic and matchtag; NULL: refused */
-    const struct asked *request;               /* the request of a response; NULL: none */
+    const struct booked *request;              /* the request of a response; NULL: none */
     uint32_t due;                              /* the error that was due; 0: none */
     uint32_t refusal;                          /* of a frame or a walk */
     const char *reason;                        /* why a frame was refused, more closely */

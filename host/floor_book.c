@@ -11,8 +11,8 @@
 struct talk {
     const uint8_t *key;
     size_t length;
-    struct asked *open, *open_last; /* here and below: oldest first */
-    struct asked *settled, *settled_last;
+    struct booked *open, *open_last; /* here and below: oldest first */
+    struct booked *settled, *settled_last;
 };
 
 void make_key(struct key *key, const struct lampreycoil_message *message)
@@ -67,7 +67,7 @@ static struct talk *keep_talk(struct book *book, const struct key *key)
     return talk;
 }
 
-static void append(struct asked_list *list, struct asked *request)
+static void append(struct booked_list *list, struct booked *request)
 {
     request->before = list->last;
     request->after = NULL;
@@ -75,24 +75,24 @@ static void append(struct asked_list *list, struct asked *request)
     list->last = request;
 }
 
-static void take_out(struct asked_list *list, struct asked *request)
+static void take_out(struct booked_list *list, struct booked *request)
 {
     *(request->before == NULL ? &list->first : &request->before->after) = request->after;
     *(request->after == NULL ? &list->last : &request->after->before) = request->before;
 }
 
 /* The same of the requests of one key, which only ever go from the front. */
-static void append_to_talk(struct asked **first, struct asked **last, struct asked *request)
+static void append_to_talk(struct booked **first, struct booked **last, struct booked *request)
 {
     request->next = NULL;
     *(*first == NULL ? first : &(*last)->next) = request;
     *last = request;
 }
 
-static struct asked *keep(struct book *book, const struct key *key, const struct asked *request)
+static struct booked *keep(struct book *book, const struct key *key, const struct booked *request)
 {
     struct talk *talk = keep_talk(book, key);
-    struct asked *kept = talk == NULL ? NULL : malloc(sizeof *kept);
+    struct booked *kept = talk == NULL ? NULL : malloc(sizeof *kept);
 
     if (kept == NULL)
         return NULL;
@@ -101,9 +101,9 @@ static struct asked *keep(struct book *book, const struct key *key, const struct
     return kept;
 }
 
-int keep_open(struct book *book, const struct key *key, const struct asked *request)
+int keep_open(struct book *book, const struct key *key, const struct booked *request)
 {
-    struct asked *kept = keep(book, key, request);
+    struct booked *kept = keep(book, key, request);
 
     if (kept == NULL)
         return -1;
@@ -112,14 +112,14 @@ int keep_open(struct book *book, const struct key *key, const struct asked *requ
     return 0;
 }
 
-struct asked *oldest_open(const struct book *book, const struct key *key)
+struct booked *oldest_open(const struct book *book, const struct key *key)
 {
     const struct talk *talk = find_talk(book, key);
 
     return talk == NULL ? NULL : talk->open;
 }
 
-struct asked *last_settled(const struct book *book, const struct key *key)
+struct booked *last_settled(const struct book *book, const struct key *key)
 {
     const struct talk *talk = find_talk(book, key);
 
@@ -129,7 +129,7 @@ struct asked *last_settled(const struct book *book, const struct key *key)
 /* The oldest settled request of all is also its key's oldest. */
 static void forget_oldest(struct book *book)
 {
-    struct asked *oldest = book->settled.first;
+    struct booked *oldest = book->settled.first;
     struct talk *talk = oldest->talk;
 
     take_out(&book->settled, oldest);
@@ -142,7 +142,7 @@ static void forget_oldest(struct book *book)
     free(talk);
 }
 
-static void append_settled(struct book *book, struct asked *request)
+static void append_settled(struct book *book, struct booked *request)
 {
     struct talk *talk = request->talk;
 
@@ -152,16 +152,16 @@ static void append_settled(struct book *book, struct asked *request)
         forget_oldest(book);
 }
 
-void settle(struct book *book, struct asked *request)
+void settle(struct book *book, struct booked *request)
 {
     take_out(&book->open, request);
     request->talk->open = request->next;
     append_settled(book, request);
 }
 
-int keep_settled(struct book *book, const struct key *key, const struct asked *request)
+int keep_settled(struct book *book, const struct key *key, const struct booked *request)
 {
-    struct asked *kept = keep(book, key, request);
+    struct booked *kept = keep(book, key, request);
 
     if (kept == NULL)
         return -1;
@@ -169,7 +169,7 @@ int keep_settled(struct book *book, const struct key *key, const struct asked *r
     return 0;
 }
 
-void recall(const struct asked *request, struct lampreycoil_message *message)
+void recall(const struct booked *request, struct lampreycoil_message *message)
 {
     const uint8_t *key = request->talk->key;
 

@@ -24,7 +24,7 @@ struct key {
 struct talk;
 
 /* A request of the capture. */
-struct asked {
+struct booked {
     unsigned long long number; /* of its frame in the capture */
     unsigned long long start;  /* and where that begins */
     uint32_t error;            /* the error reply that is due; 0 where it was delivered */
@@ -33,19 +33,19 @@ struct asked {
     unsigned long long replies;
     /* For the book alone. */
     struct talk *talk;
-    struct asked *next;           /* of the same key: open, or settled */
-    struct asked *before, *after; /* of all: open, or settled */
+    struct booked *next;           /* of the same key: open, or settled */
+    struct booked *before, *after; /* of all: open, or settled */
 };
 
 /* Requests in order, each linked to the one behind it. */
-struct asked_list {
-    struct asked *first, *last;
+struct booked_list {
+    struct booked *first, *last;
 };
 
 struct book {
     void *talks;                    /* by their keys: a tree of search.h */
-    struct asked_list open;         /* as they came */
-    struct asked_list settled;      /* as they were settled */
+    struct booked_list open;        /* as they came */
+    struct booked_list settled;     /* as they were settled */
     unsigned long long settled_now; /* how many */
 };
 
@@ -53,18 +53,18 @@ struct book {
 void make_key(struct key *key, const struct lampreycoil_message *message);
 
 /* Keeps a request, open or settled at once. Returns 0, or -1 where there is no memory. */
-int keep_open(struct book *book, const struct key *key, const struct asked *request);
-int keep_settled(struct book *book, const struct key *key, const struct asked *request);
+int keep_open(struct book *book, const struct key *key, const struct booked *request);
+int keep_settled(struct book *book, const struct key *key, const struct booked *request);
 
 /* The oldest open request of this key, and the one that was settled last; NULL: there is none. */
-struct asked *oldest_open(const struct book *book, const struct key *key);
-struct asked *last_settled(const struct book *book, const struct key *key);
+struct booked *oldest_open(const struct book *book, const struct key *key);
+struct booked *last_settled(const struct book *book, const struct key *key);
 
 /* The request, which is its key's oldest open one, waits no more. The oldest settled one may go. */
-void settle(struct book *book, struct asked *request);
+void settle(struct book *book, struct booked *request);
 
 /* The topic and the matchtag of a request in the book; all else of the message is zero. */
-void recall(const struct asked *request, struct lampreycoil_message *message);
+void recall(const struct booked *request, struct lampreycoil_message *message);
 
 /* Gives all memory back. */
 void close_book(struct book *book);

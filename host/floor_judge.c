@@ -118,11 +118,11 @@ static int count_answer(struct counts *counts, uint32_t answer, uint32_t error)
 static int keep_request(struct audit *audit, const struct heard *heard, uint32_t error)
 {
     uint8_t flags = heard->message.flags;
-    struct asked request = {.number = heard->told.number,
-                            .start = heard->told.start,
-                            .error = error,
-                            .noresponse = (flags & LAMPREYCOIL_NORESPONSE) != 0,
-                            .streaming = (flags & LAMPREYCOIL_STREAMING) != 0};
+    struct booked request = {.number = heard->told.number,
+                             .start = heard->told.start,
+                             .error = error,
+                             .noresponse = (flags & LAMPREYCOIL_NORESPONSE) != 0,
+                             .streaming = (flags & LAMPREYCOIL_STREAMING) != 0};
     int kept = request.noresponse ? keep_settled(&audit->book, &heard->key, &request)
                                   : keep_open(&audit->book, &heard->key, &request);
 
@@ -156,7 +156,7 @@ static int judge_request(struct audit *audit, struct heard *heard)
 /* A response that no open request waits for. */
 static void judge_late(struct audit *audit, struct heard *heard)
 {
-    const struct asked *request = last_settled(&audit->book, &heard->key);
+    const struct booked *request = last_settled(&audit->book, &heard->key);
 
     heard->told.request = request;
     if (request == NULL || (request->streaming && !request->noresponse))
@@ -167,7 +167,7 @@ static void judge_late(struct audit *audit, struct heard *heard)
 
 static void judge_response(struct audit *audit, struct heard *heard)
 {
-    struct asked *request = oldest_open(&audit->book, &heard->key);
+    struct booked *request = oldest_open(&audit->book, &heard->key);
     uint32_t errnum = heard->message.first;
 
     audit->counts.responses++;
@@ -216,7 +216,7 @@ int judge_frame(struct audit *audit, const struct frame *frame)
 
 void judge_open(struct audit *audit)
 {
-    for (const struct asked *at = audit->book.open.first; at != NULL; at = at->after) {
+    for (const struct booked *at = audit->book.open.first; at != NULL; at = at->after) {
         struct lampreycoil_message message;
         struct told told = {.number = at->number,
                             .start = at->start,
