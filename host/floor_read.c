@@ -23,17 +23,11 @@ static char *cut_word(char **line)
     return word;
 }
 
-/* What is past the room is counted nowhere, and told once. */
+/* What is past the room is left out: without it there are too many already. */
 static void take_service(struct floor *floor, int line, uint32_t rank, const char *name)
 {
-    static const char too_many[] = "more than %d registrations, and %d are the most: remove some";
-
-    if (floor->services == SERVICES_ROOM) {
-        if (floor->service[SERVICES_ROOM - 1].line != 0)
-            broken(floor, line, UNREAD, too_many, SERVICES_ROOM, LAMPREYCOIL_SERVICES_MAX);
-        floor->service[SERVICES_ROOM - 1].line = 0;
+    if (floor->services == SERVICES_ROOM)
         return;
-    }
     struct floor_service *service = &floor->service[floor->services++];
     service->line = line;
     service->rank = rank;
