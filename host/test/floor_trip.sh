@@ -49,6 +49,17 @@ floor trip --enter 5 "$example" --topic bench.run --answer-errnum 0
     grep -qx 'The answer was not used: no broker delivered the request.' "$room/out"
 report $? 'an answer does not stand in for an error reply'
 
+# The first lines in docs/C-GUIDE.md are those that the program prints.
+while read -r _ _ words; do
+    read -r said
+    # shellcheck disable=SC2086
+    floor ${words% | head -n 1}
+    [ -n "$said" ] && [ "$(head -n 1 "$room/out")" = "$said" ]
+    report $? "docs/C-GUIDE.md: flux_floor $words"
+done < <(grep -A 1 '^\$ target/host/flux_floor .* | head -n 1$' docs/C-GUIDE.md)
+[ -n "${said:-}" ]
+report $? 'docs/C-GUIDE.md has such lines'
+
 # ---- an answer by options
 
 walks 'an answer with a payload' 0 'home at rank 5 with errnum 0, links 4: 5 > 2 > 0 > 2 > 5' \
