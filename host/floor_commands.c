@@ -72,6 +72,8 @@ int command_check(int count, char **words)
         json_floor("check", floor, status, 0);
     else if (!form.quiet)
         tell_check(floor, status);
+    else if (status == EXIT_DIFFERS)
+        tell_found(floor, status);
     return flush_output() == 0 ? status : EXIT_TROUBLE;
 }
 
@@ -105,12 +107,12 @@ int command_show(int count, char **words)
         status = load_floor(floor, name);
     if (status == EXIT_TROUBLE || status == EXIT_SHOWN)
         return status;
-    if (!form.quiet && !form.json)
+    if (!form.json && (!form.quiet || status == EXIT_DIFFERS))
         tell_found(floor, status);
     if (form.json)
         json_floor("show", floor, status, 1);
     else if (form.graph && status == 0)
-        draw_graph(floor, NULL, NULL, status, floor->file);
+        draw_graph(&(struct graph){.floor = floor, .title = floor->file});
     else if (!form.quiet && status == 0)
         show_text(floor);
     return flush_output() == 0 ? status : EXIT_TROUBLE;

@@ -87,22 +87,29 @@ static int ends_at(const struct play *play, uint32_t rank)
     return play != NULL && last_step(play)->rank == rank;
 }
 
-static void put_broker(const struct floor *floor, const struct play *there, const struct play *back,
-                       int status, uint32_t rank)
+/* How the ways ended that ended here, and last how the whole did where that is more. */
+static void put_ends(const struct graph *graph, const struct play *last, uint32_t rank)
 {
-    const struct play *last = back == NULL ? there : back;
+    if (ends_at(graph->there, rank))
+        printf("\\n%s", play_answer(graph->there));
+    if (ends_at(graph->back, rank))
+        printf("\\n%s", play_answer(graph->back));
+    if (ends_at(last, rank) && strcmp(graph->answer, play_answer(last)) != 0)
+        printf("\\n%s", graph->answer);
+}
+
+static void put_broker(const struct graph *graph, uint32_t rank)
+{
+    const struct play *last = graph->back == NULL ? graph->there : graph->back;
     int visits;
 
     printf("  %lu [label=\"rank %lu", (unsigned long)rank, (unsigned long)rank);
-    put_services(floor, rank);
-    visits = put_visits(there, "\\nstep ", rank) + put_visits(back, "\\nback ", rank);
-    if (ends_at(there, rank))
-        printf("\\n%s", play_answer(there));
-    if (ends_at(back, rank))
-        printf("\\n%s", play_answer(back));
+    put_services(graph->floor, rank);
+    visits = put_visits(graph->there, "\\nstep ", rank) + put_visits(graph->back, "\\nback ", rank);
+    put_ends(graph, last, rank);
     putchar('"');
-    if (ends_at(last, rank) || (back != NULL && ends_at(there, rank))) {
-        struct look look = end_look(ends_at(last, rank) ? status : there->status);
+    if (ends_at(last, rank) || ends_at(graph->there, rank)) {
+        struct look look = end_look(ends_at(last, rank) ? graph->status : graph->there->status);
 
         printf(", shape=%s, style=filled, fillcolor=%s", look.shape, look.fill);
     } else if (visits > 0) {
@@ -119,18 +126,19 @@ static void put_way(const struct play *play, const char *word, const char *look)
                (unsigned long)i + 1, look);
 }
 
-void draw_graph(const struct floor *floor, const struct play *there, const struct play *back,
-                int status, const char *title)
+void draw_graph(const struct graph *graph)
 {
+    const struct floor *floor = graph->floor;
+
     printf("digraph floor {\n  graph [labelloc=t, label=\"");
-    put_text(title);
+    put_text(graph->title);
     printf("\"];\n  node [shape=box];\n");
     for (uint32_t rank = 0; rank < floor->ranks; rank++)
-        put_broker(floor, there, back, status, rank);
+        put_broker(graph, rank);
     for (uint32_t rank = 1; rank < floor->ranks; rank++)
         printf("  %lu -> %lu [dir=none];\n", (unsigned long)floor->rank[rank].parent,
                (unsigned long)rank);
-    put_way(there, "", "color=blue, penwidth=2");
-    put_way(back, "back ", "color=purple, penwidth=2, style=dashed");
+    put_way(graph->there, "", "color=blue, penwidth=2");
+    put_way(graph->back, "back ", "color=purple, penwidth=2, style=dashed");
     puts("}");
 }

@@ -4,11 +4,14 @@
 
 #include "floor_play.h"
 
-/*
- * Prints the graph. `there` and `back` are the ways played, or NULL; status is what they came to,
- * and the title is what stands above.
- */
-void draw_graph(const struct floor *floor, const struct play *there, const struct play *back,
-                int status, const char *title);
+struct graph {
+    const struct floor *floor;
+    const struct play *there, *back; /* the ways that were played, or NULL */
+    int status;                      /* what they came to, as the exit status */
+    const char *answer;              /* the same in a word */
+    const char *title;               /* what stands above */
+};
+
+void draw_graph(const struct graph *graph);
 
 #endif

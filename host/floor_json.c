@@ -249,7 +249,9 @@ void json_refused(const struct asked *asked, const struct play *play, uint32_t r
     struct outcome outcome = {.answer = status == EXIT_DIFFERS ? "differs" : "refused",
                               .refusal = refusal};
 
-    if (play->floor->mistakes.count > 0)
+    if (status == EXIT_DIFFERS)
+        outcome.refusal_words = NULL;
+    else if (play->floor->mistakes.count > 0)
         outcome.refusal_words = "the floor is not valid";
     else if (refusal != LAMPREYCOIL_OK)
         outcome.refusal_words = lampreycoil_refusal_words(refusal);

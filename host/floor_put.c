@@ -29,7 +29,7 @@ void put_text_or_null(const char *name, const char *text)
 
 void json_plain(const char *text)
 {
-    char plain[4096];
+    static char plain[16384]; /* four columns for each byte of the longest path */
     size_t length = 0;
 
     for (; *text != '\0' && length < sizeof plain - sizeof "\\xNN"; text++) {

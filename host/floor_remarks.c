@@ -94,7 +94,8 @@ void tell_remarks(FILE *stream, const struct floor *floor, const struct remarks 
         putc('\n', stream);
     }
     if (remarks->count > REMARKS_TOLD)
-        fprintf(stream, "and %zu more\n", remarks->count - REMARKS_TOLD);
+        fprintf(stream, "and %zu more%s\n", remarks->count - REMARKS_TOLD,
+                *mark == '\0' ? "" : " warnings");
 }
 
 void tell_not_valid(FILE *stream, const struct floor *floor, int status)

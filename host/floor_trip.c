@@ -176,7 +176,12 @@ static void tell_trip(const struct asked *asked, const struct trip *trip)
     if (asked->form.json) {
         json_trip(asked, trip);
     } else if (asked->form.graph) {
-        draw_graph(trip->there.floor, &trip->there, back, trip->status, line.text);
+        draw_graph(&(struct graph){.floor = trip->there.floor,
+                                   .there = &trip->there,
+                                   .back = back,
+                                   .status = trip->status,
+                                   .answer = trip->answer,
+                                   .title = line.text});
     } else if (!asked->form.quiet) {
         printf("%s\n\n", line.text);
         if (answer_given(&asked->answer) && trip->there.status == EXIT_NO)

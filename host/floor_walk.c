@@ -16,7 +16,11 @@ static void tell_walk(const struct asked *asked, const struct play *play)
     if (asked->form.json) {
         json_walk(asked, play);
     } else if (asked->form.graph) {
-        draw_graph(play->floor, play, NULL, play->status, line.text);
+        draw_graph(&(struct graph){.floor = play->floor,
+                                   .there = play,
+                                   .status = play->status,
+                                   .answer = play_answer(play),
+                                   .title = line.text});
     } else if (!asked->form.quiet) {
         printf("%s\n\n", line.text);
         tell_play(play);

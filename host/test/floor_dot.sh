@@ -74,6 +74,13 @@ graphs 'a trip' 4 trip --enter 3 "$example" --topic bench --answer-errnum 5
 has_line '1 [label="rank 1\nbench\nstep 2\nback 1\ndelivered", shape=doubleoctagon, style=filled, fillcolor=palegreen];'
 has_line '3 [label="rank 3\nstep 1\nback 2\nhome", shape=octagon, style=filled, fillcolor=tomato];'
 has_line '1 -> 3 [label="back 1", constraint=false, color=purple, penwidth=2, style=dashed];'
+"$FLUX_FRAME" write --type response --topic log --matchtag 3 -o "$room/answer"
+graphs 'a mismatch' 4 trip --enter 0 "$example" --topic log --answer "$room/answer"
+has_line '0 [label="rank 0\nlog\nstep 1\nback 1\ndelivered\nhome\nmismatch", shape=octagon, style=filled, fillcolor=tomato];'
+floor trip --enter 0 "$example" --topic log --dot
+[ "$status" -eq 2 ] && [ -s "$room/err" ]
+report $? 'no answer'
+has_line '0 [label="rank 0\nlog\nstep 1\ndelivered\nunanswered", shape=diamond, style=filled, fillcolor=khaki];'
 
 # Names that Graphviz would read as its own: quotes, backslashes, escapes, entities, tags and bytes that are no text.
 printf '0 none 00000000%s "];x \\N\\" &lt; <b> a\xFFb \\\n' "$identity" >"$room/floor"

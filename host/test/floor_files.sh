@@ -158,6 +158,10 @@ floor show "$room/floor" --quiet
 report $? 'a warning, --quiet'
 sed '13s/$/ job-manager kvs_2 a~b @x/' "$example" >"$room/floor"
 floor_prints 'signs that part nothing' "$room/floor: a valid floor: 7 ranks, depth 2, 6 service names, 7 registrations" check "$room/floor"
+sed "13s/\$/ $(seq -s ', ' 24)/" "$example" >"$room/floor"
+floor check "$room/floor"
+[ "$status" -eq 0 ] && [ "$(wc -l <"$room/out")" -eq 22 ] && [ "$(tail -n 1 "$room/out")" = 'and 3 more warnings' ]
+report $? 'twenty warnings are told'
 { printf '\xEF\xBB\xBF' && grep -v '^#' "$example"; } >"$room/floor"
 floor_prints 'a byte order mark' "$room/floor: a valid floor: $size, 1 warning
 $room/floor:1: warning: the file begins with a byte order mark, which is skipped: save it without" check "$room/floor"

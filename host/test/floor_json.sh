@@ -112,6 +112,10 @@ has '"answer":"refused",'"$refused"
 floor walk --enter 3 "$example" --topic log --json -o "$room/left"
 [ "$status" -eq 0 ] && [ "$(wc -c <"$room/left")" -eq $((33 + 2 + 2 * 38)) ]
 report $? 'a walk with --json and -o'
+sed '13s/$/ a,b/' "$example" >"$room/floor"
+floor walk --enter 3 "$room/floor" --topic log --json
+[ "$status" -eq 0 ] && [ "$(wc -l <"$room/out")" -eq 1 ] && grep -q "^$room/floor:13: warning: " "$room/err"
+report $? 'of a walk a warning is on standard error'
 
 # ---- trip
 

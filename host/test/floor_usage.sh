@@ -95,11 +95,12 @@ for form in --tree --json --quiet --dot; do
     report $? "a full disk for the bytes left, $form"
 done
 
-# ---- a walk call that differs
+# ---- calls that differ
 
 # shellcheck disable=SC2046
 { "${CC:-gcc}" -std=c99 -Wall -Wextra -Werror -Iinclude -c -o "$room/wrong_walk.o" host/test/wrong_walk.c &&
-    "${CC:-gcc}" -std=c99 -Wall -Wextra -Werror -Dlampreycoil_walk=wrong_walk -Iinclude -o "$room/wrong_floor" \
+    "${CC:-gcc}" -std=c99 -Wall -Wextra -Werror -Dlampreycoil_walk=wrong_walk \
+        -Dlampreycoil_check_services=wrong_services -Iinclude -o "$room/wrong_floor" \
         $(ls host/*.c | grep -v -e flux_frame.c -e write_frame.c -e dump_) "$room/wrong_walk.o" \
         "$ARCHIVE"; } >"$room/out" 2>"$room/err"
 status=$?
@@ -128,3 +129,30 @@ report $? 'a walk that differs, --quiet'
 WRONG='' "$room/wrong_floor" walk --enter 3 "$example" --topic bench.run >"$room/out" 2>"$room/err"
 status=$?
 report "$status" 'a walk that does not differ'
+
+# The library's word on the services against what is found: of a floor that is valid, and of one that is not.
+sed '13s/$/ a.b/' "$example" >"$room/floor"
+for words in "$example 15 0" "$room/floor 0 1"; do
+    read -r file says found <<<"$words"
+    said="$file: THE CHECKS DIFFER: the library says $says, and $found broken rules were found"
+    WRONG=services "$room/wrong_floor" check "$file" >"$room/out" 2>"$room/err"
+    status=$?
+    [ "$status" -eq 3 ] && [ "$(head -n 2 "$room/out")" = "$file: nobody can say whether the floor is valid: please report it
+$said" ]
+    report $? "checks that differ: $words"
+    WRONG=services "$room/wrong_floor" show --json "$file" >"$room/out" 2>"$room/err"
+    status=$?
+    [ "$status" -eq 3 ] && grep -q '"status":3,.*"valid":null,"ranks":null,.*"line":null,.*"tree":null}$' "$room/out"
+    report $? "checks that differ, --json: $words"
+    for command in 'check' 'show' 'walk --enter 3 --topic x' 'trip --enter 3 --topic x'; do
+        # shellcheck disable=SC2086
+        WRONG=services "$room/wrong_floor" $command --quiet "$file" >"$room/out" 2>"$room/err"
+        status=$?
+        [ "$status" -eq 3 ] && [ ! -s "$room/out" ] && grep -qxF "$said" "$room/err"
+        report $? "checks that differ, $command --quiet: $words"
+    done
+    WRONG=services "$room/wrong_floor" walk --enter 3 --topic log --json "$file" >"$room/out" 2>"$room/err"
+    status=$?
+    [ "$status" -eq 3 ] && grep -q '"status":3,.*"answer":"differs","error":null,.*"rank":null,.*"refusal_words":null,' "$room/out"
+    report $? "checks that differ, walk --json: $words"
+done
