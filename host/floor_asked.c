@@ -146,10 +146,12 @@ static int read_message(const struct asked *asked, struct play *play)
 
     if (asked->frame == NULL) {
         status = make_frame(&asked->message, play->buffer, &length);
-        if (status == 0)
+        if (status == 0) {
             see(seen, play->floor, play->buffer, length);
-        else if (status == EXIT_REFUSED && asked->form.json)
+        } else if (status == EXIT_REFUSED && asked->form.json) {
             json_refused(asked, play, LAMPREYCOIL_OK, status);
+            return flush_output() == 0 ? status : EXIT_TROUBLE;
+        }
     } else {
         status = read_one_frame(asked->frame, play->floor, play->buffer, seen, &refusal);
         if (status == EXIT_REFUSED)

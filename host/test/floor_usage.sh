@@ -81,7 +81,7 @@ floor_wrong 'a frame that is not there' "cannot read $room/missing" walk --enter
 # ---- outputs that cannot be written
 
 for words in "check $example" "check $example --json" "show $example" "show $example --dot" "walk --enter 3 $example --topic log" \
-    "walk --json --enter 3 $example --topic log" "trip --enter 3 $example --topic x" --help --version; do
+    "walk --json --enter 3 $example --topic log" "walk --json --enter 3 $example --topic=" "trip --enter 3 $example --topic x" --help --version; do
     # shellcheck disable=SC2086
     "$FLUX_FLOOR" $words >/dev/full 2>"$room/err"
     status=$?
