@@ -6,17 +6,30 @@
 
 #include "explain.h"
 #include "floor_commands.h"
+#include "floor_form.h"
+#include "floor_json.h"
 #include "program.h"
 #include "split.h"
+#include "write_options.h"
 
 /* What an audit was asked for. */
 struct audit_words {
     const char *floor;
     const char *capture;
     const char *enter;
-    int json;
-    int quiet;
+    struct form form;
 };
+
+static int take_plain(struct audit_words *asked, const char *word)
+{
+    if (asked->floor == NULL)
+        asked->floor = word;
+    else if (asked->capture == NULL)
+        asked->capture = word;
+    else
+        return trouble("audit takes a floor and a capture, and '%s' is one more", word);
+    return 0;
+}
 
 static int take_words(struct audit_words *asked, struct words *words)
 {
@@ -24,20 +37,13 @@ static int take_words(struct audit_words *asked, struct words *words)
     int status = 0;
 
     while (status == 0 && (kind = next_word(words)) != WORD_NONE) {
-        if (kind == WORD_PLAIN && asked->floor == NULL)
-            asked->floor = words->word;
-        else if (kind == WORD_PLAIN && asked->capture == NULL)
-            asked->capture = words->word;
-        else if (kind == WORD_PLAIN)
-            status =
-                trouble("audit takes a floor and a capture, and '%s' is one more", words->word);
+        if (kind == WORD_PLAIN)
+            status = take_plain(asked, words->word);
         else if (word_is(words, "--enter"))
             status = word_once(words, &asked->enter);
-        else if (word_is(words, "--json"))
-            status = word_flag(words, &asked->json);
-        else if (word_is(words, "--quiet"))
-            status = word_flag(words, &asked->quiet);
         else
+            status = take_form(&asked->form, words);
+        if (status == NO_SUCH_OPTION)
             status = other_option(words, "audit");
     }
     return status;
@@ -51,11 +57,25 @@ static int check_words(const struct audit_words *asked, uint32_t *enter)
                        program);
     if (strcmp(asked->floor, "-") == 0 && strcmp(asked->capture, "-") == 0)
         return trouble("only one file can be standard input");
-    if (asked->json && asked->quiet)
-        return trouble("--json writes an object, and --quiet nothing: give one of them");
     if (asked->enter != NULL && parse_number(asked->enter, 10, UINT32_MAX, enter) != 0)
         return trouble("--enter takes a rank, a number, not '%s'", asked->enter);
-    return 0;
+    return check_form(&asked->form);
+}
+
+/* The floor, which has to be valid; with --json its mistakes are the object that is printed. */
+static int load_audited(struct floor *floor, const struct audit_words *asked)
+{
+    int status = load_floor(floor, asked->floor);
+
+    if (status == EXIT_TROUBLE)
+        return status;
+    if (status != 0 && asked->form.json) {
+        json_floor("audit", floor, status, 0);
+        return flush_output() == 0 ? status : EXIT_TROUBLE;
+    }
+    if (!asked->form.quiet || status == EXIT_DIFFERS)
+        tell_found(floor, status);
+    return status;
 }
 
 /* What stands where the next frame should: a refused frame, or one that is torn. */
@@ -146,14 +166,14 @@ int command_audit(int count, char **words)
     if (status == 0)
         status = check_words(&asked, &audit.enter);
     if (status == 0)
-        status = read_valid_floor(&floor, asked.floor);
+        status = load_audited(&floor, &asked);
     if (status == 0 && asked.enter != NULL && audit.enter >= floor.ranks)
         status = trouble("--enter takes a rank of the floor, and %s has no rank %s", floor.file,
                          asked.enter);
     if (status != 0)
         return status;
     audit.floor = &floor;
-    audit.json = asked.json;
-    audit.quiet = asked.quiet;
+    audit.json = asked.form.json;
+    audit.quiet = asked.form.quiet;
     return audit_asked(&audit, asked.capture);
 }

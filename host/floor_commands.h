@@ -6,6 +6,7 @@ int command_check(int count, char **words);
 int command_show(int count, char **words);
 int command_walk(int count, char **words);
 int command_home(int count, char **words);
+int command_trip(int count, char **words);
 int command_audit(int count, char **words);
 
 #endif

@@ -1,5 +1,7 @@
 /* The findings of an audit and its counts, for a person and for a machine. */
 #include "floor_audit.h"
+#include "floor_put.h"
+#include "floor_result.h"
 #include "json.h"
 #include "names.h"
 #include "quoted.h"
@@ -19,13 +21,6 @@ static const struct {
     [REFUSED_WALK] = {"refused_walk", "refused walk"},
 };
 
-static const char *error_name(uint32_t number)
-{
-    const struct error_name *error = error_by_number(number);
-
-    return error == NULL ? "" : error->name;
-}
-
 unsigned long long all_findings(const struct counts *counts)
 {
     unsigned long long all = 0;
@@ -42,7 +37,8 @@ static void print_error(const char *before, uint32_t number)
 {
     const char *name = error_name(number);
 
-    printf("%s %lu%s%s", before, (unsigned long)number, *name == '\0' ? "" : " ", name);
+    printf("%s %lu%s%s", before, (unsigned long)number, name == NULL ? "" : " ",
+           name == NULL ? "" : name);
 }
 
 static void print_reason(enum finding kind, const struct told *told)
@@ -92,25 +88,11 @@ static void print_finding(enum finding kind, const struct told *told)
     putchar('\n');
 }
 
-static void put_number(const char *name, unsigned long long number)
-{
-    json_name(name);
-    json_number(number);
-}
-
 /* A number and its name, or null for both. */
 static void put_error(const char *name, const char *name_of_name, int there, uint32_t number)
 {
-    json_name(name);
-    if (there)
-        json_number(number);
-    else
-        json_null();
-    json_name(name_of_name);
-    if (there && *error_name(number) != '\0')
-        json_text(error_name(number));
-    else
-        json_null();
+    put_number_or_null(name, there, number);
+    put_text_or_null(name_of_name, there ? error_name(number) : NULL);
 }
 
 static void put_finding(enum finding kind, const struct told *told)
@@ -128,23 +110,12 @@ static void put_finding(enum finding kind, const struct told *told)
         json_bytes(message->topic, message->topic_length);
     else
         json_null();
-    json_name("matchtag");
-    if (message != NULL)
-        json_number(message->second);
-    else
-        json_null();
+    put_number_or_null("matchtag", message != NULL, message == NULL ? 0 : message->second);
     put_error("due", "due_name", told->due != 0, told->due);
     put_error("errnum", "errnum_name", is_response, is_response ? message->first : 0);
-    json_name("request_frame");
-    if (told->request != NULL)
-        json_number(told->request->number);
-    else
-        json_null();
-    json_name("refusal");
-    if (told->refusal != LAMPREYCOIL_OK)
-        json_number(told->refusal);
-    else
-        json_null();
+    put_number_or_null("request_frame", told->request != NULL,
+                       told->request == NULL ? 0 : told->request->number);
+    put_number_or_null("refusal", told->refusal != LAMPREYCOIL_OK, told->refusal);
     json_close('}');
     json_end();
 }

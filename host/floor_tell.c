@@ -101,7 +101,7 @@ static void tell_error(const struct seen *seen, uint32_t rank, uint32_t error)
 static void tell_home(const struct seen *seen)
 {
     printf("has it home: %s\n", seen->routes == 0
-                                    ? "no route is left, so it is for this broker itself"
+                                    ? "no route is left, so the request came from this broker"
                                     : "the top route is no broker's, so it is a client's");
 }
 

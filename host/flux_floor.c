@@ -18,6 +18,8 @@ const char usage[] =
     "                              play a message that enters at RANK\n"
     "  flux_floor home --from RANK [-o FILE] FLOOR (FRAME | OPTIONS)\n"
     "                              play a response on its way home from RANK\n"
+    "  flux_floor trip --enter RANK [-o FILE] FLOOR (FRAME | OPTIONS) [ANSWER]\n"
+    "                              play a request, and its reply or answer back home\n"
     "  flux_floor audit [--enter RANK] [--json | --quiet] FLOOR CAPTURE\n"
     "                              judge the replies of a capture: status 4 with any\n"
     "                              finding\n"
@@ -33,12 +35,30 @@ const char usage[] =
     "several, flux_frame dump --frame N --frame-out FILE cuts one out. OPTIONS describe\n"
     "one in its place, as for flux_frame write (see flux_frame --help): --topic TEXT,\n"
     "--nodeid N, --matchtag N, --upstream, --noresponse, --route UUID and so on. The\n"
-    "type is request for walk and response for home, where --type gives no other. With\n"
-    "--upstream the nodeid names the rank that is skipped, and no target.\n"
-    "  -o FILE              write the frame that is at rest to FILE\n"
+    "type is request for walk and trip and response for home, where --type gives no\n"
+    "other. With --upstream the nodeid names the rank that is skipped, and no target.\n"
     "\n"
-    "A walk is played by the step call, and then compared with the walk call.\n";
+    "ANSWER is what the service answers to a request that is delivered:\n"
+    "  --answer FILE          a framed response; or one for the request at rest, by\n"
+    "  --answer-errnum N      its errnum (0),\n"
+    "  --answer-payload FILE  its payload, from a file,\n"
+    "  --answer-text TEXT     or its payload as given here\n"
+    "\n"
+    "The result comes first, in one line. In place of the text:\n"
+    "  --json               one JSON object on one line; see the man page\n"
+    "  --quiet              nothing: the exit status alone\n"
+    "  --dot                a graph for Graphviz; not for check\n"
+    "Of walk, home and trip:\n"
+    "  --tree               draw the tree, also of more than 64 ranks\n"
+    "  -o FILE              write the frame that is at rest to FILE; of trip, the one\n"
+    "                       that is home\n"
+    "\n"
+    "A walk is played by the step call, and compared with the walk call.\n";
 
-const struct command commands[] = {{"check", command_check}, {"show", command_show},
-                                   {"walk", command_walk},   {"home", command_home},
-                                   {"audit", command_audit}, {NULL, NULL}};
+const struct command commands[] = {{"check", command_check},
+                                   {"show", command_show},
+                                   {"walk", command_walk},
+                                   {"home", command_home},
+                                   {"trip", command_trip},
+                                   {"audit", command_audit},
+                                   {NULL, NULL}};

@@ -198,9 +198,20 @@ floor_wrong 'audit with a word too many' "audit takes a floor and a capture, and
 floor_wrong 'audit of standard input twice' 'only one file can be standard input' audit - -
 floor_wrong 'audit, an entry in words' "--enter takes a rank, a number, not 'five'" audit --enter five "$example" "$room/log"
 floor_wrong 'audit, an entry that is not there' "--enter takes a rank of the floor, and $example has no rank 7" audit --enter 7 "$example" "$room/log"
-floor_wrong 'audit, --json and --quiet' '--json writes an object, and --quiet nothing' audit --json --quiet "$example" "$room/log"
+floor_wrong 'audit, --json and --quiet' '--json and --quiet are two forms of the result: give one' audit --json --quiet "$example" "$room/log"
 floor_wrong 'audit, an unknown option' "unknown option '--tree' of audit" audit --tree "$example" "$room/log"
 floor_wrong 'audit, a capture that is not there' "cannot read $room/missing" audit "$example" "$room/missing"
+sed 's/ 0 / 9 /' "$example" >"$room/floor"
+floor audit "$room/floor" "$room/log"
+[ "$status" -eq 1 ] && [ ! -s "$room/out" ] && grep -qF "$room/floor:8: refused, 14: " "$room/err"
+report $? 'audit: a floor that is not valid'
+floor audit --quiet "$room/floor" "$room/log"
+[ "$status" -eq 1 ] && [ ! -s "$room/out" ] && [ ! -s "$room/err" ]
+report $? 'audit --quiet: a floor that is not valid'
+floor audit --json "$room/floor" "$room/log"
+[ "$status" -eq 1 ] && [ ! -s "$room/err" ] && [ "$(wc -l <"$room/out")" -eq 1 ] &&
+    grep -q '^{"command":"audit","status":1,.*"valid":false,' "$room/out"
+report $? 'audit --json: a floor that is not valid'
 helps floor 'flux_floor audit' audit
 "$FLUX_FLOOR" audit --enter 5 "$example" "$room/log" >/dev/full 2>"$room/err"
 status=$?

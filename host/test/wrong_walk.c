@@ -1,6 +1,7 @@
 /*
- * A walk call that differs from the steps, to see that flux_floor says so. WRONG names what
- * differs: refusal, answer, rank, links or byte; anything else leaves the walk as it is.
+ * A walk call that differs from the steps, and a check of services that differs from what
+ * flux_floor finds, to see that it says so. WRONG names what differs: refusal, answer, rank, links
+ * or byte of the walk, or services; anything else leaves the calls as they are.
  */
 #include <stdlib.h>
 #include <string.h>
@@ -33,4 +34,17 @@ uint32_t wrong_walk(const uint8_t *tree, size_t tree_length, const uint8_t *serv
     if (strcmp(wrong, "byte") == 0)
         buffer[buffer_length - 1] ^= 1;
     return strcmp(wrong, "refusal") == 0 ? refusal ^ 1 : refusal;
+}
+
+uint32_t wrong_services(const uint8_t *tree, size_t tree_length, const uint8_t *services,
+                        size_t services_length);
+
+uint32_t wrong_services(const uint8_t *tree, size_t tree_length, const uint8_t *services,
+                        size_t services_length)
+{
+    const char *wrong = getenv("WRONG");
+    uint32_t refusal = lampreycoil_check_services(tree, tree_length, services, services_length);
+
+    return wrong != NULL && strcmp(wrong, "services") == 0 ? refusal ^ LAMPREYCOIL_SERVICES_WRONG
+                                                           : refusal;
 }
