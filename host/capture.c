@@ -79,6 +79,20 @@ int next_frame(struct capture *capture, struct frame *frame)
     return 0;
 }
 
+/* It stands at the window's front, where the list stopped with nothing in it. */
+size_t pass_refused(struct capture *capture, const struct frame *frame)
+{
+    size_t length;
+
+    if (frame->whole ||
+        lampreycoil_frame_length(frame->bytes, frame->length, &length) != LAMPREYCOIL_OK ||
+        length > frame->length)
+        return 0;
+    capture->stop = length;
+    capture->given++;
+    return length;
+}
+
 void close_capture(struct capture *capture)
 {
     close_input(&capture->input);

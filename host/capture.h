@@ -52,6 +52,13 @@ int is_single(const struct capture *capture);
  */
 int next_frame(struct capture *capture, struct frame *frame);
 
+/*
+ * Passes the frame that was given last, which is not whole, by the length that its own front has:
+ * the next frame is then the one behind it, and it keeps its number. Returns that length, or 0
+ * where nothing tells it, and nothing is passed: after the refusals 1, 2 and 3.
+ */
+size_t pass_refused(struct capture *capture, const struct frame *frame);
+
 void close_capture(struct capture *capture);
 
 #endif
