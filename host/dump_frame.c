@@ -70,6 +70,9 @@ static int look_at_next(struct capture *capture, struct dump *dump)
         return has_payload(dump)
                    ? judge_payload(payload_bytes(dump), payload_length(dump), &dump->verdict)
                    : 0;
+    status = see_rest(capture, &dump->frame);
+    if (status != 0)
+        return status;
     if (frame->length >= FRONT)
         split_frame(frame->bytes, frame->length, &dump->split);
     explain(dump->refusal, frame->bytes, frame->length, &dump->split, dump->reason);
