@@ -182,7 +182,7 @@ run write --type request --topic log --matchtag 1 --payload "$room/most"
 report $? 'log with 32,736 bytes of payload is written'
 cp "$room/out" "$room/most.frame"
 run dump "$room/most.frame"
-[ "$status" -eq 0 ] && grep -qxF "payload       32736 bytes, from byte 19, no JSON: byte 0 of it, 78, $stands" "$room/out" && grep -qx ' *32672 bytes more (--all shows all)' "$room/out"
+[ "$status" -eq 0 ] && grep -qxF "payload       32736 bytes, from byte 19, not JSON: byte 0 of it, 78, $stands" "$room/out" && grep -qx ' *32672 bytes more (--all shows all)' "$room/out"
 report $? 'log with 32,736 bytes of payload is read'
 refuses 'log with 32,737 bytes of payload is 3' 3 "$n3" --type request --topic log --matchtag 1 --payload "$room/over"
 
@@ -217,7 +217,7 @@ routes        2 (top of the stack first)
   1           $one, from byte 47
 delimiter     0 bytes, from byte 85
 topic         \"kvs.\\\"get\" (8 bytes), from byte 86
-payload       2 bytes, from byte 96, no JSON: byte 0 of it, 68, $stands
+payload       2 bytes, from byte 96, not JSON: byte 0 of it, 68, $stands
   0000        68 69                                            |hi|
               ^^                                                ^
 header        20 bytes, from byte 99"
@@ -237,11 +237,11 @@ sequence      5
 unused        0
 routes        0
 topic         "up\xFF" (3 bytes), from byte 9
-payload       0 bytes, from byte 14, no JSON: it is empty
+payload       0 bytes, from byte 14, not JSON: it is empty
 header        20 bytes, from byte 15'
 printf hi | "$FLUX_FRAME" write --type event --topic up --payload - -o "$room/piped"
 run dump "$room/piped"
-[ "$status" -eq 0 ] && grep -qxF "payload       2 bytes, from byte 13, no JSON: byte 0 of it, 68, $stands" "$room/out"
+[ "$status" -eq 0 ] && grep -qxF "payload       2 bytes, from byte 13, not JSON: byte 0 of it, 68, $stands" "$room/out"
 report $? 'a payload from standard input'
 
 # ---- refusals of the writer

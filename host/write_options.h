@@ -36,9 +36,6 @@ struct write_options {
 
 struct words;
 
-/* What take_write_option says of an option that is not one of a message's. */
-enum { NO_SUCH_OPTION = -1 };
-
 void start_write_options(struct write_options *options);
 
 /* Takes the option that `words` has come to. Returns 0, NO_SUCH_OPTION, or has said what is wrong.
