@@ -44,7 +44,7 @@ void show_passed(const struct dump *dump)
 }
 
 /* Room for the words of each of the two below, with the longest numbers. */
-enum { NEXT_ROOM = 100, COUNT_ROOM = 200 };
+enum { NEXT_ROOM = 100, COUNT_PART = 80, COUNT_ROOM = 4 * COUNT_PART };
 
 /* Where the frame behind a refused one would begin. */
 static const char *tell_next(const struct dump *dump, char text[NEXT_ROOM])
@@ -62,18 +62,22 @@ static const char *tell_counts(const struct dump *dump, char text[COUNT_ROOM])
 {
     const struct selection *selection = &dump->options->selection;
     const struct tally *tally = &dump->tally;
-    char shown[COUNT_ROOM / 4] = "", errors[COUNT_ROOM / 4] = "", passed[COUNT_ROOM / 4] = "";
+    const char *selected = !is_selective(selection)              ? ""
+                           : writes_bytes(dump->options) == NULL ? " shown"
+                                                                 : " selected";
+    char shown[COUNT_PART] = "", errors[COUNT_PART] = "", passed[COUNT_PART] = "";
 
     if (is_selective(selection))
         snprintf(shown, sizeof shown, "%llu of ", tally->selected);
-    if (selection->errors)
-        snprintf(errors, sizeof errors, ", of %llu response%s asked", tally->asked,
-                 plural(tally->asked));
+    if (selection->errors && tally->asked == 0)
+        snprintf(errors, sizeof errors, ", no response to look at");
+    else if (selection->errors)
+        snprintf(errors, sizeof errors, ", errors in %llu of %llu response%s", tally->selected,
+                 tally->asked, plural(tally->asked));
     if (tally->passed > 0)
         snprintf(passed, sizeof passed, ", %llu refused and passed", tally->passed);
     snprintf(text, COUNT_ROOM, "%s%llu frame%s%s%s%s, %llu bytes", shown, tally->accepted,
-             plural(tally->accepted), is_selective(selection) ? " shown" : "", errors, passed,
-             dump->frame.start);
+             plural(tally->accepted), selected, errors, passed, dump->frame.start);
     return text;
 }
 
@@ -89,10 +93,10 @@ void tell_stop(const struct dump *dump, char text[STOP_ROOM])
     else if (stop == STOP_END)
         snprintf(text, STOP_ROOM, "%s, and nothing behind %s", counts, number == 1 ? "it" : "them");
     else if (stop == STOP_RANGE)
-        snprintf(text, STOP_ROOM, "%s; --frames ends here: nobody looked at what is behind",
+        snprintf(text, STOP_ROOM, "%s; no more was asked for: what is behind was not looked at",
                  counts);
     else if (stop == STOP_INTERRUPTED)
-        snprintf(text, STOP_ROOM, "%s; interrupted: nobody looked at what is behind", counts);
+        snprintf(text, STOP_ROOM, "%s; interrupted: what is behind was not looked at", counts);
     else if (stop == STOP_TORN)
         snprintf(text, STOP_ROOM, "%s; frame %llu, from byte %llu, is torn: %s", counts, number,
                  start, dump->reason);
