@@ -184,7 +184,7 @@ cp "$room/out" "$room/most.frame"
 run dump "$room/most.frame"
 [ "$status" -eq 0 ] && grep -qxF "payload       32736 bytes, from byte 19, not JSON: byte 0 of it, 78, $stands" "$room/out" && grep -qx ' *32672 bytes more (--all shows all)' "$room/out"
 report $? 'log with 32,736 bytes of payload is read'
-refuses 'log with 32,737 bytes of payload is 3' 3 "$n3" --type request --topic log --matchtag 1 --payload "$room/over"
+refuses 'log with 32,737 bytes of payload is 3' 3 "$n3 (with a payload of 32737 bytes the body has 32769)" --type request --topic log --matchtag 1 --payload "$room/over"
 
 # The size of a payload of 254 and of 255 bytes, which stands behind the topic, at byte 14.
 run write --type request --topic log --payload-text "$(bytes 254)"
@@ -246,21 +246,27 @@ report $? 'a payload from standard input'
 
 # ---- refusals of the writer
 
-refuses 'type 3 is 6' 6 "$n6" --type-number 3
-refuses 'flag 80 is 6' 6 "$n6" --type control --flags 80
-refuses 'a control with a topic is 7' 7 "$n7" --type control --topic x
-refuses 'a request without a topic is 7' 7 "$n7" --type request
-refuses 'a topic without its flag is 7' 7 "$n7" --type event --topic x --flags 0x00
-refuses 'an event with a route is 7' 7 "$n7" --type event --topic x --route $one
-refuses 'a route in capitals is 8' 8 "$n8" --type request --topic x --route 00000000-0000-0000-0000-00000000000A
-refuses 'a short route is 8' 8 "$n8" --type request --topic x --route abc
+refuses 'type 3 is 6' 6 "$n6 (there is no type 3)" --type-number 3
+refuses 'flag 80 is 6' 6 "$n6 (--flags 80: flag 80 is set)" --type control --flags 80
+refuses 'a control with a topic is 7' 7 "$n7 (a control message has no topic: leave out --topic)" --type control --topic x
+refuses 'a control with a payload is 7' 7 "$n7 (a control message has no payload: leave it out)" --type control --payload-text x
+refuses 'a control with a route is 7' 7 "$n7 (a control message has no route: leave out --route)" --type control --route $one
+refuses 'a raw request without a topic is 7' 7 "$n7 (--topic is missing)" --type-number 1
+refuses 'a request without a topic whose flags are given is 7' 7 "$n7 (--flags 08: a request or response has the flags topic and route)" --type request --flags 08
+refuses 'a request without a topic whose flags have one is 9' 9 "$n9 (--topic is missing)" --type request --flags 09
+refuses 'a payload without its flag is 7' 7 "$n7 (--flags 01: a part is given whose flag is not set)" --type event --topic x --flags 01 --payload-text x
+refuses 'a topic without its flag is 7' 7 "$n7 (--flags 00: an event has the flag topic and not the flag route)" --type event --topic x --flags 0x00
+refuses 'an event with a route is 7' 7 "$n7 (an event has no route: leave out --route)" --type event --topic x --route $one
+refuses 'a route in capitals is 8' 8 "$n8 (--route number 1 has 'A' as its character 36, not one of 0-9 and a-f)" --type request --topic x --route 00000000-0000-0000-0000-00000000000A
+refuses 'a short route is 8' 8 "$n8 (--route number 1 has 3 characters, not 36)" --type request --topic x --route abc
+refuses 'the second route is 8' 8 "$n8 (--route number 2 has 'x' as its character 9, not a hyphen)" --type request --topic x --route $one --route "${one/-/x}"
 routes=()
 for _ in $(seq 65); do routes+=(--route "$one"); done
-refuses '65 routes are 8' 8 "$n8" --type request --topic x "${routes[@]}"
-refuses 'an empty topic is 9' 9 "$n9" --type event --topic ''
-refuses 'a topic of 256 bytes is 9' 9 "$n9" --type event --topic "$(bytes 256)"
-refuses 'nodeid 4294967294 is 10' 10 "$n10" --type request --topic x --nodeid 4294967294
-refuses "an event's second field is 10" 10 "$n10" --type event --topic x --second 1
+refuses '65 routes are 8' 8 "$n8 (there are 65 routes, and 64 may be)" --type request --topic x "${routes[@]}"
+refuses 'an empty topic is 9' 9 "$n9 (--topic is empty)" --type event --topic ''
+refuses 'a topic of 256 bytes is 9' 9 "$n9 (--topic has 256 bytes, and 255 may be)" --type event --topic "$(bytes 256)"
+refuses 'nodeid 4294967294 is 10' 10 "$n10 (--nodeid is 4294967294)" --type request --topic x --nodeid 4294967294
+refuses "an event's second field is 10" 10 "$n10 (--second is 1)" --type event --topic x --second 1
 run write --type event --topic '' -o "$room/none"
 [ "$status" -eq 1 ] && [ ! -e "$room/none" ]
 report $? 'a refusal makes no file'
@@ -315,7 +321,13 @@ wrong 'a number above 4 bytes' "not '4294967296'" write --type request --topic x
 wrong 'flags above one byte' "not '100'" write --type event --topic x --flags 100
 wrong "another type's field" '--errnum does not belong' write --type request --topic x --errnum 1
 wrong 'one field given twice' '--nodeid has already given' write --type request --topic x --nodeid 1 --first 2
-wrong 'two payloads' 'not both' write --type event --topic x --payload "$room/log" --payload-text x
+for words in request response event; do
+    wrong "no topic for a message of type $words" " $words needs --topic" write --type $words
+done
+one_payload='give one of --payload, --payload-text and --payload-json'
+wrong 'a payload and a text' "$one_payload" write --type event --topic x --payload "$room/log" --payload-text x
+wrong 'a payload and JSON' "$one_payload" write --type event --topic x --payload "$room/log" --payload-json '{}'
+wrong 'a text and JSON' "$one_payload" write --type event --topic x --payload-text x --payload-json '{}'
 wrong 'a payload that is not there' "cannot read $room/missing" write --type event --topic x --payload "$room/missing"
 wrong 'a frame that is not there' "cannot read $room/missing" dump "$room/missing"
 wrong 'a folder for a frame' "cannot read $room" dump "$room"

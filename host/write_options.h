@@ -31,6 +31,7 @@ struct write_options {
     size_t routes_length;
     const char *topic; /* here and below: NULL where not given */
     const char *payload_text;
+    const char *payload_json; /* the text, without the zero byte that goes behind it */
     const char *payload_file;
 };
 

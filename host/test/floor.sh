@@ -271,7 +271,7 @@ floor walk --enter 0 "$example" "$room/in"
 [ "$status" -eq 1 ] && [ ! -s "$room/out" ] && [ "$(cat "$room/err")" = "flux_floor: refused, 1: $n1" ]
 report $? 'a frame cut short is 1'
 floor walk --enter 0 "$example" --topic ''
-[ "$status" -eq 1 ] && [ ! -s "$room/out" ] && [ "$(cat "$room/err")" = "flux_floor: refused, 9: $n9" ]
+[ "$status" -eq 1 ] && [ ! -s "$room/out" ] && [ "$(cat "$room/err")" = "flux_floor: refused, 9: $n9 (--topic is empty)" ]
 report $? 'an empty topic is 9'
 
 # ---- usage
