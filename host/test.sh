@@ -1,7 +1,8 @@
 #!/usr/bin/env bash
 # Tests the host programs. flux_frame: the bytes of paper 01, each refusal that it can meet, files and
-# wrong usage; host/test/dump.sh has more of dump, host/test/capture.sh its captures of several frames, and
-# host/test/json.sh its payloads that are JSON or are not. flux_floor: host/test/floor.sh. The header:
+# wrong usage; host/test/dump.sh has more of dump, host/test/capture.sh its captures of several frames,
+# host/test/cut.sh what it writes to files, host/test/select.sh the frames that it selects or passes,
+# host/test/follow.sh captures that grow, and host/test/json.sh its payloads that are JSON or are not. flux_floor: host/test/floor.sh. The header:
 # host/test/header.sh. Then the list of a stream, the check of JSON, the step and the walk through it, the
 # examples of docs/C-GUIDE.md, and the stack that each call takes. The programs are FLUX_FRAME and
 # FLUX_FLOOR, or else what `make host` builds; the archive is ARCHIVE, or else the one of `make archive`.
@@ -296,6 +297,15 @@ dump_refuses "an event's unused field is 10" 10 "$n10" "$start 00 00 00 18 02 41
 # shellcheck source=host/test/capture.sh
 . host/test/capture.sh
 
+# shellcheck source=host/test/cut.sh
+. host/test/cut.sh
+
+# shellcheck source=host/test/select.sh
+. host/test/select.sh
+
+# shellcheck source=host/test/follow.sh
+. host/test/follow.sh
+
 # shellcheck source=host/test/json.sh
 . host/test/json.sh
 
@@ -304,6 +314,12 @@ dump_refuses "an event's unused field is 10" 10 "$n10" "$start 00 00 00 18 02 41
 helps run '--payload-text'
 helps run '--payload-text' write
 helps run '--frame-out FILE' dump
+helps run '--payload-json TEXT' write
+for words in '--type TYPE' '--topic PATTERN' '--service NAME' '--matchtag N' '--frames A-B' --errors --follow --skip-refused; do
+    helps run "$words" dump
+    sed 's/\\-/-/g;s/"//g;s/  */ /g' man/flux_frame.1 | grep -qxE "\.BI? $words"
+    report $? "$words is in the page of flux_frame"
+done
 helps run 'a route, in lower case' write
 helps run '  4  the verdict is no' dump
 wrong 'no command' 'flux_frame dump [OPTIONS] [FILE]'
