@@ -20,19 +20,20 @@ enum {
 
 int take_selection(struct selection *selection, struct words *words)
 {
-    if (word_is(words, "--type"))
-        return word_once(words, &selection->type);
-    if (word_is(words, "--topic"))
-        return word_once(words, &selection->topic);
-    if (word_is(words, "--service"))
-        return word_once(words, &selection->service);
-    if (word_is(words, "--matchtag"))
-        return word_once(words, &selection->matchtag);
-    if (word_is(words, "--frames"))
-        return word_once(words, &selection->frames);
-    if (word_is(words, "--errors"))
-        return word_flag(words, &selection->errors);
-    return NO_SUCH_OPTION;
+    const struct {
+        const char *name;
+        const char **value;
+    } known[] = {{"--type", &selection->type},
+                 {"--topic", &selection->topic},
+                 {"--service", &selection->service},
+                 {"--matchtag", &selection->matchtag},
+                 {"--frames", &selection->frames}};
+
+    for (size_t i = 0; i < sizeof known / sizeof known[0]; i++) {
+        if (word_is(words, known[i].name))
+            return word_once(words, known[i].value);
+    }
+    return word_is(words, "--errors") ? word_flag(words, &selection->errors) : NO_SUCH_OPTION;
 }
 
 int is_selective(const struct selection *selection)

@@ -1,6 +1,6 @@
 #!/usr/bin/env bash
 # Tests the host programs. flux_frame: the bytes of paper 01, each refusal that it can meet, files and
-# wrong usage; host/test/dump.sh has more of dump, host/test/capture.sh its captures of several frames,
+# wrong usage; host/test/write.sh has more of write, host/test/dump.sh of dump, host/test/capture.sh its captures of several frames,
 # host/test/cut.sh what it writes to files, host/test/select.sh the frames that it selects or passes,
 # host/test/follow.sh captures that grow, and host/test/json.sh its payloads that are JSON or are not. flux_floor: host/test/floor.sh. The header:
 # host/test/header.sh. Then the list of a stream, the check of JSON, the step and the walk through it, the
@@ -245,32 +245,8 @@ run dump "$room/piped"
 [ "$status" -eq 0 ] && grep -qxF "payload       2 bytes, from byte 13, not JSON: byte 0 of it, 68, $stands" "$room/out"
 report $? 'a payload from standard input'
 
-# ---- refusals of the writer
-
-refuses 'type 3 is 6' 6 "$n6 (there is no type 3)" --type-number 3
-refuses 'flag 80 is 6' 6 "$n6 (--flags 80: flag 80 is set)" --type control --flags 80
-refuses 'a control with a topic is 7' 7 "$n7 (a control message has no topic: leave out --topic)" --type control --topic x
-refuses 'a control with a payload is 7' 7 "$n7 (a control message has no payload: leave it out)" --type control --payload-text x
-refuses 'a control with a route is 7' 7 "$n7 (a control message has no route: leave out --route)" --type control --route $one
-refuses 'a raw request without a topic is 7' 7 "$n7 (--topic is missing)" --type-number 1
-refuses 'a request without a topic whose flags are given is 7' 7 "$n7 (--flags 08: a request or response has the flags topic and route)" --type request --flags 08
-refuses 'a request without a topic whose flags have one is 9' 9 "$n9 (--topic is missing)" --type request --flags 09
-refuses 'a payload without its flag is 7' 7 "$n7 (--flags 01: a part is given whose flag is not set)" --type event --topic x --flags 01 --payload-text x
-refuses 'a topic without its flag is 7' 7 "$n7 (--flags 00: an event has the flag topic and not the flag route)" --type event --topic x --flags 0x00
-refuses 'an event with a route is 7' 7 "$n7 (an event has no route: leave out --route)" --type event --topic x --route $one
-refuses 'a route in capitals is 8' 8 "$n8 (--route number 1 has 'A' as its character 36, not one of 0-9 and a-f)" --type request --topic x --route 00000000-0000-0000-0000-00000000000A
-refuses 'a short route is 8' 8 "$n8 (--route number 1 has 3 characters, not 36)" --type request --topic x --route abc
-refuses 'the second route is 8' 8 "$n8 (--route number 2 has 'x' as its character 9, not a hyphen)" --type request --topic x --route $one --route "${one/-/x}"
-routes=()
-for _ in $(seq 65); do routes+=(--route "$one"); done
-refuses '65 routes are 8' 8 "$n8 (there are 65 routes, and 64 may be)" --type request --topic x "${routes[@]}"
-refuses 'an empty topic is 9' 9 "$n9 (--topic is empty)" --type event --topic ''
-refuses 'a topic of 256 bytes is 9' 9 "$n9 (--topic has 256 bytes, and 255 may be)" --type event --topic "$(bytes 256)"
-refuses 'nodeid 4294967294 is 10' 10 "$n10 (--nodeid is 4294967294)" --type request --topic x --nodeid 4294967294
-refuses "an event's second field is 10" 10 "$n10 (--second is 1)" --type event --topic x --second 1
-run write --type event --topic '' -o "$room/none"
-[ "$status" -eq 1 ] && [ ! -e "$room/none" ]
-report $? 'a refusal makes no file'
+# shellcheck source=host/test/write.sh
+. host/test/write.sh
 
 # ---- refusals of the reader
 
@@ -315,11 +291,6 @@ helps run '--payload-text'
 helps run '--payload-text' write
 helps run '--frame-out FILE' dump
 helps run '--payload-json TEXT' write
-for words in '--type TYPE' '--topic PATTERN' '--service NAME' '--matchtag N' '--frames A-B' --errors --follow --skip-refused; do
-    helps run "$words" dump
-    sed 's/\\-/-/g;s/"//g;s/  */ /g' man/flux_frame.1 | grep -qxE "\.BI? $words"
-    report $? "$words is in the page of flux_frame"
-done
 helps run 'a route, in lower case' write
 helps run '  4  the verdict is no' dump
 wrong 'no command' 'flux_frame dump [OPTIONS] [FILE]'
@@ -337,13 +308,6 @@ wrong 'a number above 4 bytes' "not '4294967296'" write --type request --topic x
 wrong 'flags above one byte' "not '100'" write --type event --topic x --flags 100
 wrong "another type's field" '--errnum does not belong' write --type request --topic x --errnum 1
 wrong 'one field given twice' '--nodeid has already given' write --type request --topic x --nodeid 1 --first 2
-for words in request response event; do
-    wrong "no topic for a message of type $words" " $words needs --topic" write --type $words
-done
-one_payload='give one of --payload, --payload-text and --payload-json'
-wrong 'a payload and a text' "$one_payload" write --type event --topic x --payload "$room/log" --payload-text x
-wrong 'a payload and JSON' "$one_payload" write --type event --topic x --payload "$room/log" --payload-json '{}'
-wrong 'a text and JSON' "$one_payload" write --type event --topic x --payload-text x --payload-json '{}'
 wrong 'a payload that is not there' "cannot read $room/missing" write --type event --topic x --payload "$room/missing"
 wrong 'a frame that is not there' "cannot read $room/missing" dump "$room/missing"
 wrong 'a folder for a frame' "cannot read $room" dump "$room"

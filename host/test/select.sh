@@ -209,3 +209,11 @@ stops 'a refused frame across the 1,048,576th byte' 1 '33 frames, 1 refused and 
 for _ in $(seq 100); do cat "$room/nine" "$room/log"; done >"$room/hundred"
 for _ in $(seq 400); do cat "$room/hundred"; done >"$room/in"
 stops '40,000 of them' 1 '40000 frames, 40000 refused and passed, 2640000 bytes, and nothing behind them' --skip-refused --summary "$room/in"
+
+# ---- help and page
+
+for words in '--type TYPE' '--topic PATTERN' '--service NAME' '--matchtag N' '--frames A-B' --errors --follow --skip-refused; do
+    helps run "$words" dump
+    sed 's/\\-/-/g;s/"//g;s/  */ /g' man/flux_frame.1 | grep -qxE "\.BI? $words"
+    report $? "$words is in the page of flux_frame"
+done
