@@ -8,6 +8,7 @@
 #include "capture.h"
 #include "explain.h"
 #include "split.h"
+#include "dump_options.h"
 #include "dump_verdict.h"
 #include "lampreycoil.h"
 
@@ -21,6 +22,14 @@ struct fields {
     uint32_t second;
 };
 
+/* What was counted on the way through a capture. */
+struct tally {
+    unsigned long long accepted;
+    unsigned long long asked;    /* of these, about which the options ask */
+    unsigned long long selected; /* of these, shown or written */
+    unsigned long long passed;   /* refused, and passed by their own length */
+};
+
 /* A frame, and what the library said of it. */
 struct dump {
     struct frame frame;
@@ -29,22 +38,48 @@ struct dump {
     struct verdict verdict;                  /* where it has a payload, too */
     struct split split;                      /* here and below: where it was refused */
     char reason[REASON_ROOM];
-    int all;    /* show all bytes of the payload */
+    int selected;                       /* it is accepted, and to be shown */
+    int passed;                         /* it was refused and passed: its length is its own */
+    int range_ended;                    /* no frame: --frames ends here */
+    struct tally tally;                 /* with this one */
+    const struct dump_options *options; /* what was asked for */
+    int all;                            /* show all bytes of the payload */
     int placed; /* show which frame it is, and where in the capture: not for a single one */
 };
 
 /* Why no more frames of a capture are shown: what stands behind the last whole one. */
 enum stop {
-    STOP_END,    /* nothing */
-    STOP_TORN,   /* the beginning of a frame */
-    STOP_REFUSED /* a frame that is refused, or fewer than FRONT bytes that begin none */
+    STOP_END,        /* nothing */
+    STOP_TORN,       /* the beginning of a frame */
+    STOP_REFUSED,    /* a frame that is refused, or fewer than FRONT bytes that begin none */
+    STOP_RANGE,      /* nobody looked: --frames ends here */
+    STOP_INTERRUPTED /* nobody looked: SIGINT ended --follow */
 };
 
-/* The stop, where what was looked at is no whole frame. */
+/*
+ * Goes on to the next frame, or to what stands in its place, and has the library look at it. Counts
+ * it. Returns 0, or has said what is wrong.
+ */
+int look_at_next(struct capture *capture, struct dump *dump);
+
+/* Whether no more frames follow what was looked at; and why, where that is so. */
+int at_stop(const struct dump *dump);
 enum stop stop_of(const struct dump *dump);
 
+/*
+ * Where the next frame would begin, to *next, as far as anything tells it: behind what was looked
+ * at, or, where that was refused, behind that by its own front. Returns whether it is told.
+ */
+int next_begins(const struct dump *dump, unsigned long long *next);
+
+/* Whether it ended with a frame that is torn or refused, or with none accepted at all. */
+int is_broken_off(const struct dump *dump);
+
+/* The exit status for all of what was looked at, once it has come to the stop. */
+int stop_status(const struct dump *dump);
+
 /* Room for the line that tells it. */
-enum { STOP_ROOM = REASON_ROOM + 400 };
+enum { STOP_ROOM = REASON_ROOM + 600 };
 
 /* The number at an index of the record. */
 uint32_t dumped(const struct dump *dump, size_t index);
@@ -68,12 +103,25 @@ void show_payload(const struct dump *dump);
 void show_text(const struct dump *dump);
 void show_json(const struct dump *dump);
 
-/* A whole frame in one line. */
+/* A frame in one line: a whole one, and one that was refused and passed. */
 void show_summary(const struct dump *dump);
+void show_passed(const struct dump *dump);
 
 /* How many frames there were, and why no more: in words, as a line of text, and for a machine. */
 void tell_stop(const struct dump *dump, char text[STOP_ROOM]);
 void show_stop(const struct dump *dump);
 void show_json_stop(const struct dump *dump);
+
+/*
+ * Writes the one frame that was looked at to the files that the options name, and shows nothing.
+ * Returns the exit status, and has said what is wrong.
+ */
+int write_one(const struct dump *dump);
+
+/* The same for the one frame of a capture that the options select: there has to be just one. */
+int write_selected(struct capture *capture, struct dump *dump);
+
+/* Says on standard error that the frame that was looked at is refused. */
+void tell_refused(const struct dump *dump);
 
 #endif

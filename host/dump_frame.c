@@ -2,231 +2,192 @@
 
 #include "commands.h"
 #include "dump.h"
-#include "dump_options.h"
 #include "files.h"
+#include "progress.h"
 
-uint32_t dumped(const struct dump *dump, size_t index)
+static void show_form(const struct dump *dump)
 {
-    return lampreycoil_number(dump->record, index);
-}
-
-struct fields fields_at(const uint8_t *header)
-{
-    struct fields fields = {header[2],
-                            header[3],
-                            number_at(header + 4),
-                            number_at(header + 8),
-                            number_at(header + 12),
-                            number_at(header + 16)};
-
-    return fields;
-}
-
-size_t delimiter_start(const struct dump *dump)
-{
-    return FRONT + 1 + (size_t)dumped(dump, LAMPREYCOIL_READ_ROUTES) * LAMPREYCOIL_ROUTE_STEP;
-}
-
-size_t header_start(const struct dump *dump)
-{
-    return dumped(dump, LAMPREYCOIL_READ_TOOK) - HEADER;
-}
-
-int has_payload(const struct dump *dump)
-{
-    return (dumped(dump, LAMPREYCOIL_READ_FLAGS) & LAMPREYCOIL_PAYLOAD) != 0;
-}
-
-const uint8_t *payload_bytes(const struct dump *dump)
-{
-    return dump->frame.bytes + dumped(dump, LAMPREYCOIL_READ_PAYLOAD_START);
-}
-
-size_t payload_length(const struct dump *dump)
-{
-    return dumped(dump, LAMPREYCOIL_READ_PAYLOAD_LENGTH);
-}
-
-enum stop stop_of(const struct dump *dump)
-{
-    const struct frame *frame = &dump->frame;
-
-    if (dump->refusal != LAMPREYCOIL_INPUT_SHORT || !may_begin(frame->bytes, frame->length))
-        return STOP_REFUSED;
-    return frame->length == 0 ? STOP_END : STOP_TORN;
-}
-
-/* Goes on to the next frame, or to what stands in its place, and has the library look at it. */
-static int look_at_next(struct capture *capture, struct dump *dump)
-{
-    const struct frame *frame = &dump->frame;
-    int status = next_frame(capture, &dump->frame);
-
-    if (status != 0)
-        return status;
-    dump->refusal =
-        lampreycoil_read(frame->bytes, frame->length, dump->record, sizeof dump->record);
-    if (dump->refusal == LAMPREYCOIL_OK)
-        return has_payload(dump)
-                   ? judge_payload(payload_bytes(dump), payload_length(dump), &dump->verdict)
-                   : 0;
-    if (frame->length >= FRONT)
-        split_frame(frame->bytes, frame->length, &dump->split);
-    explain(dump->refusal, frame->bytes, frame->length, &dump->split, dump->reason);
-    return 0;
-}
-
-static int write_payload(const struct dump *dump, const char *name)
-{
-    if (!has_payload(dump))
-        return trouble("the frame has no payload to write to %s", output_name(name));
-    return write_all(name, payload_bytes(dump), payload_length(dump));
-}
-
-/* The payload goes first: where there is none, nothing is written. */
-static int write_bytes(const struct dump *dump, const struct dump_options *options)
-{
-    int status = 0;
-
-    if (options->payload_out != NULL)
-        status = write_payload(dump, options->payload_out);
-    if (status == 0 && options->frame_out != NULL)
-        status = write_all(options->frame_out, dump->frame.bytes, dump->frame.length);
-    return status;
-}
-
-static void show(const struct dump *dump, const struct dump_options *options)
-{
-    if (options->json)
+    if (dump->options->json)
         show_json(dump);
-    else if (!options->summary)
+    else if (!dump->options->summary)
         show_text(dump);
     else if (dump->frame.whole)
         show_summary(dump);
+    else if (dump->passed)
+        show_passed(dump);
     else
         show_stop(dump);
 }
 
-/* Shows the one frame that was looked at. */
-static int dump_one(const struct dump *dump, const struct dump_options *options)
+/* Shows what was looked at. Returns 0, or has said what is wrong. */
+static int show(struct dump *dump)
+{
+    int status = 0;
+
+    if (dump->refusal == LAMPREYCOIL_OK && has_payload(dump))
+        status = judge_payload(payload_bytes(dump), payload_length(dump), &dump->verdict);
+    clear_progress();
+    if (status == 0)
+        show_form(dump);
+    return status;
+}
+
+/* Shows one of several: as text, with an empty line behind it. */
+static int show_one_of(struct dump *dump)
+{
+    int status = show(dump);
+
+    if (status == 0 && !dump->options->json && !dump->options->summary)
+        putchar('\n');
+    return status;
+}
+
+/* Shows the one frame that was looked at, or writes it. */
+static int dump_one(struct dump *dump)
 {
     int status;
 
-    if (dump->refusal == LAMPREYCOIL_OK) {
-        status = write_bytes(dump, options);
-        if (status != 0 || bytes_only(options) != NULL)
-            return status;
-    }
-    /* Of a refused frame nothing is written, so the reason is all that there is for anybody. */
-    if (bytes_only(options) != NULL)
-        trouble("refused, %lu: %s (%s)", (unsigned long)dump->refusal,
-                lampreycoil_refusal_words(dump->refusal), dump->reason);
-    else
-        show(dump, options);
-    if ((status = flush_output()) != 0)
+    if (writes_bytes(dump->options) != NULL)
+        return write_one(dump);
+    status = show(dump);
+    if (status == 0)
+        status = flush_output();
+    if (status != 0)
         return status;
-    return dump->refusal == LAMPREYCOIL_OK ? EXIT_DONE : EXIT_REFUSED;
+    return dump->refusal == LAMPREYCOIL_OK && dump->tally.passed == 0 ? EXIT_DONE : EXIT_REFUSED;
 }
 
 /* Says why there is no such frame. */
-static int not_there(const struct dump *dump, uint32_t number)
+static int not_there(const struct dump *dump)
 {
+    unsigned long number = dump->options->frame;
     char text[STOP_ROOM];
 
     if (dump->frame.number == 0 && stop_of(dump) == STOP_END)
-        return trouble("there is no frame %lu: the capture is empty", (unsigned long)number);
+        return trouble("there is no frame %lu: the capture is empty", number);
     tell_stop(dump, text);
-    return trouble("there is no frame %lu (the first is frame 0): %s", (unsigned long)number, text);
+    return trouble("there is no frame %lu (the first is frame 0): %s", number, text);
+}
+
+/* Tells of a frame in front of the one that --frame names: only one that is passed is shown. */
+static int tell_before(struct dump *dump)
+{
+    if (!dump->passed)
+        return 0;
+    if (writes_bytes(dump->options) == NULL)
+        return show_one_of(dump);
+    tell_refused(dump);
+    return 0;
 }
 
 /* Shows the frame that --frame names, which may be the one that is refused. */
-static int dump_named(struct capture *capture, struct dump *dump,
-                      const struct dump_options *options)
+static int dump_named(struct capture *capture, struct dump *dump)
 {
+    uint32_t named = dump->options->frame;
     int status;
 
-    do
-        status = look_at_next(capture, dump);
-    while (status == 0 && dump->frame.whole && dump->frame.number < options->frame);
+    dump->placed = 1;
+    while ((status = look_at_next(capture, dump)) == 0 && !at_stop(dump) &&
+           dump->frame.number < named) {
+        if ((status = tell_before(dump)) != 0)
+            return status;
+    }
     if (status != 0)
         return status;
-    if (!dump->frame.whole && (dump->frame.number < options->frame || stop_of(dump) == STOP_END))
-        return not_there(dump, options->frame);
-    dump->placed = 1;
-    return dump_one(dump, options);
+    if (at_stop(dump) && (dump->frame.number < named || stop_of(dump) == STOP_END ||
+                          stop_of(dump) == STOP_INTERRUPTED))
+        return not_there(dump);
+    return dump_one(dump);
 }
 
 /* Shows what no whole frame is, if anything, and why no more are shown. */
-static void show_rest(const struct dump *dump, const struct dump_options *options)
+static int show_rest(struct dump *dump)
 {
-    if (stop_of(dump) != STOP_END && !options->summary) {
-        show(dump, options);
-        if (!options->json)
-            putchar('\n');
-    }
-    if (options->json)
+    enum stop stop = stop_of(dump);
+    int status = 0;
+
+    if ((stop == STOP_TORN || stop == STOP_REFUSED) && !dump->options->summary)
+        status = show_one_of(dump);
+    clear_progress();
+    if (dump->options->json)
         show_json_stop(dump);
     else
         show_stop(dump);
+    return status == 0 ? flush_output() : status;
 }
 
-/* Shows all frames, as text with an empty line behind each, and then the stop. */
-static int dump_all(struct capture *capture, struct dump *dump, const struct dump_options *options)
+/* Shows all frames that are selected or refused, and then the stop. */
+static int dump_all(struct capture *capture, struct dump *dump)
 {
     int status;
 
     dump->placed = 1;
     /* Where nobody reads on, nothing more is shown. */
-    while ((status = look_at_next(capture, dump)) == 0 && dump->frame.whole && !ferror(stdout)) {
-        show(dump, options);
-        if (!options->json && !options->summary)
-            putchar('\n');
+    while ((status = look_at_next(capture, dump)) == 0 && !at_stop(dump) && !ferror(stdout)) {
+        if (dump->selected || dump->passed)
+            status = show_one_of(dump);
+        /* Before anything is waited for, all is shown that there is. */
+        if (status == 0 && dump->options->follow && !in_sight(capture))
+            status = flush_output();
+        if (status != 0)
+            return status;
     }
-    if (status != 0)
-        return status;
-    if (!dump->frame.whole)
-        show_rest(dump, options);
-    if ((status = flush_output()) != 0)
-        return status;
-    /* No frame at all is a refusal too, as it is of lampreycoil_read. */
-    return stop_of(dump) == STOP_END && dump->frame.number > 0 ? EXIT_DONE : EXIT_REFUSED;
+    if (status == 0)
+        status = ferror(stdout) ? flush_output() : show_rest(dump);
+    return status == 0 ? stop_status(dump) : status;
 }
 
 /* A single frame is shown as such: it needs neither number nor place. */
-static int dump_asked(struct capture *capture, struct dump *dump,
-                      const struct dump_options *options)
+static int dump_asked(struct capture *capture, struct dump *dump)
 {
+    const struct dump_options *options = dump->options;
+    const char *writes = writes_bytes(options);
     int status;
 
     if (options->frame_text != NULL)
-        return dump_named(capture, dump, options);
-    if (options->summary || !is_single(capture)) {
-        if (options->payload_out != NULL || options->frame_out != NULL)
+        return dump_named(capture, dump);
+    if (is_selective(&options->selection) || options->skip_refused)
+        return writes != NULL ? write_selected(capture, dump) : dump_all(capture, dump);
+    if (options->summary || options->follow || !is_single(capture)) {
+        if (writes != NULL)
             return trouble("%s is for one frame, and more follows the first: name one by --frame",
-                           options->payload_out != NULL ? "--payload-out" : "--frame-out");
-        return dump_all(capture, dump, options);
+                           writes);
+        return dump_all(capture, dump);
     }
     status = look_at_next(capture, dump);
-    return status == 0 ? dump_one(dump, options) : status;
+    return status == 0 ? dump_one(dump) : status;
+}
+
+static int open_asked(struct capture *capture, const struct dump_options *options)
+{
+    int status = 0;
+
+    if (options->payload_out != NULL)
+        status = check_apart(options->payload_out, options->file, "capture");
+    if (status == 0 && options->frame_out != NULL)
+        status = check_apart(options->frame_out, options->file, "capture");
+    if (status != 0)
+        return status;
+    return (options->follow ? follow_capture : open_capture)(capture, options->file);
 }
 
 int command_dump(int count, char **words)
 {
     static struct capture capture;
     static struct dump dump;
-    struct dump_options options = {0};
+    static struct dump_options options;
 
     int status = read_dump_options(&options, count, words);
-    if (status == 0 && options.payload_out != NULL)
-        status = check_apart(options.payload_out, options.file, "capture");
-    if (status == 0 && options.frame_out != NULL)
-        status = check_apart(options.frame_out, options.file, "capture");
     if (status == 0)
-        status = open_capture(&capture, options.file);
+        status = open_asked(&capture, &options);
     if (status != 0)
         return status;
+    dump.options = &options;
     dump.all = options.all;
-    status = dump_asked(&capture, &dump, &options);
+    if (!options.follow)
+        start_progress(capture.input.stream);
+    status = dump_asked(&capture, &dump);
+    clear_progress();
     close_capture(&capture);
     return status;
 }

@@ -203,7 +203,7 @@ static void put_refused(const struct dump *dump)
 
 /*
  * Which frame it is, or else how long the input; both of a refused frame, as far as that is known:
- * its input begins with it.
+ * its input begins with it. One that was passed is as long as its front says.
  */
 static void put_place(const struct dump *dump)
 {
@@ -212,7 +212,7 @@ static void put_place(const struct dump *dump)
         put_number("start", dump->frame.start);
     }
     if (!dump->placed || !dump->frame.whole)
-        put_number("input", dump->frame.length);
+        put_number(dump->passed ? "frame" : "input", dump->frame.length);
     if (dump->frame.more) {
         json_name("more");
         json_bool(1);
@@ -233,20 +233,34 @@ void show_json(const struct dump *dump)
     json_end();
 }
 
+/* The number that is told of a stop, or null. */
+static void put_told(const char *name, int told, unsigned long long number)
+{
+    json_name(name);
+    if (told)
+        json_number(number);
+    else
+        json_null();
+}
+
 void show_json_stop(const struct dump *dump)
 {
-    static const char *const names[] = {"end", "torn", "refused"};
+    static const char *const names[] = {"end", "torn", "refused", "range", "interrupted"};
+    const struct tally *tally = &dump->tally;
     enum stop stop = stop_of(dump);
+    unsigned long long next;
+    int told = next_begins(dump, &next);
 
     json_open('{');
     put_text("stop", names[stop]);
-    put_number("frames", dump->frame.number);
+    put_number("frames", tally->accepted);
     put_number("bytes", dump->frame.start);
-    json_name("refusal");
-    if (stop == STOP_END)
-        json_null();
-    else
-        json_number(dump->refusal);
+    put_told("refusal", stop == STOP_TORN || stop == STOP_REFUSED, dump->refusal);
+    put_number("shown", tally->selected);
+    put_number("refused", tally->passed + (stop == STOP_REFUSED ? 1 : 0));
+    put_told("next", told, next);
+    if (dump->options->selection.errors)
+        put_number("responses", tally->asked);
     json_close('}');
     json_end();
 }

@@ -4,6 +4,8 @@
 
 #include <stdint.h>
 
+#include "dump_select.h"
+
 struct dump_options {
     const char *file; /* here and below: NULL where not given */
     const char *payload_out;
@@ -13,15 +15,18 @@ struct dump_options {
     int all;
     int json;
     int summary;
+    int follow;
+    int skip_refused;
+    struct selection selection; /* with --frame in it, where any of its own options is given */
 };
 
 /* Takes the words. Returns 0, EXIT_SHOWN, or has said what is wrong. */
 int read_dump_options(struct dump_options *options, int count, char **words);
 
 /*
- * The option by which bytes go to standard output, where they leave no place for anything else;
- * NULL where there is none.
+ * The option by which a frame's bytes are written to a file, and nothing is shown; NULL where there
+ * is none.
  */
-const char *bytes_only(const struct dump_options *options);
+const char *writes_bytes(const struct dump_options *options);
 
 #endif

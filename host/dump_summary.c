@@ -36,19 +36,48 @@ void show_summary(const struct dump *dump)
     putchar('\n');
 }
 
-/* Room for the words below, with the longest number. */
-enum { NEXT_ROOM = 100 };
+void show_passed(const struct dump *dump)
+{
+    printf("frame %-7llu %5zu bytes, from byte %-9llu %-8s  %lu: %s (%s)\n", dump->frame.number,
+           dump->frame.length, dump->frame.start, "refused", (unsigned long)dump->refusal,
+           lampreycoil_refusal_words(dump->refusal), dump->reason);
+}
 
-/*
- * Where the next frame would begin. Only of 4 to 10 is there anything to say: the start was right
- * and the whole body is there, so the front may be right where the rest of the frame is not.
- */
+/* Room for the words of each of the two below, with the longest numbers. */
+enum { NEXT_ROOM = 100, COUNT_PART = 80, COUNT_ROOM = 4 * COUNT_PART };
+
+/* Where the frame behind a refused one would begin. */
 static const char *tell_next(const struct dump *dump, char text[NEXT_ROOM])
 {
+    unsigned long long next;
+
     text[0] = '\0';
-    if (dump->refusal >= LAMPREYCOIL_PART_WRONG && dump->refusal <= LAMPREYCOIL_FIELD_WRONG)
-        snprintf(text, NEXT_ROOM, "; by its front the next one would begin at byte %llu",
-                 dump->frame.start + FRONT + dump->split.body);
+    if (next_begins(dump, &next))
+        snprintf(text, NEXT_ROOM, "; by its front the next one would begin at byte %llu", next);
+    return text;
+}
+
+/* How many frames there were, and how many of them were what. */
+static const char *tell_counts(const struct dump *dump, char text[COUNT_ROOM])
+{
+    const struct selection *selection = &dump->options->selection;
+    const struct tally *tally = &dump->tally;
+    const char *selected = !is_selective(selection)              ? ""
+                           : writes_bytes(dump->options) == NULL ? " shown"
+                                                                 : " selected";
+    char shown[COUNT_PART] = "", errors[COUNT_PART] = "", passed[COUNT_PART] = "";
+
+    if (is_selective(selection))
+        snprintf(shown, sizeof shown, "%llu of ", tally->selected);
+    if (selection->errors && tally->asked == 0)
+        snprintf(errors, sizeof errors, ", no response to look at");
+    else if (selection->errors)
+        snprintf(errors, sizeof errors, ", errors in %llu of %llu response%s", tally->selected,
+                 tally->asked, plural(tally->asked));
+    if (tally->passed > 0)
+        snprintf(passed, sizeof passed, ", %llu refused and passed", tally->passed);
+    snprintf(text, COUNT_ROOM, "%s%llu frame%s%s%s%s, %llu bytes", shown, tally->accepted,
+             plural(tally->accepted), selected, errors, passed, dump->frame.start);
     return text;
 }
 
@@ -56,21 +85,24 @@ void tell_stop(const struct dump *dump, char text[STOP_ROOM])
 {
     unsigned long long number = dump->frame.number, start = dump->frame.start;
     enum stop stop = stop_of(dump);
-    char next[NEXT_ROOM];
+    char counts[COUNT_ROOM], next[NEXT_ROOM];
 
+    tell_counts(dump, counts);
     if (stop == STOP_END && number == 0)
         snprintf(text, STOP_ROOM, "no frame: the capture is empty");
     else if (stop == STOP_END)
-        snprintf(text, STOP_ROOM, "%llu frame%s, %llu bytes, and nothing behind %s", number,
-                 plural(number), start, number == 1 ? "it" : "them");
+        snprintf(text, STOP_ROOM, "%s, and nothing behind %s", counts, number == 1 ? "it" : "them");
+    else if (stop == STOP_RANGE)
+        snprintf(text, STOP_ROOM, "%s; no more was asked for: what is behind was not looked at",
+                 counts);
+    else if (stop == STOP_INTERRUPTED)
+        snprintf(text, STOP_ROOM, "%s; interrupted: what is behind was not looked at", counts);
     else if (stop == STOP_TORN)
-        snprintf(text, STOP_ROOM,
-                 "%llu frame%s, %llu bytes; frame %llu, from byte %llu, is torn: %s", number,
-                 plural(number), start, number, start, dump->reason);
+        snprintf(text, STOP_ROOM, "%s; frame %llu, from byte %llu, is torn: %s", counts, number,
+                 start, dump->reason);
     else
-        snprintf(text, STOP_ROOM,
-                 "%llu frame%s, %llu bytes; frame %llu, from byte %llu, is refused, %lu: %s (%s)%s",
-                 number, plural(number), start, number, start, (unsigned long)dump->refusal,
+        snprintf(text, STOP_ROOM, "%s; frame %llu, from byte %llu, is refused, %lu: %s (%s)%s",
+                 counts, number, start, (unsigned long)dump->refusal,
                  lampreycoil_refusal_words(dump->refusal), dump->reason, tell_next(dump, next));
 }
 

@@ -180,8 +180,12 @@ static void print_input(const struct dump *dump)
 
     if (dump->placed) {
         print_frame_number(dump);
+        if (dump->passed)
+            printf("%zu bytes by its front, ", length);
         printf("from byte %llu of the capture\n", dump->frame.start);
     }
+    if (dump->passed)
+        return;
     printf(NAME "%zu byte%s%s%s\n", "input", length, plural(length),
            dump->placed ? " from there on" : "", dump->frame.more ? ", and more behind them" : "");
 }

@@ -64,7 +64,7 @@ int judge_payload(const uint8_t *payload, size_t length, struct verdict *verdict
 
 const char *verdict_words(enum verdict_kind kind)
 {
-    static const char *const words[] = {"JSON", "no JSON", "too deep for JSON"};
+    static const char *const words[] = {"JSON", "not JSON", "too deep for JSON"};
 
     return words[kind];
 }

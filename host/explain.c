@@ -77,8 +77,7 @@ static void explain_header(const uint8_t *bytes, const struct split *split, char
         say(reason, "flag 80 is set");
 }
 
-/* What a type asks of the flags topic, payload and route. */
-static const char *flags_broken(uint8_t type, uint8_t flags)
+const char *flags_broken(uint8_t type, uint8_t flags)
 {
     int topic = (flags & LAMPREYCOIL_TOPIC) != 0, route = (flags & LAMPREYCOIL_ROUTE) != 0;
 
@@ -117,12 +116,12 @@ static void explain_parts(const uint8_t *bytes, const struct split *split, char 
         split->count, plural(split->count), asked);
 }
 
-/* What should stand at this place of a route. */
-static const char *route_place(size_t i)
+const char *route_place(size_t place)
 {
-    if (i == LAMPREYCOIL_ROUTE_SIZE - 1)
+    if (place == LAMPREYCOIL_ROUTE_SIZE - 1)
         return "a zero byte";
-    return i == 8 || i == 13 || i == 18 || i == 23 ? "a hyphen" : "one of 0-9 and a-f";
+    return place == 8 || place == 13 || place == 18 || place == 23 ? "a hyphen"
+                                                                   : "one of 0-9 and a-f";
 }
 
 static int route_byte_good(size_t i, uint8_t byte)
@@ -134,22 +133,29 @@ static int route_byte_good(size_t i, uint8_t byte)
     return (byte >= '0' && byte <= '9') || (byte >= 'a' && byte <= 'f');
 }
 
+size_t wrong_in_route(const uint8_t *route)
+{
+    size_t place = 0;
+
+    while (place < LAMPREYCOIL_ROUTE_SIZE && route_byte_good(place, route[place]))
+        place++;
+    return place;
+}
+
 /* Says what is wrong with a route, if anything is. */
 static int explain_route(const uint8_t *bytes, size_t index, const struct part *part, char *reason)
 {
-    size_t i = 0;
+    size_t place;
 
     if (part->length != LAMPREYCOIL_ROUTE_SIZE) {
         say(reason, "route %zu, from byte %zu, has the length %zu, not 37", index, part->start,
             part->length);
         return 1;
     }
-    while (i < part->length && route_byte_good(i, bytes[part->start + i]))
-        i++;
-    if (i == part->length)
+    if ((place = wrong_in_route(bytes + part->start)) == part->length)
         return 0;
     say(reason, "route %zu, from byte %zu, has %02X at byte %zu, not %s", index, part->start,
-        bytes[part->start + i], part->start + i, route_place(i));
+        bytes[part->start + place], part->start + place, route_place(place));
     return 1;
 }
 

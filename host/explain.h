@@ -16,6 +16,16 @@ enum { REASON_ROOM = 200 };
 void explain(uint32_t refusal, const uint8_t *bytes, size_t length, const struct split *split,
              char reason[REASON_ROOM]);
 
+/* What the flags topic, payload and route have against a type; NULL where they agree with it. */
+const char *flags_broken(uint8_t type, uint8_t flags);
+
+/*
+ * The first of the LAMPREYCOIL_ROUTE_SIZE bytes of a route that is wrong, or their number where
+ * none is; and what should stand at such a place.
+ */
+size_t wrong_in_route(const uint8_t *route);
+const char *route_place(size_t place);
+
 /* How many bytes the frame takes, as far as is known: FRONT, or FRONT and the body. */
 unsigned long long bytes_needed(size_t length, const struct split *split);
 

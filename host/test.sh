@@ -1,8 +1,10 @@
 #!/usr/bin/env bash
 # Tests the host programs. flux_frame: the bytes of paper 01, each refusal that it can meet, files and
-# wrong usage; host/test/dump.sh has more of dump, host/test/capture.sh its captures of several frames, and
-# host/test/json.sh its payloads that are JSON or are not. flux_floor: host/test/floor.sh, which names
-# those beside it. The header: host/test/header.sh. Then the list of a stream, the check of JSON, the step and the walk through it, the
+# wrong usage; host/test/write.sh has more of write, host/test/dump.sh of dump, host/test/capture.sh its
+# captures of several frames, host/test/cut.sh what it writes to files, host/test/select.sh the frames that
+# it selects or passes, host/test/follow.sh captures that grow, and host/test/json.sh its payloads that are
+# JSON or are not. flux_floor: host/test/floor.sh, which names those beside it, and host/test/audit.sh. The
+# header: host/test/header.sh. Then the list of a stream, the check of JSON, the step and the walk through it, the
 # examples of docs/C-GUIDE.md, and the stack that each call takes. The programs are FLUX_FRAME and
 # FLUX_FLOOR, or else what `make host` builds; the archive is ARCHIVE, or else the one of `make archive`.
 # The last line is 'N passed, M failed'.
@@ -182,9 +184,9 @@ run write --type request --topic log --matchtag 1 --payload "$room/most"
 report $? 'log with 32,736 bytes of payload is written'
 cp "$room/out" "$room/most.frame"
 run dump "$room/most.frame"
-[ "$status" -eq 0 ] && grep -qxF "payload       32736 bytes, from byte 19, no JSON: byte 0 of it, 78, $stands" "$room/out" && grep -qx ' *32672 bytes more (--all shows all)' "$room/out"
+[ "$status" -eq 0 ] && grep -qxF "payload       32736 bytes, from byte 19, not JSON: byte 0 of it, 78, $stands" "$room/out" && grep -qx ' *32672 bytes more (--all shows all)' "$room/out"
 report $? 'log with 32,736 bytes of payload is read'
-refuses 'log with 32,737 bytes of payload is 3' 3 "$n3" --type request --topic log --matchtag 1 --payload "$room/over"
+refuses 'log with 32,737 bytes of payload is 3' 3 "$n3 (with a payload of 32737 bytes the body has 32769)" --type request --topic log --matchtag 1 --payload "$room/over"
 
 # The size of a payload of 254 and of 255 bytes, which stands behind the topic, at byte 14.
 run write --type request --topic log --payload-text "$(bytes 254)"
@@ -217,7 +219,7 @@ routes        2 (top of the stack first)
   1           $one, from byte 47
 delimiter     0 bytes, from byte 85
 topic         \"kvs.\\\"get\" (8 bytes), from byte 86
-payload       2 bytes, from byte 96, no JSON: byte 0 of it, 68, $stands
+payload       2 bytes, from byte 96, not JSON: byte 0 of it, 68, $stands
   0000        68 69                                            |hi|
               ^^                                                ^
 header        20 bytes, from byte 99"
@@ -237,33 +239,15 @@ sequence      5
 unused        0
 routes        0
 topic         "up\xFF" (3 bytes), from byte 9
-payload       0 bytes, from byte 14, no JSON: it is empty
+payload       0 bytes, from byte 14, not JSON: it is empty
 header        20 bytes, from byte 15'
 printf hi | "$FLUX_FRAME" write --type event --topic up --payload - -o "$room/piped"
 run dump "$room/piped"
-[ "$status" -eq 0 ] && grep -qxF "payload       2 bytes, from byte 13, no JSON: byte 0 of it, 68, $stands" "$room/out"
+[ "$status" -eq 0 ] && grep -qxF "payload       2 bytes, from byte 13, not JSON: byte 0 of it, 68, $stands" "$room/out"
 report $? 'a payload from standard input'
 
-# ---- refusals of the writer
-
-refuses 'type 3 is 6' 6 "$n6" --type-number 3
-refuses 'flag 80 is 6' 6 "$n6" --type control --flags 80
-refuses 'a control with a topic is 7' 7 "$n7" --type control --topic x
-refuses 'a request without a topic is 7' 7 "$n7" --type request
-refuses 'a topic without its flag is 7' 7 "$n7" --type event --topic x --flags 0x00
-refuses 'an event with a route is 7' 7 "$n7" --type event --topic x --route $one
-refuses 'a route in capitals is 8' 8 "$n8" --type request --topic x --route 00000000-0000-0000-0000-00000000000A
-refuses 'a short route is 8' 8 "$n8" --type request --topic x --route abc
-routes=()
-for _ in $(seq 65); do routes+=(--route "$one"); done
-refuses '65 routes are 8' 8 "$n8" --type request --topic x "${routes[@]}"
-refuses 'an empty topic is 9' 9 "$n9" --type event --topic ''
-refuses 'a topic of 256 bytes is 9' 9 "$n9" --type event --topic "$(bytes 256)"
-refuses 'nodeid 4294967294 is 10' 10 "$n10" --type request --topic x --nodeid 4294967294
-refuses "an event's second field is 10" 10 "$n10" --type event --topic x --second 1
-run write --type event --topic '' -o "$room/none"
-[ "$status" -eq 1 ] && [ ! -e "$room/none" ]
-report $? 'a refusal makes no file'
+# shellcheck source=host/test/write.sh
+. host/test/write.sh
 
 # ---- refusals of the reader
 
@@ -290,6 +274,15 @@ dump_refuses "an event's unused field is 10" 10 "$n10" "$start 00 00 00 18 02 41
 # shellcheck source=host/test/capture.sh
 . host/test/capture.sh
 
+# shellcheck source=host/test/cut.sh
+. host/test/cut.sh
+
+# shellcheck source=host/test/select.sh
+. host/test/select.sh
+
+# shellcheck source=host/test/follow.sh
+. host/test/follow.sh
+
 # shellcheck source=host/test/json.sh
 . host/test/json.sh
 
@@ -298,6 +291,7 @@ dump_refuses "an event's unused field is 10" 10 "$n10" "$start 00 00 00 18 02 41
 helps run '--payload-text'
 helps run '--payload-text' write
 helps run '--frame-out FILE' dump
+helps run '--payload-json TEXT' write
 helps run 'a route, in lower case' write
 helps run '  4  the verdict is no' dump
 wrong 'no command' 'flux_frame dump [OPTIONS] [FILE]'
@@ -315,7 +309,6 @@ wrong 'a number above 4 bytes' "not '4294967296'" write --type request --topic x
 wrong 'flags above one byte' "not '100'" write --type event --topic x --flags 100
 wrong "another type's field" '--errnum does not belong' write --type request --topic x --errnum 1
 wrong 'one field given twice' '--nodeid has already given' write --type request --topic x --nodeid 1 --first 2
-wrong 'two payloads' 'not both' write --type event --topic x --payload "$room/log" --payload-text x
 wrong 'a payload that is not there' "cannot read $room/missing" write --type event --topic x --payload "$room/missing"
 wrong 'a frame that is not there' "cannot read $room/missing" dump "$room/missing"
 wrong 'a folder for a frame' "cannot read $room" dump "$room"

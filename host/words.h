@@ -35,6 +35,9 @@ int word_flag(const struct words *words, int *flag);
 /* The value of an option that may come once, to *value; returns 0, or has said what is wrong. */
 int word_once(struct words *words, const char **value);
 
+/* What a function that takes some of a command's options says of another one. */
+enum { NO_SUCH_OPTION = -1 };
+
 /* Decimal, or hexadecimal behind 0x or where base is 16. Returns 0, or -1 where it is no number. */
 int parse_number(const char *text, int base, uint32_t max, uint32_t *number);
 

@@ -5,6 +5,7 @@
 #include "files.h"
 #include "lampreycoil.h"
 #include "names.h"
+#include "payload_json.h"
 #include "words.h"
 
 enum {
@@ -156,6 +157,14 @@ static int take_payload_text(struct write_options *options, const struct option 
     return 0;
 }
 
+static int take_payload_json(struct write_options *options, const struct option *option,
+                             const char *value)
+{
+    (void)option;
+    options->payload_json = value;
+    return 0;
+}
+
 static const struct option known[] = {
     {"--type", take_type, 1, 0},
     {"--type-number", take_type_number, 1, 0},
@@ -178,6 +187,7 @@ static const struct option known[] = {
     {"--topic", take_topic, 1, 0},
     {"--payload", take_payload_file, 1, 0},
     {"--payload-text", take_payload_text, 1, 0},
+    {"--payload-json", take_payload_json, 1, 0},
 };
 
 /* A type given as a number is meant as it stands, so any field's option goes with it. */
@@ -188,21 +198,41 @@ static int check_field(const struct write_options *options, const struct field_v
     return trouble("%s does not belong to a message of type %s", field->option, options->type_name);
 }
 
+/* A message whose type is given by its name has to have a topic, unless it is a control message. */
+static int check_topic(const struct write_options *options)
+{
+    if (options->type_name == NULL || options->flags_given || options->type == CONTROL ||
+        options->topic != NULL)
+        return 0;
+    return trouble("%s %s needs --topic", options->type == EVENT ? "an" : "a", options->type_name);
+}
+
+/* There is one payload at the most. */
+static int check_payload(const struct write_options *options)
+{
+    int payloads = (options->payload_file != NULL) + (options->payload_text != NULL) +
+                   (options->payload_json != NULL);
+
+    if (payloads > 1)
+        return trouble("give one of --payload, --payload-text and --payload-json");
+    return options->payload_json == NULL ? 0 : check_payload_json(options->payload_json);
+}
+
 int check_write_options(struct write_options *options)
 {
     int status;
 
     if (!options->type_given)
         return trouble("write needs --type or --type-number");
-    if (options->payload_text != NULL && options->payload_file != NULL)
-        return trouble("give --payload or --payload-text, not both");
     if ((status = check_field(options, &options->first)) != 0)
         return status;
     if ((status = check_field(options, &options->second)) != 0)
         return status;
+    if ((status = check_topic(options)) != 0)
+        return status;
     if (options->first.option == NULL && options->type == REQUEST)
         options->first.value = LAMPREYCOIL_NODEID_ANY;
-    return 0;
+    return check_payload(options);
 }
 
 void start_write_options(struct write_options *options)

@@ -31,13 +31,11 @@ struct write_options {
     size_t routes_length;
     const char *topic; /* here and below: NULL where not given */
     const char *payload_text;
+    const char *payload_json; /* the text, without the zero byte that goes behind it */
     const char *payload_file;
 };
 
 struct words;
-
-/* What take_write_option says of an option that is not one of a message's. */
-enum { NO_SUCH_OPTION = -1 };
 
 void start_write_options(struct write_options *options);
 

@@ -34,8 +34,8 @@ junk="is refused, 2: $n2 (77 68 61 74 in place of FF EE 00 12)"
 cat "$room/control" "$room/log" "$room/response" "$room/event" >"$room/four"
 control_line='frame 0          29 bytes, from byte 0         control   control type 2, status 3'
 log_line='frame 1          35 bytes, from byte 29        request   "log", nodeid any, matchtag 1, no payload'
-response_line='frame 2         119 bytes, from byte 64        response  "kvs.\"get", errnum 38 ENOSYS, matchtag 7, payload 2 bytes, no JSON, 2 routes, noresponse, upstream, private, streaming'
-event_line='frame 3          35 bytes, from byte 183       event     "up\xFF", sequence 5, payload 0 bytes, no JSON'
+response_line='frame 2         119 bytes, from byte 64        response  "kvs.\"get", errnum 38 ENOSYS, matchtag 7, payload 2 bytes, not JSON, 2 routes, noresponse, upstream, private, streaming'
+event_line='frame 3          35 bytes, from byte 183       event     "up\xFF", sequence 5, payload 0 bytes, not JSON'
 two_frames="frame 0       29 bytes, from byte 0 of the capture
 $control_shown
 
@@ -126,7 +126,7 @@ for bytes in FE 'FF EF' 'FF EE 01' 'FF EE 00 13' 'FF EE 00 13 00' 'FF EE 00 13 0
         [ "$status" -eq 1 ] && tail -n 1 "$room/out" | grep -qF "from byte 35, is refused, 1: $n1 (" && ! grep -q torn "$room/out" || good=1
     done
     run dump --json "$room/in"
-    [ "$status" -eq 1 ] && [ "$(tail -n 1 "$room/out")" = '{"stop":"refused","frames":1,"bytes":35,"refusal":1}' ] || good=1
+    [ "$status" -eq 1 ] && [ "$(tail -n 1 "$room/out")" = '{"stop":"refused","frames":1,"bytes":35,"refusal":1,"shown":1,"refused":1,"next":null}' ] || good=1
 done
 report "$good" 'a tail of fewer than 8 bytes that no frame begins with is refused'
 dump_tells 'such a tail alone, of two bytes' 'FF EF' "because       $(few 2); no frame begins with these"
@@ -172,77 +172,8 @@ wrong 'a frame above 4 bytes' "at most 4294967295, not '4294967296'" dump --fram
 shows '--frame in hexadecimal' 0 "$response_line" --summary --frame 0x2 "$room/four"
 wrong 'a frame below the first' "not '-1'" dump --frame -1 "$room/four"
 wrong '--frame twice' '--frame is given twice' dump --frame 1 --frame 1 "$room/four"
-for words in --json --all "--payload-out=$room/none" "--frame-out=$room/none"; do
-    wrong "--summary and ${words%%=*}" "--summary leaves no place for ${words%%=*}" dump --summary "$words" "$room/four"
-done
-
-# ---- a payload
-
-wrong 'a payload of several frames' 'name one by --frame' dump --payload-out "$room/none" "$room/four"
-wrong 'a payload of a frame with a torn one behind it' 'name one by --frame' dump --payload-out "$room/none" "$room/newline"
-[ ! -e "$room/none" ]
-report $? 'and no file for them'
-run dump --payload-out "$room/payload" --frame 2 "$room/four"
-[ "$status" -eq 0 ] && [ "$(cat "$room/payload")" = hi ] && grep -qx 'frame 2       119 bytes, from byte 64 of the capture' "$room/out"
-report $? 'the payload of the frame that is named'
-shows 'the same on standard output' 0 hi --payload-out - --frame 2 "$room/four"
-wrong 'a named frame without a payload' 'no payload' dump --payload-out "$room/none" --frame 1 "$room/four"
-run dump --payload-out - --frame 1 "$room/middle"
-[ "$status" -eq 1 ] && [ ! -s "$room/out" ] &&
-    [ "$(cat "$room/err")" = "flux_frame: refused, 9: $n9 (the topic, from byte 9, does not end with a zero byte)" ]
-report $? 'no payload of a named frame that is refused'
-
-# ---- a frame, cut out
-
-wrong 'one frame of several' '--frame-out is for one frame, and more follows the first: name one by --frame' dump --frame-out "$room/none" "$room/four"
-wrong 'one frame with a torn one behind it' 'name one by --frame' dump --frame-out "$room/none" "$room/newline"
-run dump --frame-out "$room/cut" --frame 2 "$room/four"
-[ "$status" -eq 0 ] && cmp -s "$room/cut" "$room/response" && grep -qx 'frame 2       119 bytes, from byte 64 of the capture' "$room/out"
-report $? 'the frame that is named is cut out, and shown'
-run dump --frame-out=- --frame 0x3 "$room/four"
-[ "$status" -eq 0 ] && cmp -s "$room/out" "$room/event" && [ ! -s "$room/err" ]
-report $? 'on standard output it is alone'
-run dump --frame-out - <"$room/log"
-[ "$status" -eq 0 ] && cmp -s "$room/out" "$room/log" && [ ! -s "$room/err" ]
-report $? 'a single frame needs no number'
-run dump --frame-out "$room/cut" --payload-out - --frame 2 "$room/four"
-[ "$status" -eq 0 ] && cmp -s "$room/cut" "$room/response" && [ "$(cat "$room/out")" = hi ]
-report $? 'a frame and its payload'
-wrong 'a frame whose payload is not there' 'no payload' dump --frame-out "$room/none" --payload-out "$room/none-too" --frame 1 "$room/four"
-wrong 'a frame and its payload on standard output' '--payload-out - leaves no place for --frame-out -' dump --frame-out - --payload-out - "$room/response"
-wrong 'a frame and its payload in one file' "name one file, $room/none" dump --frame-out "$room/none" --payload-out "$room/none" "$room/response"
-wrong 'a frame and JSON on standard output' '--frame-out - leaves no place for --json' dump --frame-out - --json "$room/log"
-wrong '--frame-out twice' '--frame-out is given twice' dump --frame-out "$room/none" --frame-out "$room/none" "$room/log"
-wrong 'a frame to the capture itself' "$room/log is the capture itself: name another file" dump --frame-out "$room/log" "$room/log"
-has_lines 'no bytes of a refused frame' 1 --frame-out "$room/none" --frame 1 "$room/middle" -- "refused       9: $n9"
-has_lines 'nor of a torn one' 1 --frame-out "$room/none" --frame 1 "$room/torn" -- "refused       1: $n1"
-run dump --frame-out - --frame 1 "$room/middle"
-[ "$status" -eq 1 ] && [ ! -s "$room/out" ] && grep -q 'refused, 9: ' "$room/err"
-report $? 'nor on standard output'
-[ ! -e "$room/none" ]
-report $? 'and no file for any of them'
-unwritten 'a frame that standard output does not take' 'cannot write standard output' dump --frame-out - "$room/log"
-
-# An output that is the file read would destroy it: by its name, by another, through a link and on standard output.
-cp "$room/four" "$room/kept"
-ln -f "$room/kept" "$room/kept-too"
-ln -sf kept "$room/kept-link"
-for words in kept kept-too kept-link ./kept; do
-    wrong "a payload to the capture itself, as $words" "$room/$words is the capture itself: name another file" \
-        dump --payload-out "$room/$words" --frame 2 "$room/kept"
-done
-"$FLUX_FRAME" dump --payload-out "$room/kept" --frame 2 <"$room/kept" >"$room/out" 2>"$room/err"
-status=$?
-[ "$status" -eq 2 ] && [ ! -s "$room/out" ] && grep -q 'kept is the capture itself' "$room/err"
-report $? 'a payload to the capture on standard input'
-"$FLUX_FRAME" dump --payload-out - --frame 2 "$room/kept" >>"$room/kept" 2>"$room/err"
-status=$?
-[ "$status" -eq 2 ] && grep -q 'standard output is the capture itself' "$room/err"
-report $? 'a payload to the capture on standard output'
-cmp -s "$room/four" "$room/kept"
-report $? 'the capture stays as it was'
-run dump --payload-out /dev/null --frame 2 "$room/kept"
-report "$status" 'a payload to /dev/null'
+wrong '--summary and --json' '--json is an object a frame, and --summary a line: give one of them' dump --summary --json "$room/four"
+wrong '--summary and --all' '--summary shows no payload: leave out --all' dump --summary --all "$room/four"
 
 # ---- JSON
 
@@ -256,7 +187,7 @@ $(placed_json 1 29 "$room/log")
 $(placed_json 2 64 "$room/response")
 $(placed_json 3 183 "$room/event")"
 shows 'the JSON of four frames, each with its place' 0 "$four_json
-"'{"stop":"end","frames":4,"bytes":218,"refusal":null}' --json "$room/four"
+"'{"stop":"end","frames":4,"bytes":218,"refusal":null,"shown":4,"refused":0,"next":218}' --json "$room/four"
 case $four_json in
 '{"accepted":true,"number":0,"start":0,"frame":29,"type":8,'*) report 0 'and how the first begins' ;;
 *) report 1 'and how the first begins' ;;
@@ -264,11 +195,11 @@ esac
 shows 'the JSON of a frame that is named' 0 "$(placed_json 2 64 "$room/response")" --json --frame 2 "$room/four"
 shows 'the JSON of a torn tail' 1 "$(placed_json 0 0 "$room/control")
 "'{"accepted":false,"number":1,"start":29,"input":3,"refusal":1,"words":"'"$n1"'","because":"3 of the 8 bytes that tell a frame'"'"'s length are there; missing: 5","front":"FFEE00","needed":8}
-{"stop":"torn","frames":1,"bytes":29,"refusal":1}' --json "$room/front"
+{"stop":"torn","frames":1,"bytes":29,"refusal":1,"shown":1,"refused":0,"next":null}' --json "$room/front"
 shows 'the JSON of a named frame that is torn' 1 '{"accepted":false,"number":1,"start":29,"input":3,"refusal":1,"words":"'"$n1"'","because":"3 of the 8 bytes that tell a frame'"'"'s length are there; missing: 5","front":"FFEE00","needed":8}' --json --frame 1 "$room/front"
 shows 'the JSON of junk behind frames' 1 "$(printf '%s\n' "$four_json" | head -n 2)
 "'{"accepted":false,"number":2,"start":64,"input":16,"refusal":2,"words":"'"$n2"'","because":"77 68 61 74 in place of FF EE 00 12","front":"7768617420697320"}
-{"stop":"refused","frames":2,"bytes":64,"refusal":2}' --json "$room/junk"
+{"stop":"refused","frames":2,"bytes":64,"refusal":2,"shown":2,"refused":1,"next":null}' --json "$room/junk"
 
 good=0
 for words in log four nine front junk; do
@@ -308,8 +239,9 @@ run write --type request --topic log --payload <(printf '%s\n' "$sixteen") -o "$
 cat "$room/31" "$room/sixteen" "$room/log" >"$room/over"
 stops 'a frame across the 1,048,576th byte' 0 '33 frames, 1048867 bytes, and nothing behind them' "$room/over"
 run dump --frame 31 --payload-out "$room/payload" "$room/over"
-[ "$status" -eq 0 ] && cmp -s "$room/payload" <(printf '%s\n' "$sixteen") && grep -qx 'frame 31      32776 bytes, from byte 1016056 of the capture' "$room/out"
+[ "$status" -eq 0 ] && cmp -s "$room/payload" <(printf '%s\n' "$sixteen")
 report $? 'it is there, byte for byte'
+shows 'and at its place' 0 'frame 31      32776 bytes, from byte 1016056   request   "log", nodeid any, matchtag 0, payload 32736 bytes, not JSON' --frame 31 --summary "$room/over"
 shows 'the frame behind it' 0 'frame 32         35 bytes, from byte 1048832   request   "log", nodeid any, matchtag 1, no payload' --frame 32 --summary "$room/over"
 run dump --summary < <(cat "$room/over")
 [ "$status" -eq 0 ] && [ "$(wc -l <"$room/out")" -eq 34 ]

@@ -252,7 +252,7 @@ refuses_frame 'bytes that are no frame are 2' 2 "$n2"
 head -c 34 "$room/log" >"$room/in"
 refuses_frame 'a frame cut short is 1' 1 "$n1"
 floor walk --enter 0 "$example" --topic ''
-[ "$status" -eq 1 ] && [ ! -s "$room/out" ] && grep -q "^flux_floor: .*refused, 9: $n9" "$room/err"
+[ "$status" -eq 1 ] && [ ! -s "$room/out" ] && [ "$(cat "$room/err")" = "flux_floor: refused, 9: $n9 (--topic is empty)" ]
 report $? 'an empty topic is 9'
 floor walk --enter 0 "$example" --matchtag 1
 [ "$status" -ne 0 ] && [ ! -s "$room/out" ] && grep -q '^flux_floor: ' "$room/err"

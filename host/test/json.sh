@@ -37,7 +37,7 @@ says 'a new line within it begins below the first' '{"a":\t1,\r\n "b":2\n}\0' '1
 '"$margin"'{"a": 1, 
 '"$margin"' "b":2
 '"$margin"'}'
-says 'what looks like a line of the dump is no such line' '{"a":\nheader\0' '13 bytes, from byte 12, no JSON: byte 6 of it, 68, '"$stands"'
+says 'what looks like a line of the dump is no such line' '{"a":\nheader\0' '13 bytes, from byte 12, not JSON: byte 6 of it, 68, '"$stands"'
   0000        7B 22 61 22 3A 0A 68 65 61 64 65 72 00           |{"a":.header.|
                                 ^^                                    ^'
 
@@ -76,43 +76,43 @@ $margin{\"a\":\"$(bytes 32728)\"}" --all
 
 # ---- a no, and its place
 
-says 'a byte that cannot stand there' '{"a":,1}\0' '9 bytes, from byte 12, no JSON: byte 5 of it, 2C, '"$stands"'
+says 'a byte that cannot stand there' '{"a":,1}\0' '9 bytes, from byte 12, not JSON: byte 5 of it, 2C, '"$stands"'
   0000        7B 22 61 22 3A 2C 31 7D 00                       |{"a":,1}.|
                              ^^                                      ^'
-says 'the first byte' 'x' '1 byte, from byte 12, no JSON: byte 0 of it, 78, '"$stands"'
+says 'the first byte' 'x' '1 byte, from byte 12, not JSON: byte 0 of it, 78, '"$stands"'
   0000        78                                               |x|
               ^^                                                ^'
-says 'the last byte of a row' '{"a":"0123456789\x01' '17 bytes, from byte 12, no JSON: byte 16 of it, 01, '"$stands"'
+says 'the last byte of a row' '{"a":"0123456789\x01' '17 bytes, from byte 12, not JSON: byte 16 of it, 01, '"$stands"'
   0000        7B 22 61 22 3A 22 30 31 32 33 34 35 36 37 38 39  |{"a":"0123456789|
   0010        01                                               |.|
               ^^                                                ^'
-says 'and of the row before' '{"a":"012345678\x01\x02' '17 bytes, from byte 12, no JSON: byte 15 of it, 01, '"$stands"'
+says 'and of the row before' '{"a":"012345678\x01\x02' '17 bytes, from byte 12, not JSON: byte 15 of it, 01, '"$stands"'
   0000        7B 22 61 22 3A 22 30 31 32 33 34 35 36 37 38 01  |{"a":"012345678.|
                                                            ^^                  ^
   0010        02                                               |.|'
-says 'an end that is too early' '{"a":' '5 bytes, from byte 12, no JSON: it ends too early, at byte 5 of it
+says 'an end that is too early' '{"a":' '5 bytes, from byte 12, not JSON: it ends too early, at byte 5 of it
   0000        7B 22 61 22 3A                                   |{"a":|
                              ^^                                      ^'
-says 'the same at the end of a row' '{"a":"0123456789' '16 bytes, from byte 12, no JSON: it ends too early, at byte 16 of it
+says 'the same at the end of a row' '{"a":"0123456789' '16 bytes, from byte 12, not JSON: it ends too early, at byte 16 of it
   0000        7B 22 61 22 3A 22 30 31 32 33 34 35 36 37 38 39  |{"a":"0123456789|
   0010                                                         ||
               ^^                                                ^'
-says 'no zero byte' '{"a":1} ' '8 bytes, from byte 12, no JSON: the zero byte at its end is missing
+says 'no zero byte' '{"a":1} ' '8 bytes, from byte 12, not JSON: the zero byte at its end is missing
   0000        7B 22 61 22 3A 31 7D 20                          |{"a":1} |
                                       ^^                                ^'
-says 'a byte behind the zero byte' '{"a":1}\0\n' '9 bytes, from byte 12, no JSON: byte 8 of it, 0A, is behind the zero byte that ends it
+says 'a byte behind the zero byte' '{"a":1}\0\n' '9 bytes, from byte 12, not JSON: byte 8 of it, 0A, is behind the zero byte that ends it
   0000        7B 22 61 22 3A 31 7D 00 0A                       |{"a":1}..|
                                       ^^                                ^'
-says 'a zero byte elsewhere' '{"a\0":1}\0' '9 bytes, from byte 12, no JSON: byte 3 of it, 00, '"$stands"'
+says 'a zero byte elsewhere' '{"a\0":1}\0' '9 bytes, from byte 12, not JSON: byte 3 of it, 00, '"$stands"'
   0000        7B 22 61 00 22 3A 31 7D 00                       |{"a.":1}.|
                        ^^                                          ^'
-says 'an empty payload' '' '0 bytes, from byte 12, no JSON: it is empty'
-says 'an array outermost' '[1]\0' '4 bytes, from byte 12, no JSON: byte 0 of it, 5B, '"$stands"'
+says 'an empty payload' '' '0 bytes, from byte 12, not JSON: it is empty'
+says 'an array outermost' '[1]\0' '4 bytes, from byte 12, not JSON: byte 0 of it, 5B, '"$stands"'
   0000        5B 31 5D 00                                      |[1].|
               ^^                                                ^'
 row='61 61 61 61 61 61 61 61 61 61 61 61 61 61 61 61  |aaaaaaaaaaaaaaaa|'
 a() { bytes "$1" | tr x a; }
-says 'a place behind what is shown' "{\"$(a 94)\\xFF$(a 100)" '197 bytes, from byte 12, no JSON: byte 96 of it, FF, '"$stands"'
+says 'a place behind what is shown' "{\"$(a 94)\\xFF$(a 100)" '197 bytes, from byte 12, not JSON: byte 96 of it, FF, '"$stands"'
   0000        7B 22 61 61 61 61 61 61 61 61 61 61 61 61 61 61  |{"aaaaaaaaaaaaaa|
   0010        '"$row"'
   0020        '"$row"'
@@ -120,7 +120,7 @@ says 'a place behind what is shown' "{\"$(a 94)\\xFF$(a 100)" '197 bytes, from b
   0060        FF '"${row:3:45} |.${row:51}"'
               ^^                                                ^
 '"$margin"'117 bytes more (--all shows all)'
-says 'an end behind what is shown' "{\"$(a 62)" '64 bytes, from byte 12, no JSON: it ends too early, at byte 64 of it
+says 'an end behind what is shown' "{\"$(a 62)" '64 bytes, from byte 12, not JSON: it ends too early, at byte 64 of it
   0000        7B 22 61 61 61 61 61 61 61 61 61 61 61 61 61 61  |{"aaaaaaaaaaaaaa|
   0010        '"$row"'
   0020        '"$row"'
@@ -139,7 +139,7 @@ says 'a 33rd level' "{\"a\":$(deep 32)" '37 bytes, from byte 12, too deep for JS
   0010        5B 5B 5B 5B 5B 5B 5B 5B 5B 5B 5B 5B 5B 5B 5B 5B  |[[[[[[[[[[[[[[[[|
   0020        5B 5B 5B 5B 5B                                   |[[[[[|
                           ^^                                        ^'
-says '32 levels that do not close' "{\"a\":$(deep 31)" '36 bytes, from byte 12, no JSON: it ends too early, at byte 36 of it
+says '32 levels that do not close' "{\"a\":$(deep 31)" '36 bytes, from byte 12, not JSON: it ends too early, at byte 36 of it
   0000        7B 22 61 22 3A 5B 5B 5B 5B 5B 5B 5B 5B 5B 5B 5B  |{"a":[[[[[[[[[[[|
   0010        5B 5B 5B 5B 5B 5B 5B 5B 5B 5B 5B 5B 5B 5B 5B 5B  |[[[[[[[[[[[[[[[[|
   0020        5B 5B 5B 5B                                      |[[[[|
@@ -184,7 +184,7 @@ event_of no '{}'
 event_of deep "{\"a\":$(deep 32)"
 cat "$room/yes" "$room/no" "$room/deep" "$room/log" >"$room/kinds"
 shows 'a summary tells it too' 0 'frame 0          36 bytes, from byte 0         event     "x", sequence 0, payload 3 bytes, JSON
-frame 1          35 bytes, from byte 36        event     "x", sequence 0, payload 2 bytes, no JSON
+frame 1          35 bytes, from byte 36        event     "x", sequence 0, payload 2 bytes, not JSON
 frame 2          70 bytes, from byte 71        event     "x", sequence 0, payload 37 bytes, too deep for JSON
 frame 3          35 bytes, from byte 141       request   "log", nodeid any, matchtag 1, no payload
 stop          4 frames, 176 bytes, and nothing behind them' --summary "$room/kinds"
