@@ -109,14 +109,16 @@ static int check_words(struct asked *asked, uint32_t *rank)
     return check_write_options(&asked->message);
 }
 
-int tell_refused(const struct asked *asked, const struct play *play, const char *file,
-                 uint32_t refusal)
+int tell_unplayed(const struct asked *asked, const struct play *play, const char *file,
+                  const struct write_refusal *why)
 {
     if (asked->form.json)
-        json_refused(asked, play, refusal, EXIT_REFUSED);
+        json_refused(asked, play, why->number, EXIT_REFUSED);
+    else if (!asked->form.quiet && file == NULL)
+        tell_frame_refused(why);
     else if (!asked->form.quiet)
-        trouble("%s: refused, %lu: %s", input_name(file), (unsigned long)refusal,
-                lampreycoil_refusal_words(refusal));
+        trouble("%s: refused, %lu: %s", input_name(file), (unsigned long)why->number,
+                lampreycoil_refusal_words(why->number));
     return flush_output() == 0 ? EXIT_REFUSED : EXIT_TROUBLE;
 }
 
@@ -140,23 +142,19 @@ static int read_asked_floor(const struct asked *asked, const struct play *play, 
 static int read_message(const struct asked *asked, struct play *play)
 {
     struct seen *seen = &play->steps[0].seen;
-    uint32_t refusal = LAMPREYCOIL_OK;
+    struct write_refusal why = {.number = LAMPREYCOIL_OK};
     size_t length;
     int status;
 
     if (asked->frame == NULL) {
-        status = make_frame(&asked->message, play->buffer, &length);
-        if (status == 0) {
+        status = try_frame(&asked->message, play->buffer, &length, &why);
+        if (status == 0)
             see(seen, play->floor, play->buffer, length);
-        } else if (status == EXIT_REFUSED && asked->form.json) {
-            json_refused(asked, play, LAMPREYCOIL_OK, status);
-            return flush_output() == 0 ? status : EXIT_TROUBLE;
-        }
     } else {
-        status = read_one_frame(asked->frame, play->floor, play->buffer, seen, &refusal);
-        if (status == EXIT_REFUSED)
-            return tell_refused(asked, play, asked->frame, refusal);
+        status = read_one_frame(asked->frame, play->floor, play->buffer, seen, &why.number);
     }
+    if (status == EXIT_REFUSED)
+        return tell_unplayed(asked, play, asked->frame, &why);
     /* What the library does not play it refuses. */
     if (status == 0 && !asked->any_type && seen->type != asked->type)
         return trouble("%s takes a %s, and this message is of type %s", asked->command,
@@ -167,7 +165,7 @@ static int read_message(const struct asked *asked, struct play *play)
 int read_asked(struct asked *asked, int count, char **words, struct play *play)
 {
     static struct floor floor;
-    uint32_t refusal = LAMPREYCOIL_OK;
+    struct write_refusal why = {.number = LAMPREYCOIL_OK};
     int status = take_words(asked, count, words);
 
     play->floor = &floor;
@@ -179,9 +177,9 @@ int read_asked(struct asked *asked, int count, char **words, struct play *play)
         status = read_message(asked, play);
     if (status != 0 || !asked->answers)
         return status;
-    status = read_answer(&asked->answer, &floor, &refusal);
+    status = read_answer(&asked->answer, &floor, &why.number);
     if (status == EXIT_REFUSED)
-        return tell_refused(asked, play, asked->answer.file, refusal);
+        return tell_unplayed(asked, play, asked->answer.file, &why);
     return status;
 }
 

@@ -5,6 +5,7 @@
 #include "floor_answer.h"
 #include "floor_form.h"
 #include "floor_play.h"
+#include "make_frame.h"
 #include "write_options.h"
 
 struct asked {
@@ -30,11 +31,11 @@ struct asked {
 int read_asked(struct asked *asked, int count, char **words, struct play *play);
 
 /*
- * Tells that this input was refused before anything was played: on standard error, or as an object.
- * Returns EXIT_REFUSED.
+ * Tells that this file was refused before anything was played, or the message that options describe
+ * where file is NULL: on standard error, or as an object. Returns EXIT_REFUSED.
  */
-int tell_refused(const struct asked *asked, const struct play *play, const char *file,
-                 uint32_t refusal);
+int tell_unplayed(const struct asked *asked, const struct play *play, const char *file,
+                  const struct write_refusal *why);
 
 /* Writes the frame in the buffer to the output, if one was named. Returns 0, or has said why not.
  */

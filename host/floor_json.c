@@ -253,10 +253,8 @@ void json_refused(const struct asked *asked, const struct play *play, uint32_t r
         outcome.refusal_words = NULL;
     else if (play->floor->mistakes.count > 0)
         outcome.refusal_words = "the floor is not valid";
-    else if (refusal != LAMPREYCOIL_OK)
-        outcome.refusal_words = lampreycoil_refusal_words(refusal);
     else
-        outcome.refusal_words = "standard error says why";
+        outcome.refusal_words = lampreycoil_refusal_words(refusal);
     open_played(asked, play, status);
     put_outcome(&outcome);
     if (asked->answers) {

@@ -53,10 +53,10 @@ static uint8_t flags_for(const struct write_options *options)
     return flags;
 }
 
-int make_frame(const struct write_options *options, uint8_t *frame, size_t *length)
+int try_frame(const struct write_options *options, uint8_t *frame, size_t *length,
+              struct write_refusal *why)
 {
     uint8_t record[LAMPREYCOIL_WRITE_RECORD];
-    char reason[REASON_ROOM];
     struct stretch topic = text_stretch(options->topic);
     struct stretch payload;
     uint8_t flags = flags_for(options);
@@ -64,16 +64,30 @@ int make_frame(const struct write_options *options, uint8_t *frame, size_t *leng
 
     if (status != 0)
         return status;
-    uint32_t refusal = lampreycoil_write(
+    why->number = lampreycoil_write(
         options->type, flags, options->userid, options->rolemask, options->first.value,
         options->second.value, options->routes, options->routes_length, topic.bytes, topic.length,
         payload.bytes, payload.length, frame, LAMPREYCOIL_FRAME_MAX, record, sizeof record);
-    if (refusal != LAMPREYCOIL_OK) {
-        explain_write(refusal, options, flags, payload.length, reason);
-        trouble("refused, %lu: %s (%s)", (unsigned long)refusal, lampreycoil_refusal_words(refusal),
-                reason);
+    if (why->number != LAMPREYCOIL_OK) {
+        explain_write(why->number, options, flags, payload.length, why->reason);
         return EXIT_REFUSED;
     }
     *length = lampreycoil_number(record, LAMPREYCOIL_WRITE_LENGTH);
     return 0;
+}
+
+void tell_frame_refused(const struct write_refusal *why)
+{
+    trouble("refused, %lu: %s (%s)", (unsigned long)why->number,
+            lampreycoil_refusal_words(why->number), why->reason);
+}
+
+int make_frame(const struct write_options *options, uint8_t *frame, size_t *length)
+{
+    struct write_refusal why;
+    int status = try_frame(options, frame, length, &why);
+
+    if (status == EXIT_REFUSED)
+        tell_frame_refused(&why);
+    return status;
 }

@@ -254,6 +254,8 @@ refuses_frame 'a frame cut short is 1' 1 "$n1"
 floor walk --enter 0 "$example" --topic ''
 [ "$status" -eq 1 ] && [ ! -s "$room/out" ] && [ "$(cat "$room/err")" = "flux_floor: refused, 9: $n9 (--topic is empty)" ]
 report $? 'an empty topic is 9'
-floor walk --enter 0 "$example" --matchtag 1
-[ "$status" -ne 0 ] && [ ! -s "$room/out" ] && grep -q '^flux_floor: ' "$room/err"
-report $? 'a request without a topic is not played'
+floor walk --enter 0 "$example" --topic '' --quiet
+[ "$status" -eq 1 ] && [ ! -s "$room/out" ] && [ ! -s "$room/err" ]
+report $? 'an empty topic is 9, --quiet'
+floor_wrong 'a request without a topic is not played' 'a request needs --topic' walk --enter 0 "$example" --matchtag 1
+floor_wrong 'a response without a topic is not played' 'a response needs --topic' home --from 0 "$example" --matchtag 1

@@ -108,7 +108,9 @@ printf 'no frame' >"$room/in"
 gives 'a frame that is refused' 1 '{"command":"home","status":1,"floor":"'"$example"'","from":3,"answer":"refused",'"$refused"',"refusal":2,"refusal_words":"'"$n2"'","steps":[],"at_rest":null,'"$sound}" \
     home --from 3 "$example" "$room/in"
 gives_object 'a message by options that is refused' 1 walk --enter 3 "$example" --topic ''
-has '"answer":"refused",'"$refused"
+has '"answer":"refused",'"$refused"',"refusal":9,"refusal_words":"'"$n9"'",'
+[ ! -s "$room/err" ]
+report $? 'it is told nowhere else'
 floor walk --enter 3 "$example" --topic log --json -o "$room/left"
 [ "$status" -eq 0 ] && [ "$(wc -c <"$room/left")" -eq $((33 + 2 + 2 * 38)) ]
 report $? 'a walk with --json and -o'
