@@ -136,6 +136,12 @@ status=${PIPESTATUS[0]}
 [ "$status" -ne 124 ] && [ "$(cat "$room/out")" = "$control_line" ]
 report $? 'it does not wait where nobody reads any more'
 
+(sleep 1 && cat "$room/log") | timeout 20 "$FLUX_FRAME" dump --follow --summary >&- 2>"$room/err"
+status=${PIPESTATUS[1]}
+: >"$room/out"
+[ "$status" -eq 2 ] && grep -q 'cannot write standard output' "$room/err"
+report $? 'nor where standard output is closed'
+
 # ---- progress
 
 if command -v script >/dev/null; then
