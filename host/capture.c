@@ -97,11 +97,17 @@ int open_capture(struct capture *capture, const char *name)
     return status;
 }
 
-/* The first frame is waited for when it is asked for. */
+/*
+ * The first frame is waited for when it is asked for. SIGINT is caught only behind the opening: it
+ * ends the program while that waits for somebody to write to a pipe.
+ */
 int follow_capture(struct capture *capture, const char *name)
 {
-    start_following();
-    return start_capture(capture, name, 1);
+    int status = start_capture(capture, name, 1);
+
+    if (status == 0)
+        start_following();
+    return status;
 }
 
 /* One frame cannot fill the window, so where the window ends with it the capture does. */

@@ -4,6 +4,7 @@
 
 #include "dump.h"
 #include "files.h"
+#include "progress.h"
 
 /* Room for a frame's number and place, with their words. */
 enum { PLACE_ROOM = 80 };
@@ -32,6 +33,7 @@ int write_one(const struct dump *dump)
     const struct dump_options *options = dump->options;
     int status = 0;
 
+    clear_progress();
     if (dump->refusal != LAMPREYCOIL_OK) {
         tell_refused(dump);
         return EXIT_REFUSED;

@@ -108,7 +108,6 @@ static int show_rest(struct dump *dump)
 
     if ((stop == STOP_TORN || stop == STOP_REFUSED) && !dump->options->summary)
         status = show_one_of(dump);
-    clear_progress();
     if (dump->options->json)
         show_json_stop(dump);
     else
@@ -187,7 +186,6 @@ int command_dump(int count, char **words)
     if (!options.follow)
         start_progress(capture.input.stream);
     status = dump_asked(&capture, &dump);
-    clear_progress();
     close_capture(&capture);
     return status;
 }

@@ -125,6 +125,7 @@ static int look_at_refused(struct capture *capture, struct dump *dump)
     size_t length = dump->options->skip_refused ? pass_refused(capture, frame) : 0;
     int status = 0;
 
+    clear_progress();
     dump->passed = length > 0;
     if (dump->passed) {
         dump->tally.passed++;
@@ -142,6 +143,7 @@ static int look_at_refused(struct capture *capture, struct dump *dump)
 /* In place of the frame behind the last that --frames names: it is not looked at. */
 static void end_range(const struct capture *capture, struct dump *dump)
 {
+    clear_progress();
     dump->range_ended = 1;
     dump->frame.start += dump->frame.length;
     dump->frame.length = 0;

@@ -76,7 +76,7 @@ static void wait_a_while(struct input *input, const struct growth *growth, int *
     if (*there)
         return;
     ready = poll(looked, growth->regular ? 1 : 2, interrupted ? 0 : PAUSE);
-    if (ready > 0 && (looked[0].revents & POLLERR) != 0)
+    if (ready > 0 && looked[0].revents != 0)
         input->ended = 1;
     *there = ready > 0 && looked[1].revents != 0;
 }

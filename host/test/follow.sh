@@ -15,25 +15,30 @@ follow_pipe() { # WORDS...
     pid=$!
 }
 
-# The output has so many lines by now, or soon.
-has_come() { # LINES
+# The words succeed by now, or soon.
+soon() { # WORDS...
     local wait
     for ((wait = 0; wait < 200; wait++)); do
-        [ "$(wc -l <"$room/out")" -lt "$1" ] || return 0
+        if "$@"; then return 0; fi
         sleep 0.05
     done
     return 1
 }
 
+has_lines_now() { [ "$(wc -l <"$room/out")" -ge "$1" ]; } # LINES
+has_come() { soon has_lines_now "$1"; }                   # LINES
+has_stop() { tail -n 1 "$room/out" | grep -q '^stop  '; }
+
+# The process is the program, and no more the shell that becomes it, and catches SIGINT: the second bit.
+catches() {
+    awk '$1 == "Name:" { name = $2 } $1 == "SigCgt:" { caught = $2 } END { exit !(name == "flux_frame" && caught ~ /[2367abef]$/) }' "/proc/$pid/status"
+}
+
 # It ends soon, after the signal if one is named; leaves its status.
+gone() { ! kill -0 "$pid" 2>/dev/null; }
 ends() { # [SIGNAL]
-    local wait
     [ $# -eq 0 ] || kill "-$1" "$pid"
-    for ((wait = 0; wait < 200; wait++)); do
-        kill -0 "$pid" 2>/dev/null || break
-        sleep 0.05
-    done
-    [ "$wait" -lt 200 ] || kill -KILL "$pid"
+    soon gone || kill -KILL "$pid"
     wait "$pid"
     status=$?
 }
@@ -60,7 +65,7 @@ has_come 11 && ends INT && [ "$status" -eq 0 ] && head -n 1 "$room/out" | grep -
     [ "$(stop_line)" = '1 frame, 35 bytes, and nothing behind it' ]
 report $? 'a single frame has its number and place'
 follow "$room/nothing"
-sleep 0.3 && ends INT && [ "$status" -eq 1 ] && [ "$(cat "$room/out")" = 'stop          no frame: the capture is empty' ]
+soon catches && ends INT && [ "$status" -eq 1 ] && [ "$(cat "$room/out")" = 'stop          no frame: the capture is empty' ]
 report $? 'no frame at all is no yes'
 cp "$room/four" "$room/shrinks"
 follow --summary "$room/shrinks"
@@ -73,10 +78,10 @@ report $? '--follow with a selection, as JSON'
 
 # What is not read when SIGINT comes is not torn. Here nobody takes what is shown, until it has come.
 for _ in $(seq 67); do cat "$room/31"; done >"$room/long"
-"$FLUX_FRAME" dump --follow "$room/long" 2>"$room/err" > >(sleep 1 && cat >"$room/out") &
+"$FLUX_FRAME" dump --follow "$room/long" 2>"$room/err" > >(soon [ -e "$room/take" ] && cat >"$room/out") &
 pid=$!
-sleep 0.5
-ends INT && sleep 0.3 && [ "$status" -eq 0 ] && stop_line | grep -qx '[0-9]* frames, [0-9]* bytes; interrupted: what is behind was not looked at'
+soon catches && kill -INT "$pid" && : >"$room/take"
+ends && soon has_stop && [ "$status" -eq 0 ] && stop_line | grep -qx '[0-9]* frames, [0-9]* bytes; interrupted: what is behind was not looked at'
 report $? 'an interruption before the end'
 
 # ---- a pipe that delivers
@@ -130,6 +135,12 @@ timeout 20 "$FLUX_FRAME" dump --follow --summary "$room/four" 2>"$room/err" | he
 status=${PIPESTATUS[0]}
 [ "$status" -ne 124 ] && [ "$(cat "$room/out")" = "$control_line" ]
 report $? 'it does not wait where nobody reads any more'
+
+(sleep 1 && cat "$room/log") | timeout 20 "$FLUX_FRAME" dump --follow --summary >&- 2>"$room/err"
+status=${PIPESTATUS[1]}
+: >"$room/out"
+[ "$status" -eq 2 ] && grep -q 'cannot write standard output' "$room/err"
+report $? 'nor where standard output is closed'
 
 # ---- progress
 

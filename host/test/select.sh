@@ -36,6 +36,7 @@ selects 'a pattern for topics' 0 '5 8 11 ' "3 of 17 frames shown, $whole" --topi
 selects 'a pattern that fits a part alone' 4 '' "0 of 17 frames shown, $whole" --topic 'kvs' "$room/asked"
 selects 'a pattern that fits every topic: a control message has none' 0 '0 1 2 3 4 5 6 7 8 9 10 11 12 13 14 16 ' "16 of 17 frames shown, $whole" --topic '*' "$room/asked"
 selects 'a sign that is meant as it stands' 4 '' "0 of 17 frames shown, $whole" --topic 'hb\*' "$room/asked"
+selects 'a byte that is no text' 0 '3 ' '1 of 4 frames shown, 218 bytes, and nothing behind them' --topic $'u?\xFF' "$room/four"
 selects 'a service, before the first period or the end' 0 '2 5 8 11 14 16 ' "6 of 17 frames shown, $whole" --service hb "$room/asked"
 selects 'a service is no prefix' 4 '' "0 of 17 frames shown, $whole" --service kv "$room/asked"
 selects 'nor a pattern' 4 '' "0 of 17 frames shown, $whole" --service 'k*' "$room/asked"
