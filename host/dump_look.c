@@ -93,19 +93,10 @@ int is_broken_off(const struct dump *dump)
     return stop == STOP_TORN || stop == STOP_REFUSED || dump->tally.accepted == 0;
 }
 
-/*
- * Where no frame is selected that is not what was asked for. Of --errors it is, but only if there
- * was a response to ask.
- */
+/* A dump is no verdict: it shows what was selected, and the stop tells how much that was. */
 int stop_status(const struct dump *dump)
 {
-    const struct tally *tally = &dump->tally;
-
-    if (is_broken_off(dump) || tally->passed > 0)
-        return EXIT_REFUSED;
-    if (tally->asked == 0 || (dump->options->selection.errors && tally->selected > 0))
-        return EXIT_NO;
-    return EXIT_DONE;
+    return is_broken_off(dump) || dump->tally.passed > 0 ? EXIT_REFUSED : EXIT_DONE;
 }
 
 static void count_accepted(struct dump *dump)

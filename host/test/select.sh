@@ -33,27 +33,27 @@ selects 'a type' 0 '2 5 8 11 14 16 ' "6 of 17 frames shown, $whole" --type event
 selects 'a type without a topic' 0 '15 ' "1 of 17 frames shown, $whole" --type control "$room/asked"
 selects 'a whole topic' 0 '16 ' "1 of 17 frames shown, $whole" --topic hb "$room/asked"
 selects 'a pattern for topics' 0 '5 8 11 ' "3 of 17 frames shown, $whole" --topic 'h?.[2-4]' "$room/asked"
-selects 'a pattern that fits a part alone' 4 '' "0 of 17 frames shown, $whole" --topic 'kvs' "$room/asked"
+selects 'a pattern that fits a part alone' 0 '' "0 of 17 frames shown, $whole" --topic 'kvs' "$room/asked"
 selects 'a pattern that fits every topic: a control message has none' 0 '0 1 2 3 4 5 6 7 8 9 10 11 12 13 14 16 ' "16 of 17 frames shown, $whole" --topic '*' "$room/asked"
-selects 'a sign that is meant as it stands' 4 '' "0 of 17 frames shown, $whole" --topic 'hb\*' "$room/asked"
+selects 'a sign that is meant as it stands' 0 '' "0 of 17 frames shown, $whole" --topic 'hb\*' "$room/asked"
 selects 'a byte that is no text' 0 '3 ' '1 of 4 frames shown, 218 bytes, and nothing behind them' --topic $'u?\xFF' "$room/four"
 selects 'a service, before the first period or the end' 0 '2 5 8 11 14 16 ' "6 of 17 frames shown, $whole" --service hb "$room/asked"
-selects 'a service is no prefix' 4 '' "0 of 17 frames shown, $whole" --service kv "$room/asked"
-selects 'nor a pattern' 4 '' "0 of 17 frames shown, $whole" --service 'k*' "$room/asked"
+selects 'a service is no prefix' 0 '' "0 of 17 frames shown, $whole" --service kv "$room/asked"
+selects 'nor a pattern' 0 '' "0 of 17 frames shown, $whole" --service 'k*' "$room/asked"
 selects 'a matchtag, of requests and responses' 0 '3 4 ' "2 of 17 frames shown, $whole" --matchtag 2 "$room/asked"
-selects 'a matchtag of zero: events have none' 4 '' "0 of 17 frames shown, $whole" --matchtag 0 "$room/asked"
-selects 'errors' 4 '7 ' "1 of 17 frames shown, errors in 1 of 5 responses, $whole" --errors "$room/asked"
+selects 'a matchtag of zero: events have none' 0 '' "0 of 17 frames shown, $whole" --matchtag 0 "$room/asked"
+selects 'errors' 0 '7 ' "1 of 17 frames shown, errors in 1 of 5 responses, $whole" --errors "$room/asked"
 selects 'what all of the options select' 0 '6 ' "1 of 17 frames shown, $whole" --service kvs --topic '*.get' --type request --matchtag 0x3 "$room/asked"
 selects 'no error' 0 '' "0 of 17 frames shown, errors in 0 of 1 response, $whole" --errors --matchtag 2 "$room/asked"
-selects 'no response to look at for errors' 4 '' "0 of 17 frames shown, no response to look at, $whole" --errors --service hb "$room/asked"
+selects 'no response to look at for errors' 0 '' "0 of 17 frames shown, no response to look at, $whole" --errors --service hb "$room/asked"
 selects 'a single frame, with its place' 0 '0 ' '1 of 1 frame shown, 35 bytes, and nothing behind it' --type request "$room/log"
-selects 'a single frame that is not selected' 4 '' '0 of 1 frame shown, 35 bytes, and nothing behind it' --type event "$room/log"
+selects 'a single frame that is not selected' 0 '' '0 of 1 frame shown, 35 bytes, and nothing behind it' --type event "$room/log"
 run dump --json --errors "$room/asked"
 [ "$(tail -n 1 "$room/out")" = '{"stop":"end","frames":17,"bytes":627,"refusal":null,"shown":1,"refused":0,"next":627,"responses":5}' ]
 report $? 'the JSON of a stop tells how many were shown, of how many responses'
-part='head -n 1' shows 'number and place are those of the capture' 4 'frame 7          39 bytes, from byte 265       response  "kvs.get", errnum 38 ENOSYS, matchtag 3, no payload' --errors --summary "$room/asked"
+part='head -n 1' shows 'number and place are those of the capture' 0 'frame 7          39 bytes, from byte 265       response  "kvs.get", errnum 38 ENOSYS, matchtag 3, no payload' --errors --summary "$room/asked"
 run dump --summary --errors < <(cat "$room/asked")
-[ "$status" -eq 4 ] && [ "$(wc -l <"$room/out")" -eq 2 ]
+[ "$status" -eq 0 ] && [ "$(wc -l <"$room/out")" -eq 2 ]
 report $? 'the same from a pipe'
 
 # ---- frames by their numbers
@@ -63,10 +63,10 @@ selects '--frames A-B' 0 '3 4 5 ' "3 of 6 frames shown, 226 bytes; $behind" --fr
 selects '--frames A-' 0 '15 16 ' "2 of 17 frames shown, $whole" --frames 15- "$room/asked"
 selects '--frames -B' 0 '0 1 ' "2 of 2 frames shown, 78 bytes; $behind" --frames -1 "$room/asked"
 selects '--frames past the end' 0 '16 ' "1 of 17 frames shown, $whole" --frames 16-99 "$room/asked"
-selects '--frames behind the end' 4 '' "0 of 17 frames shown, $whole" --frames 17- "$room/asked"
+selects '--frames behind the end' 0 '' "0 of 17 frames shown, $whole" --frames 17- "$room/asked"
 selects '--frames and a type' 0 '3 ' "1 of 6 frames shown, 226 bytes; $behind" --frames 0x3-5 --type request "$room/asked"
 selects '--frame and a type' 0 '3 ' "1 of 4 frames shown, 152 bytes; $behind" --frame 3 --type request "$room/asked"
-selects '--frame and another type' 4 '' "0 of 4 frames shown, 152 bytes; $behind" --frame 3 --type event "$room/asked"
+selects '--frame and another type' 0 '' "0 of 4 frames shown, 152 bytes; $behind" --frame 3 --type event "$room/asked"
 selects '--frames in front of a torn tail' 0 '0 ' "1 of 1 frame shown, 29 bytes; $behind" --frames 0-0 "$room/torn"
 run dump --json --frames 3-5 "$room/asked"
 [ "$(tail -n 1 "$room/out")" = '{"stop":"range","frames":6,"bytes":226,"refusal":null,"shown":3,"refused":0,"next":226}' ]
@@ -128,8 +128,8 @@ run dump --matchtag 7 --payload-out - "$room/four"
 [ "$status" -eq 0 ] && [ "$(cat "$room/out")" = hi ] && [ ! -s "$room/err" ]
 report $? 'its payload on standard output'
 run dump --errors --frame-out "$room/cut" "$room/asked"
-[ "$status" -eq 4 ] && [ "$(wc -c <"$room/cut")" -eq 39 ]
-report $? 'a response with an error is status 4, written or shown'
+[ "$status" -eq 0 ] && [ "$(wc -c <"$room/cut")" -eq 39 ]
+report $? 'the one response with an error is cut out'
 wrong 'two that are selected' '--frame-out is for one frame, and 2 of 17 are selected: nothing is written' dump --matchtag 2 --frame-out "$room/none" "$room/asked"
 wrong 'none that is' '--payload-out is for one frame, and 0 of 17 is selected: nothing is written' dump --service x --payload-out "$room/none" "$room/asked"
 wrong 'one without a payload' 'no payload' dump --type control --payload-out "$room/none" "$room/asked"
