@@ -9,6 +9,7 @@
 #include "floor_form.h"
 #include "floor_json.h"
 #include "program.h"
+#include "progress.h"
 #include "split.h"
 #include "write_options.h"
 
@@ -102,6 +103,7 @@ static int judge_capture(struct audit *audit, struct capture *capture)
     while ((status = next_frame(capture, &frame)) == 0 && !ferror(stdout)) {
         if (!frame.whole && frame.length == 0)
             break;
+        tell_progress(frame.start);
         audit->counts.frames++;
         if (frame.whole) {
             if ((status = judge_frame(audit, &frame)) != 0)
@@ -146,7 +148,9 @@ static int audit_asked(struct audit *audit, const char *name)
 
     if (status != 0)
         return status;
+    start_progress(capture.input.stream);
     status = judge_capture(audit, &capture);
+    clear_progress();
     close_capture(&capture);
     if (status == 0)
         status = end_audit(audit);

@@ -4,6 +4,7 @@
 #include "floor_result.h"
 #include "json.h"
 #include "names.h"
+#include "progress.h"
 #include "quoted.h"
 
 static const struct {
@@ -123,6 +124,7 @@ static void put_finding(enum finding kind, const struct told *told)
 void find(struct audit *audit, enum finding kind, const struct told *told)
 {
     audit->counts.findings[kind]++;
+    clear_progress();
     if (audit->json)
         put_finding(kind, told);
     else if (!audit->quiet)
