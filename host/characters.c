@@ -1,9 +1,9 @@
 #include "characters.h"
 
-#include <stdio.h>
 #include <stdlib.h>
 #include <string.h>
 
+#include "put.h"
 #include "quoted.h"
 
 size_t character_length(uint8_t first)
@@ -33,15 +33,25 @@ static int is_ascii(uint32_t character)
     return character < 0x80 && printable((uint8_t)character);
 }
 
-void print_ascii(uint32_t character)
+static void put_escape(uint32_t number)
+{
+    uint8_t escape[] = {'\\', 'u', 0, 0, 0, 0};
+
+    for (size_t i = sizeof escape; --i > 1; number >>= 4)
+        escape[i] = (uint8_t) "0123456789abcdef"[number & 0xF];
+    put_bytes(escape, sizeof escape);
+}
+
+void put_ascii(uint32_t character)
 {
     if (is_ascii(character)) {
-        putchar((int)character);
+        put_byte((uint8_t)character);
     } else if (character < 0x10000) {
-        printf("\\u%04lx", (unsigned long)character);
+        put_escape(character);
     } else {
         character -= 0x10000;
-        printf("\\u%04lx\\u%04lx", 0xD800ul + (character >> 10), 0xDC00ul + (character & 0x3FF));
+        put_escape(0xD800u + (character >> 10));
+        put_escape(0xDC00u + (character & 0x3FF));
     }
 }
 
@@ -63,7 +73,7 @@ static int is_hidden(uint32_t character)
 }
 
 /* Whether the terminal takes UTF-8: the first of these that is set decides. */
-static int takes_utf8(void)
+static int asks_for_utf8(void)
 {
     static const char *const names[] = {"LC_ALL", "LC_CTYPE", "LANG"};
     static const char *const spellings[] = {".UTF-8", ".utf-8", ".UTF8", ".utf8"};
@@ -78,21 +88,31 @@ static int takes_utf8(void)
     return 0;
 }
 
+/* The environment is asked once: there may be millions of characters. */
+static int takes_utf8(void)
+{
+    static int known = -1;
+
+    if (known < 0)
+        known = asks_for_utf8();
+    return known;
+}
+
 /* One of more than one byte. */
-static void print_utf8(uint32_t character)
+static void put_utf8(uint32_t character)
 {
     int shift = character < 0x800 ? 6 : character < 0x10000 ? 12 : 18;
     uint32_t front = shift == 6 ? 0xC0 : shift == 12 ? 0xE0 : 0xF0;
 
-    putchar((int)(front | character >> shift));
+    put_byte((uint8_t)(front | character >> shift));
     while ((shift -= 6) >= 0)
-        putchar((int)(0x80 | (character >> shift & 0x3F)));
+        put_byte((uint8_t)(0x80 | (character >> shift & 0x3F)));
 }
 
-void print_shown(uint32_t character)
+void put_shown(uint32_t character)
 {
     if (character < 0x80 || is_hidden(character) || !takes_utf8())
-        print_ascii(character);
+        put_ascii(character);
     else
-        print_utf8(character);
+        put_utf8(character);
 }

@@ -12,16 +12,16 @@ size_t character_length(uint8_t first);
 uint32_t character_at(const uint8_t *bytes);
 
 /*
- * Prints a character as a string of JSON may have it, in ASCII: as it is where it is printable,
- * and as \uNNNN, or two of these, where not. A quote or a backslash is printed as it is too.
+ * Puts a character as a string of JSON may have it, in ASCII: as it is where it is printable,
+ * and as \uNNNN, or two of these, where not. A quote or a backslash is put as it is too.
  */
-void print_ascii(uint32_t character);
+void put_ascii(uint32_t character);
 
 /*
- * Prints it as it is where a terminal shows it so, and otherwise as print_ascii does. All but ASCII
+ * Puts it as it is where a terminal shows it so, and otherwise as put_ascii does. All but ASCII
  * is shown only where LC_ALL, LC_CTYPE or LANG say that the terminal takes UTF-8: to another one
  * these bytes may be commands.
  */
-void print_shown(uint32_t character);
+void put_shown(uint32_t character);
 
 #endif

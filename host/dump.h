@@ -61,8 +61,8 @@ int has_payload(const struct dump *dump);
 const uint8_t *payload_bytes(const struct dump *dump);
 size_t payload_length(const struct dump *dump);
 
-/* What is in a payload, for a person, behind the line that tells its length. */
-void show_payload(const struct dump *dump);
+/* What is in a payload, for a person, behind the line that tells its length; put.h has it wait. */
+void put_payload(const struct dump *dump);
 
 /* One frame, whole or refused: for a person, and for a machine. */
 void show_text(const struct dump *dump);

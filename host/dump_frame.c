@@ -4,6 +4,7 @@
 #include "dump.h"
 #include "dump_options.h"
 #include "files.h"
+#include "put.h"
 
 uint32_t dumped(const struct dump *dump, size_t index)
 {
@@ -225,6 +226,7 @@ int command_dump(int count, char **words)
         status = open_capture(&capture, options.file);
     if (status != 0)
         return status;
+    put_in_blocks();
     dump.all = options.all;
     status = dump_asked(&capture, &dump, &options);
     close_capture(&capture);
