@@ -17,25 +17,6 @@ static void begin(void)
     follows = 1;
 }
 
-/* Any bytes: one that is not ASCII is the character of its number. */
-static void put_string(const uint8_t *bytes, size_t length)
-{
-    const uint8_t *end = bytes + length;
-
-    put_byte('"');
-    while (bytes < end) {
-        size_t run = unmarked_run(bytes, (size_t)(end - bytes));
-
-        put_bytes(bytes, run);
-        if ((bytes += run) == end)
-            break;
-        if (printable(*bytes))
-            put_byte('\\');
-        put_ascii(*bytes++);
-    }
-    put_byte('"');
-}
-
 /* Names are plain: nothing in them is marked. */
 void json_name(const char *name)
 {
@@ -87,17 +68,17 @@ void json_null(void)
 void json_text(const char *text)
 {
     begin();
-    put_string((const uint8_t *)text, strlen(text));
+    put_json_string((const uint8_t *)text, strlen(text));
 }
 
 void json_bytes(const uint8_t *bytes, size_t length)
 {
-    if (printable_run(bytes, length) < length) {
+    if (!is_utf8(bytes, length)) {
         json_null();
         return;
     }
     begin();
-    put_string(bytes, length);
+    put_json_string(bytes, length);
 }
 
 void json_value(const uint8_t *text, size_t length)

@@ -36,7 +36,10 @@ static void pass_mark(struct layout *layout)
 static void pass_odd(struct layout *layout)
 {
     if (!printable(*layout->at)) {
-        put_ascii(character_at(layout->at));
+        if (layout->indented)
+            put_shown_in_json(character_at(layout->at));
+        else
+            put_ascii(character_at(layout->at));
         layout->at += character_length(*layout->at);
         return;
     }

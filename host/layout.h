@@ -20,7 +20,8 @@ void put_tight(const uint8_t *text, size_t length);
 /*
  * Puts the text as it stands within a string of JSON: with every member and every value of an array
  * on a line of its own, two spaces further in than what it stands in. An empty object or array
- * stays on its line. Behind the last character there is no new line.
+ * stays on its line. Behind the last character there is no new line. A character that a terminal
+ * would not show as it is is an escape that can be seen there.
  */
 void put_indented(const uint8_t *text, size_t length);
 

@@ -2,6 +2,7 @@
 
 #include <string.h>
 
+#include "characters.h"
 #include "put.h"
 
 size_t printable_run(const uint8_t *bytes, size_t length)
@@ -22,37 +23,70 @@ size_t unmarked_run(const uint8_t *bytes, size_t length)
     return run;
 }
 
-static void put_shown_bytes(const uint8_t *bytes, size_t length, int marked)
+/* Where the text goes decides what stands in front of some of it. */
+enum form { PLAIN, QUOTED, IN_JSON };
+
+/* A quote or a backslash. */
+static void put_mark(uint8_t mark, enum form form)
 {
-    size_t at = 0;
+    if (form != PLAIN)
+        put_byte('\\');
+    if (form == IN_JSON && mark == '\\')
+        put_text("\\\\");
+    put_byte(mark);
+}
 
-    while (at < length) {
-        size_t run =
-            marked ? unmarked_run(bytes + at, length - at) : printable_run(bytes + at, length - at);
+/* What is not printable ASCII: a character, or else a byte. Returns how many bytes that took. */
+static size_t put_odd(const uint8_t *bytes, size_t length, enum form form)
+{
+    uint32_t character;
+    size_t took = bytes[0] < 0x80 ? 0 : read_character(bytes, length, &character);
 
-        put_bytes(bytes + at, run);
-        if ((at += run) == length)
-            break;
-        if (printable(bytes[at])) {
-            put_byte('\\');
-            put_byte(bytes[at]);
-        } else {
-            put_text("\\x");
-            put_hex(bytes + at, 1);
-        }
-        at++;
+    if (took == 0) {
+        put_text(form == IN_JSON ? "\\\\x" : "\\x");
+        put_hex(bytes, 1);
+        return 1;
+    }
+    if (form == IN_JSON)
+        put_shown_in_json(character);
+    else
+        put_shown(character);
+    return took;
+}
+
+static void put_in_form(const uint8_t *bytes, size_t length, enum form form)
+{
+    const uint8_t *end = bytes + length;
+
+    while (bytes < end) {
+        size_t run = unmarked_run(bytes, (size_t)(end - bytes));
+
+        put_bytes(bytes, run);
+        if ((bytes += run) == end)
+            return;
+        if (printable(*bytes))
+            put_mark(*bytes++, form);
+        else
+            bytes += put_odd(bytes, (size_t)(end - bytes), form);
     }
 }
 
 void put_plain(const char *text)
 {
-    put_shown_bytes((const uint8_t *)text, strlen(text), 0);
+    put_in_form((const uint8_t *)text, strlen(text), PLAIN);
 }
 
 void put_quoted(const uint8_t *bytes, size_t length)
 {
     put_byte('"');
-    put_shown_bytes(bytes, length, 1);
+    put_in_form(bytes, length, QUOTED);
+    put_byte('"');
+}
+
+void put_json_string(const uint8_t *bytes, size_t length)
+{
+    put_byte('"');
+    put_in_form(bytes, length, IN_JSON);
     put_byte('"');
 }
 

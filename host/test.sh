@@ -293,6 +293,9 @@ dump_refuses "an event's unused field is 10" 10 "$n10" "$start 00 00 00 18 02 41
 # shellcheck source=host/test/json.sh
 . host/test/json.sh
 
+# shellcheck source=host/test/shown.sh
+. host/test/shown.sh
+
 # ---- usage
 
 helps run '--payload-text'
