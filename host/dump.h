@@ -21,15 +21,28 @@ struct fields {
     uint32_t second;
 };
 
+/* The members of a frame's object that --fields asks for, in that order. */
+struct member;
+enum { ASKED_MAX = 64 }; /* no fewer than there are, and none is asked for twice */
+struct asked {
+    const struct member *members[ASKED_MAX];
+    size_t count;
+    int judged; /* one of them tells whether the payload is JSON */
+};
+
+/* Takes the names, with commas between them. Returns 0, or has said what is wrong. */
+int read_asked(const char *list, struct asked *asked);
+
 /* A frame, and what the library said of it. */
 struct dump {
     struct frame frame;
     uint32_t refusal;
     uint8_t record[LAMPREYCOIL_READ_RECORD]; /* where it was accepted */
-    struct verdict verdict;                  /* where it has a payload, too */
+    struct verdict verdict;                  /* where it has a payload, too, that was judged */
     struct split split;                      /* here and below: where it was refused */
     char reason[REASON_ROOM];
-    int all;    /* show all bytes of the payload */
+    const struct asked *asked; /* NULL where all members are written */
+    int all;                   /* show all bytes of the payload */
     int placed; /* show which frame it is, and where in the capture: not for a single one */
 };
 

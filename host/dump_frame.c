@@ -68,7 +68,7 @@ static int look_at_next(struct capture *capture, struct dump *dump)
     dump->refusal =
         lampreycoil_read(frame->bytes, frame->length, dump->record, sizeof dump->record);
     if (dump->refusal == LAMPREYCOIL_OK)
-        return has_payload(dump)
+        return has_payload(dump) && (dump->asked == NULL || dump->asked->judged)
                    ? judge_payload(payload_bytes(dump), payload_length(dump), &dump->verdict)
                    : 0;
     if (frame->length >= FRONT)
@@ -228,6 +228,7 @@ int command_dump(int count, char **words)
         return status;
     put_in_blocks();
     dump.all = options.all;
+    dump.asked = options.fields == NULL ? NULL : &options.asked;
     status = dump_asked(&capture, &dump, &options);
     close_capture(&capture);
     return status;

@@ -27,6 +27,8 @@ static int take_words(struct dump_options *options, struct words *words)
             status = word_flag(words, &options->json);
         else if (word_is(words, "--summary"))
             status = word_flag(words, &options->summary);
+        else if (word_is(words, "--fields"))
+            status = word_once(words, &options->fields);
         else if (word_is(words, "--frame"))
             status = word_once(words, &options->frame_text);
         else if (word_is(words, "--payload-out"))
@@ -77,6 +79,8 @@ static int check_options(struct dump_options *options)
 {
     if (options->summary && beside_summary(options) != NULL)
         return trouble("--summary leaves no place for %s", beside_summary(options));
+    if (options->fields != NULL && !options->json)
+        return trouble("--fields goes with --json alone");
     if (options->json && options->all)
         return trouble("--json has all bytes of the payload: leave out --all");
     if (bytes_only(options) != NULL && beside_bytes(options) != NULL)
@@ -88,7 +92,7 @@ static int check_options(struct dump_options *options)
         parse_number(options->frame_text, 10, UINT32_MAX, &options->frame) != 0)
         return trouble("--frame takes a frame's number, from 0 and at most %lu, not '%s'",
                        (unsigned long)UINT32_MAX, options->frame_text);
-    return 0;
+    return options->fields == NULL ? 0 : read_asked(options->fields, &options->asked);
 }
 
 int read_dump_options(struct dump_options *options, int count, char **words)

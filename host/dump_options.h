@@ -4,12 +4,16 @@
 
 #include <stdint.h>
 
+#include "dump.h"
+
 struct dump_options {
     const char *file; /* here and below: NULL where not given */
     const char *payload_out;
     const char *frame_out;
     const char *frame_text; /* --frame as it was given */
     uint32_t frame;         /* and its number */
+    const char *fields;     /* --fields as it was given */
+    struct asked asked;     /* and what it asks for */
     int all;
     int json;
     int summary;

@@ -32,6 +32,8 @@ const char usage[] =
     "                       alone, with all bytes of the parts in hexadecimal, and a\n"
     "                       payload that is JSON as a value and as indented text; behind\n"
     "                       several, one more that tells the stop\n"
+    "  --fields A,B,C       with --json: only these fields of each frame, in this order;\n"
+    "                       one of a part as in topic.text; the stop stays whole\n"
     "Frames one behind another are shown with number and place, up to the first that\n"
     "is refused or torn, and then why no more. Places within a frame count from its\n"
     "front. Of a frame that is refused, dump shows what can be said of it. A payload\n"
