@@ -87,12 +87,10 @@ static void put_row(const uint8_t *bytes, size_t at, size_t length)
     put_text("  ");
     put_hex_number((uint32_t)at, 4);
     put_spaces(8);
-    for (size_t i = 0; i < length; i++) {
-        put_hex(bytes + at + i, 1);
-        put_byte(' ');
-        shown[i] = printable(bytes[at + i]) ? bytes[at + i] : '.';
-    }
+    put_spaced_hex(bytes + at, length);
     put_spaces(3 * (ROW - length) + 1);
+    for (size_t i = 0; i < length; i++)
+        shown[i] = printable(bytes[at + i]) ? bytes[at + i] : '.';
     put_byte('|');
     put_bytes(shown, length);
     put_text("|\n");

@@ -17,13 +17,18 @@ static void begin(void)
     follows = 1;
 }
 
-/* Names are plain: nothing in them is marked. */
+/* Names are plain: nothing in them is marked. There are many, so each is put in one piece. */
 void json_name(const char *name)
 {
-    begin();
-    put_byte('"');
-    put_text(name);
-    put_text("\":");
+    size_t length = strlen(name);
+    uint8_t *at = put_place(length + (follows ? 4 : 3));
+
+    if (follows)
+        *at++ = ',';
+    *at = '"';
+    memcpy(at + 1, name, length);
+    at[length + 1] = '"';
+    at[length + 2] = ':';
     follows = 0;
 }
 

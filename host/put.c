@@ -56,14 +56,6 @@ static void put_spaces_up_to(size_t width, size_t length)
         put_spaces(width - length);
 }
 
-void put_text_left(const char *text, size_t width)
-{
-    size_t length = strlen(text);
-
-    put_bytes(text, length);
-    put_spaces_up_to(width, length);
-}
-
 void put_number(unsigned long long number)
 {
     put_number_right(number, 0);
@@ -89,18 +81,29 @@ void put_number_right(unsigned long long number, size_t width)
 
 static const char hex_digits[] = "0123456789ABCDEF";
 
+static uint8_t *write_hex(uint8_t *at, uint8_t byte)
+{
+    at[0] = (uint8_t)hex_digits[byte >> 4];
+    at[1] = (uint8_t)hex_digits[byte & 0xF];
+    return at + 2;
+}
+
 void put_hex(const uint8_t *bytes, size_t length)
 {
     while (length > 0) {
         size_t now = length < PUT_ROOM / 2 ? length : PUT_ROOM / 2;
         uint8_t *at = put_place(2 * now);
 
-        for (const uint8_t *end = bytes + now; bytes < end; bytes++) {
-            *at++ = (uint8_t)hex_digits[*bytes >> 4];
-            *at++ = (uint8_t)hex_digits[*bytes & 0xF];
-        }
+        for (const uint8_t *end = bytes + now; bytes < end; bytes++)
+            at = write_hex(at, *bytes);
         length -= now;
     }
+}
+
+void put_spaced_hex(const uint8_t *bytes, size_t length)
+{
+    for (const uint8_t *end = bytes + length; bytes < end; bytes++)
+        *write_hex(put_place(3), *bytes) = ' ';
 }
 
 void put_hex_number(uint32_t number, size_t digits)

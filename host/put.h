@@ -70,16 +70,25 @@ static inline void put_spaces(size_t count)
     memset(put_place(count), ' ', count);
 }
 
+/* Here and below: with spaces behind it or in front of it up to a width; what is longer is not cut.
+ */
+static inline void put_text_left(const char *text, size_t width)
+{
+    size_t length = strlen(text);
+
+    put_bytes(text, length);
+    if (length < width)
+        put_spaces(width - length);
+}
+
 /* Decimal. */
 void put_number(unsigned long long number);
-
-/* With spaces behind it or in front of it up to this width; what is longer is not cut. */
-void put_text_left(const char *text, size_t width);
 void put_number_left(unsigned long long number, size_t width);
 void put_number_right(unsigned long long number, size_t width);
 
-/* Hexadecimal, in capitals: two digits a byte, and a number with so many. */
+/* Hexadecimal, in capitals: two digits a byte; a space behind each; and a number with so many. */
 void put_hex(const uint8_t *bytes, size_t length);
+void put_spaced_hex(const uint8_t *bytes, size_t length);
 void put_hex_number(uint32_t number, size_t digits);
 
 #endif

@@ -5,10 +5,45 @@
 #include "characters.h"
 #include "put.h"
 
+/* The byte eight times, and the highest bit of each. */
+#define EIGHT(byte) (0x0101010101010101u * (byte))
+#define HIGHEST EIGHT(0x80u)
+
+/* Whether one of eight bytes is below the limit; and whether one is this byte. */
+static uint64_t any_below(uint64_t eight, uint64_t limit)
+{
+    return (eight - EIGHT(limit)) & ~eight & HIGHEST;
+}
+
+static uint64_t any_is(uint64_t eight, uint8_t byte)
+{
+    return any_below(eight ^ EIGHT(byte), 1);
+}
+
+static int all_printable(uint64_t eight)
+{
+    return ((eight & HIGHEST) | any_below(eight, 0x20) | any_is(eight, 0x7F)) == 0;
+}
+
+static int all_unmarked(uint64_t eight)
+{
+    return all_printable(eight) && (any_is(eight, '"') | any_is(eight, '\\')) == 0;
+}
+
+static uint64_t eight_at(const uint8_t *bytes)
+{
+    uint64_t eight;
+
+    memcpy(&eight, bytes, sizeof eight);
+    return eight;
+}
+
 size_t printable_run(const uint8_t *bytes, size_t length)
 {
     size_t run = 0;
 
+    while (length - run >= 8 && all_printable(eight_at(bytes + run)))
+        run += 8;
     while (run < length && printable(bytes[run]))
         run++;
     return run;
@@ -18,6 +53,8 @@ size_t unmarked_run(const uint8_t *bytes, size_t length)
 {
     size_t run = 0;
 
+    while (length - run >= 8 && all_unmarked(eight_at(bytes + run)))
+        run += 8;
     while (run < length && printable(bytes[run]) && bytes[run] != '"' && bytes[run] != '\\')
         run++;
     return run;
