@@ -35,7 +35,7 @@ struct dump {
     struct frame frame;
     uint32_t refusal;
     uint8_t record[LAMPREYCOIL_READ_RECORD]; /* where it was accepted */
-    struct verdict verdict;                  /* where it has a payload, too */
+    struct verdict verdict;                  /* where it has a payload, too, that was judged */
     struct split split;                      /* here and below: where it was refused */
     char reason[REASON_ROOM];
     int selected;                       /* it is accepted, and to be shown */
@@ -43,6 +43,7 @@ struct dump {
     int range_ended;                    /* no frame: --frames ends here */
     struct tally tally;                 /* with this one */
     const struct dump_options *options; /* what was asked for */
+    const struct asked_fields *asked;   /* NULL where all members are written */
     int all;                            /* show all bytes of the payload */
     int placed; /* show which frame it is, and where in the capture: not for a single one */
 };
@@ -96,8 +97,8 @@ int has_payload(const struct dump *dump);
 const uint8_t *payload_bytes(const struct dump *dump);
 size_t payload_length(const struct dump *dump);
 
-/* What is in a payload, for a person, behind the line that tells its length. */
-void show_payload(const struct dump *dump);
+/* What is in a payload, for a person, behind the line that tells its length; put.h has it wait. */
+void put_payload(const struct dump *dump);
 
 /* One frame, whole or refused: for a person, and for a machine. */
 void show_text(const struct dump *dump);

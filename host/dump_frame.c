@@ -4,6 +4,7 @@
 #include "dump.h"
 #include "files.h"
 #include "progress.h"
+#include "put.h"
 
 static void show_form(const struct dump *dump)
 {
@@ -24,7 +25,8 @@ static int show(struct dump *dump)
 {
     int status = 0;
 
-    if (dump->refusal == LAMPREYCOIL_OK && has_payload(dump))
+    if (dump->refusal == LAMPREYCOIL_OK && has_payload(dump) &&
+        (dump->asked == NULL || dump->asked->judged))
         status = judge_payload(payload_bytes(dump), payload_length(dump), &dump->verdict);
     clear_progress();
     if (status == 0)
@@ -183,6 +185,8 @@ int command_dump(int count, char **words)
         return status;
     dump.options = &options;
     dump.all = options.all;
+    dump.asked = options.fields == NULL ? NULL : &options.asked;
+    put_in_blocks();
     if (!options.follow)
         start_progress(capture.input.stream);
     status = dump_asked(&capture, &dump);

@@ -1,234 +1,183 @@
 /* A frame as one JSON object on one line, for machines. A part that is not there is null. */
-#include <stdio.h>
 #include <string.h>
 
 #include "dump.h"
-#include "layout.h"
+#include "dump_members.h"
+#include "files.h"
 #include "json.h"
-#include "names.h"
 
-static void put_number(const char *name, unsigned long long number)
+/* ---- what is true of a frame */
+
+/* Of one with a header at these bytes. */
+static unsigned read_header(struct object *object, const uint8_t *header)
 {
-    json_name(name);
-    json_number(number);
+    unsigned kinds = HEADED;
+
+    object->fields = fields_at(header);
+    object->type = type_by_number(object->fields.type);
+    object->error = error_by_number(object->fields.first);
+    if (object->type != NULL)
+        kinds |= TYPED;
+    if (object->fields.type == LAMPREYCOIL_RESPONSE && object->error != NULL)
+        kinds |= NAMED_ERROR;
+    return kinds;
 }
 
-static void put_text(const char *name, const char *text)
+static unsigned kinds_of_payload(const struct verdict *verdict)
 {
-    json_name(name);
-    json_text(text);
+    if (verdict->kind == VERDICT_JSON)
+        return HAS_PAYLOAD | IS_JSON;
+    return HAS_PAYLOAD | IS_NOT_JSON | (verdict->kind == VERDICT_DEEP ? IS_DEEP : 0u);
 }
 
-/* What has no name is null. */
-static void put_name(const char *name)
+static unsigned kinds_of_accepted(struct object *object)
 {
-    if (*name == '\0')
-        json_null();
-    else
-        json_text(name);
-}
+    const struct dump *dump = object->dump;
+    unsigned kinds = ACCEPTED | read_header(object, dump->frame.bytes + header_start(dump));
 
-/* Where a part lies and what it holds, inside an object. */
-static void put_stretch(const struct dump *dump, size_t start, size_t length)
-{
-    put_number("start", start);
-    put_number("length", length);
-    json_name("hex");
-    json_hex(dump->frame.bytes + start, length);
-}
-
-/* A number and the names of its bits: those that have one. */
-static void put_bits(const char *number_name, uint32_t number, const char *names_name,
-                     const struct bit_name *names, size_t count)
-{
-    put_number(number_name, number);
-    json_name(names_name);
-    json_open('[');
-    for (size_t i = 0; i < count; i++) {
-        if ((number & names[i].bit) != 0)
-            json_text(names[i].name);
-    }
-    json_close(']');
-}
-
-/* The fields go by their names for the type; those of no type that there is have none. */
-static void put_fields(const uint8_t *header)
-{
-    struct fields fields = fields_at(header);
-    const struct type_names *names = type_by_number(fields.type);
-    const struct error_name *error = error_by_number(fields.first);
-
-    put_number("type", fields.type);
-    json_name("type_name");
-    put_name(names == NULL ? "" : names->name);
-    put_bits("flags", fields.flags, "flag_names", flag_names, FLAG_NAMES);
-    put_number("userid", fields.userid);
-    put_bits("rolemask", fields.rolemask, "role_names", role_names, ROLE_NAMES);
-    put_number("first", fields.first);
-    put_number("second", fields.second);
-    if (names != NULL) {
-        put_text("first_name", names->first);
-        put_text("second_name", names->second);
-    }
-    if (fields.type == LAMPREYCOIL_RESPONSE && error != NULL)
-        put_text("error_name", error->name);
-}
-
-static void put_routes(const struct dump *dump)
-{
-    size_t start = dumped(dump, LAMPREYCOIL_READ_ROUTE_START);
-    uint32_t count = dumped(dump, LAMPREYCOIL_READ_ROUTES);
-
-    json_name("routes");
-    json_open('[');
-    for (uint32_t i = 0; i < count; i++, start += LAMPREYCOIL_ROUTE_STEP) {
-        json_open('{');
-        put_number("start", start);
-        put_number("length", LAMPREYCOIL_ROUTE_SIZE);
-        json_name("text");
-        json_bytes(dump->frame.bytes + start, LAMPREYCOIL_ROUTE_SIZE - 1);
-        json_close('}');
-    }
-    json_close(']');
-}
-
-/* The value and the text; no value of which a reader of this object could choke. */
-static void put_json(const uint8_t *text, size_t length)
-{
-    json_name("json");
-    if (has_half_pair(text, length))
-        json_null();
-    else
-        json_value(text, length);
-    json_name("text");
-    json_indented(text, length);
-}
-
-/* Whether the payload is JSON: its value and its text, or where and why not. */
-static void put_verdict(const struct dump *dump)
-{
-    const struct verdict *verdict = &dump->verdict;
-
-    json_name("is_json");
-    if (verdict->kind == VERDICT_JSON) {
-        json_bool(1);
-        put_json(payload_bytes(dump), payload_length(dump) - 1);
-        return;
-    }
-    if (verdict->kind == VERDICT_NO) {
-        json_bool(0);
-    } else {
-        json_null();
-        put_number("refusal", LAMPREYCOIL_JSON_DEEP);
-    }
-    put_number("json_byte", verdict->byte);
-    put_text("json_because", verdict->reason);
-}
-
-/* A part of an accepted frame; the topic's also as text, the payload's also as JSON. */
-static void put_named(const struct dump *dump, const char *name, uint8_t flag, size_t start,
-                      size_t length)
-{
-    json_name(name);
-    if ((dumped(dump, LAMPREYCOIL_READ_FLAGS) & flag) != flag) {
-        json_null();
-        return;
-    }
-    json_open('{');
-    put_stretch(dump, start, length);
-    if (flag == LAMPREYCOIL_TOPIC) {
-        json_name("text");
-        json_bytes(dump->frame.bytes + start, length);
-    } else if (flag == LAMPREYCOIL_PAYLOAD) {
-        put_verdict(dump);
-    }
-    json_close('}');
-}
-
-static void put_accepted(const struct dump *dump)
-{
-    put_number("frame", dump->frame.length);
-    /* What is shown without its place is all that there is. */
     if (!dump->placed)
-        put_number("behind", 0);
-    put_fields(dump->frame.bytes + header_start(dump));
-    put_routes(dump);
-    put_named(dump, "delimiter", LAMPREYCOIL_ROUTE, delimiter_start(dump), 0);
-    put_named(dump, "topic", LAMPREYCOIL_TOPIC, dumped(dump, LAMPREYCOIL_READ_TOPIC_START),
-              dumped(dump, LAMPREYCOIL_READ_TOPIC_LENGTH));
-    put_named(dump, "payload", LAMPREYCOIL_PAYLOAD, dumped(dump, LAMPREYCOIL_READ_PAYLOAD_START),
-              dumped(dump, LAMPREYCOIL_READ_PAYLOAD_LENGTH));
-    put_named(dump, "header", 0, header_start(dump), HEADER);
+        kinds |= SINGLE;
+    if ((object->fields.flags & LAMPREYCOIL_ROUTE) != 0)
+        kinds |= HAS_DELIMITER;
+    if ((object->fields.flags & LAMPREYCOIL_TOPIC) != 0)
+        kinds |= HAS_TOPIC;
+    if (has_payload(dump))
+        kinds |= kinds_of_payload(&dump->verdict);
+    return kinds;
 }
 
-static void put_split(const struct dump *dump)
+static unsigned kinds_of_refused(struct object *object)
 {
-    const struct split *split = &dump->split;
+    const struct dump *dump = object->dump;
+    unsigned kinds = REFUSED;
 
-    put_number("body", split->body);
-    if (split->header != 0) {
-        put_number("header_start", split->header);
-        json_name("header_is_last_part");
-        json_bool(split->header_last);
-        put_fields(dump->frame.bytes + split->header);
-    }
-    json_name("whole");
-    json_bool(split->end == SPLIT_WHOLE);
-    json_name("parts");
-    json_open('[');
-    for (size_t i = 0; i < split->count; i++) {
-        json_open('{');
-        json_name("role");
-        put_name(role_name(split->parts[i].role));
-        put_stretch(dump, split->parts[i].start, split->parts[i].length);
-        json_close('}');
-    }
-    json_close(']');
-}
-
-static void put_refused(const struct dump *dump)
-{
-    size_t front = dump->frame.length < FRONT ? dump->frame.length : FRONT;
-
-    put_number("refusal", dump->refusal);
-    put_text("words", lampreycoil_refusal_words(dump->refusal));
-    put_text("because", dump->reason);
-    json_name("front");
-    json_hex(dump->frame.bytes, front);
     if (dump->refusal == LAMPREYCOIL_INPUT_SHORT)
-        put_number("needed", bytes_needed(dump->frame.length, &dump->split));
-    if (dump->frame.length >= FRONT && dump->refusal != LAMPREYCOIL_START_WRONG)
-        put_split(dump);
+        kinds |= SHORT;
+    if (dump->frame.length < FRONT || dump->refusal == LAMPREYCOIL_START_WRONG)
+        return kinds;
+    kinds |= SPLIT;
+    if (dump->split.header != 0)
+        kinds |= FOUND | read_header(object, dump->frame.bytes + dump->split.header);
+    return kinds;
 }
 
 /*
- * Which frame it is, or else how long the input; both of a refused frame, as far as that is known:
- * its input begins with it. One that was passed is as long as its front says.
+ * A frame has its place in the capture, or else the input's length; both if it is not whole, as far
+ * as that is known: its input begins with it. One that was passed is as long as its front says.
  */
-static void put_place(const struct dump *dump)
+static struct object object_of(const struct dump *dump)
 {
-    if (dump->placed) {
-        put_number("number", dump->frame.number);
-        put_number("start", dump->frame.start);
+    struct object object = {.dump = dump, .kinds = ANY};
+
+    object.kinds |=
+        dump->refusal == LAMPREYCOIL_OK ? kinds_of_accepted(&object) : kinds_of_refused(&object);
+    if (dump->placed)
+        object.kinds |= PLACED;
+    if (dump->refusal == LAMPREYCOIL_OK || dump->passed)
+        object.kinds |= SIZED;
+    if (!dump->placed || (!dump->frame.whole && !dump->passed))
+        object.kinds |= INPUT;
+    if (dump->frame.more)
+        object.kinds |= MORE;
+    return object;
+}
+
+/* ---- the members that --fields asks for */
+
+static const struct members *const all_members[] = {
+    &frame_members, &delimiter_members, &topic_members, &payload_members, &header_members,
+};
+
+enum { GROUPS = sizeof all_members / sizeof all_members[0] };
+
+/* NULL where no member has the name, of so many bytes. */
+static const struct member *member_by_name(const char *name, size_t length)
+{
+    for (size_t i = 0; i < GROUPS; i++) {
+        const struct member *first = all_members[i]->first;
+
+        for (const struct member *at = first; at < first + all_members[i]->count; at++) {
+            if (strlen(at->name) == length && memcmp(at->name, name, length) == 0)
+                return at;
+        }
     }
-    if (!dump->placed || !dump->frame.whole)
-        put_number(dump->passed ? "frame" : "input", dump->frame.length);
-    if (dump->frame.more) {
-        json_name("more");
-        json_bool(1);
+    return NULL;
+}
+
+/* Says that there is none, and which there are. */
+static int no_member(const char *name, size_t length)
+{
+    char names[900];
+    size_t used = 0;
+
+    for (size_t i = 0; i < GROUPS; i++) {
+        for (size_t j = 0; j < all_members[i]->count; j++)
+            used += (size_t)snprintf(names + used, sizeof names - used, " %s",
+                                     all_members[i]->first[j].name);
     }
+    return trouble("--fields: no field is called '%.*s'; there are%s",
+                   length < 40 ? (int)length : 40, name, names);
+}
+
+static int ask_for(struct asked_fields *asked, const char *name, size_t length)
+{
+    const struct member *member = member_by_name(name, length);
+
+    if (member == NULL)
+        return no_member(name, length);
+    for (size_t i = 0; i < asked->count; i++) {
+        if (asked->members[i] == member)
+            return trouble("--fields has '%s' twice", member->name);
+    }
+    asked->members[asked->count++] = member;
+    asked->judged |= (member->kind & JUDGED) != 0;
+    return 0;
+}
+
+int read_asked_fields(const char *list, struct asked_fields *asked)
+{
+    int status;
+
+    for (;;) {
+        size_t length = strcspn(list, ",");
+
+        if ((status = ask_for(asked, list, length)) != 0 || list[length] == '\0')
+            return status;
+        list += length + 1;
+    }
+}
+
+/* ---- the objects */
+
+static void put_all(const struct object *object)
+{
+    for (size_t i = 0; i < frame_members.count; i++)
+        put_member(object, &frame_members.first[i], 0);
+}
+
+/* A frame that is refused says so, whatever was asked: its fields must not pass for a message's. */
+static void put_asked(const struct object *object, const struct asked_fields *asked)
+{
+    const struct member *accepted = &frame_members.first[0];
+    int said = (object->kinds & REFUSED) == 0;
+
+    for (size_t i = 0; i < asked->count; i++)
+        said |= asked->members[i] == accepted;
+    if (!said)
+        put_member(object, accepted, 0);
+    for (size_t i = 0; i < asked->count; i++)
+        put_member(object, asked->members[i], 0);
 }
 
 void show_json(const struct dump *dump)
 {
+    struct object object = object_of(dump);
+
     json_open('{');
-    json_name("accepted");
-    json_bool(dump->refusal == LAMPREYCOIL_OK);
-    put_place(dump);
-    if (dump->refusal == LAMPREYCOIL_OK)
-        put_accepted(dump);
+    if (dump->asked == NULL)
+        put_all(&object);
     else
-        put_refused(dump);
+        put_asked(&object, dump->asked);
     json_close('}');
     json_end();
 }
@@ -252,15 +201,16 @@ void show_json_stop(const struct dump *dump)
     int told = next_begins(dump, &next);
 
     json_open('{');
-    put_text("stop", names[stop]);
-    put_number("frames", tally->accepted);
-    put_number("bytes", dump->frame.start);
+    json_name("stop");
+    json_text(names[stop]);
+    put_told("frames", 1, tally->accepted);
+    put_told("bytes", 1, dump->frame.start);
     put_told("refusal", stop == STOP_TORN || stop == STOP_REFUSED, dump->refusal);
-    put_number("shown", tally->selected);
-    put_number("refused", tally->passed + (stop == STOP_REFUSED ? 1 : 0));
+    put_told("shown", 1, tally->selected);
+    put_told("refused", 1, tally->passed + (stop == STOP_REFUSED ? 1 : 0));
     put_told("next", told, next);
     if (dump->options->selection.errors)
-        put_number("responses", tally->asked);
+        put_told("responses", 1, tally->asked);
     json_close('}');
     json_end();
 }

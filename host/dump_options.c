@@ -27,6 +27,8 @@ static int take_words(struct dump_options *options, struct words *words)
             status = word_flag(words, &options->json);
         else if (word_is(words, "--summary"))
             status = word_flag(words, &options->summary);
+        else if (word_is(words, "--fields"))
+            status = word_once(words, &options->fields);
         else if (word_is(words, "--frame"))
             status = word_once(words, &options->frame_text);
         else if (word_is(words, "--payload-out"))
@@ -117,7 +119,12 @@ static int check_options(struct dump_options *options)
         status = check_outputs(options);
     if (status == 0)
         status = check_selection(&options->selection);
-    return status == 0 ? check_frame(options) : status;
+    if (status == 0)
+        status = check_frame(options);
+    if (status != 0 || options->fields == NULL)
+        return status;
+    return options->json ? read_asked_fields(options->fields, &options->asked)
+                         : trouble("--fields goes with --json alone");
 }
 
 int read_dump_options(struct dump_options *options, int count, char **words)

@@ -4,14 +4,17 @@
 
 #include <stdint.h>
 
+#include "dump_fields.h"
 #include "dump_select.h"
 
 struct dump_options {
     const char *file; /* here and below: NULL where not given */
     const char *payload_out;
     const char *frame_out;
-    const char *frame_text; /* --frame as it was given */
-    uint32_t frame;         /* and its number */
+    const char *frame_text;    /* --frame as it was given */
+    uint32_t frame;            /* and its number */
+    const char *fields;        /* --fields as it was given */
+    struct asked_fields asked; /* and what it asks for */
     int all;
     int json;
     int summary;

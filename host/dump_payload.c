@@ -2,21 +2,25 @@
  * What is in a payload, for a person: its text where it is JSON, and otherwise its bytes, with the
  * place marked at which it is not. Nothing that a terminal would obey is sent to it.
  */
-#include <stdio.h>
-
 #include "dump.h"
 #include "characters.h"
 #include "layout.h"
 #include "names.h"
+#include "put.h"
 #include "quoted.h"
 
 /* How many bytes are shown, how many of a text, bytes in a row, and columns in front of them. */
 enum { BYTES_SHOWN = 64, TEXT_SHOWN = 1024, ROW = 16, MARGIN = 14 };
 
-static void print_more(size_t more)
+static void put_more(size_t more)
 {
-    if (more > 0)
-        printf("%*s%zu byte%s more (--all shows all)\n", MARGIN, "", more, plural(more));
+    if (more == 0)
+        return;
+    put_spaces(MARGIN);
+    put_number(more);
+    put_text(" byte");
+    put_text(plural(more));
+    put_text(" more (--all shows all)\n");
 }
 
 /* ---- a text */
@@ -34,22 +38,32 @@ static size_t shown_text(const struct dump *dump, const uint8_t *text, size_t le
 }
 
 /* A new line of the text begins below its first; other white space between tokens is a space. */
-static void print_text(const uint8_t *text, size_t length)
+static void put_object(const uint8_t *text, size_t length)
 {
-    printf("%*s", MARGIN, "");
-    for (size_t at = 0; at < length; at += character_length(text[at])) {
-        if (text[at] == '\n')
-            printf("\n%*s", MARGIN, "");
-        else if (is_white(text[at]))
-            putchar(' ');
-        else
-            print_shown(character_at(text + at));
+    size_t at = 0;
+
+    put_spaces(MARGIN);
+    while (at < length) {
+        size_t run = printable_run(text + at, length - at);
+
+        put_bytes(text + at, run);
+        if ((at += run) == length)
+            break;
+        if (text[at] == '\n') {
+            put_byte('\n');
+            put_spaces(MARGIN);
+        } else if (is_white(text[at])) {
+            put_byte(' ');
+        } else {
+            put_shown(character_at(text + at));
+        }
+        at += character_length(text[at]);
     }
-    putchar('\n');
+    put_byte('\n');
 }
 
 /* The object, without the white space around it and the zero byte behind that. */
-static void show_text_of(const struct dump *dump)
+static void put_text_of(const struct dump *dump)
 {
     const uint8_t *text = payload_bytes(dump);
     size_t length = payload_length(dump) - 1;
@@ -60,49 +74,51 @@ static void show_text_of(const struct dump *dump)
     while (length > 0 && is_white(text[length - 1]))
         length--;
     shown = shown_text(dump, text, length);
-    print_text(text, shown);
-    print_more(length - shown);
+    put_object(text, shown);
+    put_more(length - shown);
 }
 
 /* ---- bytes */
 
-static void print_row(const uint8_t *bytes, size_t at, size_t length)
+static void put_row(const uint8_t *bytes, size_t at, size_t length)
 {
-    printf("  %04zX        ", at);
-    for (size_t i = 0; i < ROW; i++) {
-        if (i < length)
-            printf("%02X ", bytes[at + i]);
-        else
-            printf("   ");
-    }
-    printf(" |");
+    uint8_t shown[ROW];
+
+    put_text("  ");
+    put_hex_number((uint32_t)at, 4);
+    put_spaces(8);
+    put_spaced_hex(bytes + at, length);
+    put_spaces(3 * (ROW - length) + 1);
     for (size_t i = 0; i < length; i++)
-        putchar(printable(bytes[at + i]) ? bytes[at + i] : '.');
-    puts("|");
+        shown[i] = printable(bytes[at + i]) ? bytes[at + i] : '.';
+    put_byte('|');
+    put_bytes(shown, length);
+    put_text("|\n");
 }
 
 /* Below a row: marks the byte with this number in it, in both forms. */
-static void print_mark(size_t byte)
+static void put_mark(size_t byte)
 {
-    int in = (int)byte;
-
-    printf("%*s%*s\n", MARGIN + 3 * in + 2, "^^", 3 * ROW - 2 * in + 1, "^");
+    put_spaces(MARGIN + 3 * byte);
+    put_text("^^");
+    put_spaces(3 * ROW - 2 * byte);
+    put_text("^\n");
 }
 
 /* The row that begins at a byte, and the mark if the place is in it. */
-static size_t show_row(const struct dump *dump, size_t at)
+static size_t put_row_at(const struct dump *dump, size_t at)
 {
     size_t left = payload_length(dump) - at;
     size_t length = left < ROW ? left : ROW;
 
-    print_row(payload_bytes(dump), at, length);
+    put_row(payload_bytes(dump), at, length);
     if (dump->verdict.byte / ROW == at / ROW)
-        print_mark(dump->verdict.byte % ROW);
+        put_mark(dump->verdict.byte % ROW);
     return length;
 }
 
 /* The first rows, or all; and the one with the place, which may be just behind the last byte. */
-static void show_bytes_of(const struct dump *dump)
+static void put_bytes_of(const struct dump *dump)
 {
     size_t length = payload_length(dump);
     size_t place = dump->verdict.byte / ROW * ROW;
@@ -110,16 +126,16 @@ static void show_bytes_of(const struct dump *dump)
     size_t shown = 0;
 
     for (size_t at = 0; at < limit; at += ROW)
-        shown += show_row(dump, at);
+        shown += put_row_at(dump, at);
     if (place >= limit && length > 0)
-        shown += show_row(dump, place);
-    print_more(length - shown);
+        shown += put_row_at(dump, place);
+    put_more(length - shown);
 }
 
-void show_payload(const struct dump *dump)
+void put_payload(const struct dump *dump)
 {
     if (dump->verdict.kind == VERDICT_JSON)
-        show_text_of(dump);
+        put_text_of(dump);
     else
-        show_bytes_of(dump);
+        put_bytes_of(dump);
 }

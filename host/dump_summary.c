@@ -4,16 +4,34 @@
 #include "dump.h"
 #include "names.h"
 #include "one_line.h"
+#include "put.h"
 
-static void print_payload(const struct dump *dump)
+static void put_payload_words(const struct dump *dump)
 {
     size_t length = payload_length(dump);
 
-    if (!has_payload(dump))
-        printf(", no payload");
-    else
-        printf(", payload %zu byte%s, %s", length, plural(length),
-               verdict_words(dump->verdict.kind));
+    if (!has_payload(dump)) {
+        put_text(", no payload");
+        return;
+    }
+    put_text(", payload ");
+    put_number(length);
+    put_text(" byte");
+    put_text(plural(length));
+    put_text(", ");
+    put_text(verdict_words(dump->verdict.kind));
+}
+
+/* Which frame it is, and where. */
+static void put_frame_words(const struct dump *dump)
+{
+    put_text("frame ");
+    put_number_left(dump->frame.number, 7);
+    put_byte(' ');
+    put_number_right(dump->frame.length, 5);
+    put_text(" bytes, from byte ");
+    put_number_left(dump->frame.start, 9);
+    put_byte(' ');
 }
 
 void show_summary(const struct dump *dump)
@@ -22,18 +40,24 @@ void show_summary(const struct dump *dump)
     const uint8_t *topic = dump->frame.bytes + dumped(dump, LAMPREYCOIL_READ_TOPIC_START);
     uint32_t routes = dumped(dump, LAMPREYCOIL_READ_ROUTES);
 
-    printf("frame %-7llu %5zu bytes, from byte %-9llu %-8s  ", dump->frame.number,
-           dump->frame.length, dump->frame.start, type_by_number(fields.type)->name);
-    print_topic_and_fields((fields.flags & LAMPREYCOIL_TOPIC) != 0 ? topic : NULL,
-                           dumped(dump, LAMPREYCOIL_READ_TOPIC_LENGTH), fields.type, fields.first,
-                           fields.second);
+    put_frame_words(dump);
+    put_text_left(type_by_number(fields.type)->name, 8);
+    put_text("  ");
+    put_topic_and_fields((fields.flags & LAMPREYCOIL_TOPIC) != 0 ? topic : NULL,
+                         dumped(dump, LAMPREYCOIL_READ_TOPIC_LENGTH), fields.type, fields.first,
+                         fields.second);
     /* A control message cannot have one. */
     if (fields.type != LAMPREYCOIL_CONTROL)
-        print_payload(dump);
-    if (routes > 0)
-        printf(", %lu route%s", (unsigned long)routes, plural(routes));
-    print_marks(fields.flags);
-    putchar('\n');
+        put_payload_words(dump);
+    if (routes > 0) {
+        put_text(", ");
+        put_number(routes);
+        put_text(" route");
+        put_text(plural(routes));
+    }
+    put_marks(fields.flags);
+    put_byte('\n');
+    put_out();
 }
 
 void show_passed(const struct dump *dump)

@@ -11,6 +11,7 @@
 #include <unistd.h>
 
 #include "program.h"
+#include "put.h"
 #include "quoted.h"
 
 int trouble(const char *format, ...)
@@ -21,9 +22,13 @@ int trouble(const char *format, ...)
     va_start(values, format);
     vsnprintf(text, sizeof text, format, values);
     va_end(values);
-    fprintf(stderr, "%s: ", program);
-    print_plain(stderr, text);
-    fputc('\n', stderr);
+    /* In one piece: standard error may be shared with others. */
+    put_to(stderr);
+    put_text(program);
+    put_text(": ");
+    put_plain(text);
+    put_byte('\n');
+    put_to(stdout);
     return EXIT_TROUBLE;
 }
 

@@ -104,8 +104,8 @@ static void put_finding(enum finding kind, const struct told *told)
     json_open('{');
     json_name("finding");
     json_text(kinds[kind].name);
-    put_number("frame", told->number);
-    put_number("byte", told->start);
+    put_named_number("frame", told->number);
+    put_named_number("byte", told->start);
     json_name("topic");
     if (message != NULL)
         json_bytes(message->topic, message->topic_length);
@@ -198,11 +198,11 @@ static void put_unregistered(const struct audit *audit)
         json_open('{');
         json_name("service");
         json_bytes(at->name, at->length);
-        put_number("requests", at->requests);
+        put_named_number("requests", at->requests);
         json_close('}');
     }
     json_close(']');
-    put_number("other_unregistered", audit->counts.other_unregistered);
+    put_named_number("other_unregistered", audit->counts.other_unregistered);
 }
 
 static void put_counts(const struct audit *audit, int status)
@@ -210,22 +210,22 @@ static void put_counts(const struct audit *audit, int status)
     const struct counts *counts = &audit->counts;
 
     json_open('{');
-    put_number("status", (unsigned)status);
-    put_number("findings", all_findings(counts));
-    put_number("frames", counts->frames);
-    put_number("requests", counts->requests);
-    put_number("delivered", counts->delivered);
-    put_number("error_38", counts->no_service);
-    put_number("error_113", counts->no_rank);
-    put_number("silenced", counts->silenced);
-    put_number("open_streams", counts->streams);
-    put_number("responses", counts->responses);
-    put_number("events", counts->events);
-    put_number("controls", counts->controls);
+    put_named_number("status", (unsigned)status);
+    put_named_number("findings", all_findings(counts));
+    put_named_number("frames", counts->frames);
+    put_named_number("requests", counts->requests);
+    put_named_number("delivered", counts->delivered);
+    put_named_number("error_38", counts->no_service);
+    put_named_number("error_113", counts->no_rank);
+    put_named_number("silenced", counts->silenced);
+    put_named_number("open_streams", counts->streams);
+    put_named_number("responses", counts->responses);
+    put_named_number("events", counts->events);
+    put_named_number("controls", counts->controls);
     json_name("by_kind");
     json_open('{');
     for (int kind = 0; kind < FINDINGS; kind++)
-        put_number(kinds[kind].name, counts->findings[kind]);
+        put_named_number(kinds[kind].name, counts->findings[kind]);
     json_close('}');
     put_unregistered(audit);
     json_close('}');

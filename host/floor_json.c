@@ -9,15 +9,15 @@
 static void put_rank(const struct floor *floor, uint32_t rank)
 {
     json_open('{');
-    put_number("rank", rank);
+    put_named_number("rank", rank);
     put_number_or_null("parent", rank != 0, floor->rank[rank].parent);
-    put_number("depth", floor->depth[rank]);
+    put_named_number("depth", floor->depth[rank]);
     put_text_or_null("identity", floor->rank[rank].identity);
     json_name("services");
     json_open('[');
     for (size_t i = 0; i < floor->services; i++) {
         if (floor->service[i].rank == rank)
-            json_plain(floor->service[i].name);
+            json_text(floor->service[i].name);
     }
     json_close(']');
     json_close('}');
@@ -107,7 +107,7 @@ static void put_steps(const struct play *play)
         uint32_t answer = lampreycoil_number(step->record, LAMPREYCOIL_STEP_ANSWER);
 
         json_open('{');
-        put_number("rank", step->rank);
+        put_named_number("rank", step->rank);
         put_text_or_null("answer", step_answer(step));
         put_number_or_null("to", answer == LAMPREYCOIL_FORWARD,
                            lampreycoil_number(step->record, LAMPREYCOIL_STEP_NUMBER));
@@ -151,7 +151,7 @@ static void put_rest(const struct play *play)
     json_bytes(play->rest.topic, play->rest.topic_length);
     json_name("topic_hex");
     json_hex(play->rest.topic, play->rest.topic_length);
-    put_number("matchtag", play->rest.second);
+    put_named_number("matchtag", play->rest.second);
     put_routes(play);
     json_close('}');
 }
@@ -175,7 +175,7 @@ static struct outcome play_outcome(const struct play *play)
 static void open_played(const struct asked *asked, const struct play *play, int status)
 {
     open_object(asked->command, status, play->floor->file);
-    put_number("from", play->enter);
+    put_named_number("from", play->enter);
 }
 
 static void close_played(const struct play *play)

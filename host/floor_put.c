@@ -1,9 +1,8 @@
 #include "floor_put.h"
 
 #include "json.h"
-#include "quoted.h"
 
-void put_number(const char *name, unsigned long long number)
+void put_named_number(const char *name, unsigned long long number)
 {
     json_name(name);
     json_number(number);
@@ -27,24 +26,10 @@ void put_text_or_null(const char *name, const char *text)
         json_text(text);
 }
 
-void json_plain(const char *text)
-{
-    static char plain[16384]; /* four columns for each byte of the longest path */
-    size_t length = 0;
-
-    for (; *text != '\0' && length < sizeof plain - sizeof "\\xNN"; text++) {
-        uint8_t byte = (uint8_t)*text;
-
-        length += (size_t)sprintf(plain + length, printable(byte) ? "%c" : "\\x%02X", byte);
-    }
-    plain[length] = '\0';
-    json_text(plain);
-}
-
 void put_remarks(const char *name, const char *count_name, const struct floor *floor,
                  const struct remarks *remarks)
 {
-    put_number(count_name, remarks->count);
+    put_named_number(count_name, remarks->count);
     json_name(name);
     json_open('[');
     for (size_t i = 0; i < remarks->count && i < REMARKS_TOLD; i++) {
@@ -52,10 +37,11 @@ void put_remarks(const char *name, const char *count_name, const struct floor *f
 
         json_open('{');
         json_name("file");
-        json_plain(floor->file);
+        json_text(floor->file);
         put_number_or_null("line", remark->line != 0, (unsigned)remark->line);
         put_number_or_null("refusal", remark->refusal != LAMPREYCOIL_OK, remark->refusal);
-        put_text_or_null("words", remark->words);
+        json_name("words");
+        json_words(remark->words);
         json_close('}');
     }
     json_close(']');
@@ -66,7 +52,7 @@ void open_object(const char *command, int status, const char *file)
     json_open('{');
     json_name("command");
     json_text(command);
-    put_number("status", (unsigned)status);
+    put_named_number("status", (unsigned)status);
     json_name("floor");
-    json_plain(file);
+    json_text(file);
 }

@@ -5,12 +5,9 @@
 #include "floor.h"
 
 /* A named value of the object that is open. */
-void put_number(const char *name, unsigned long long number);
+void put_named_number(const char *name, unsigned long long number);
 void put_number_or_null(const char *name, int there, unsigned long long number);
 void put_text_or_null(const char *name, const char *text);
-
-/* A name that a person gave, as a terminal is shown it: JSON has no strings of bytes. */
-void json_plain(const char *text);
 
 /* The remarks that are told, and how many there are. */
 void put_remarks(const char *name, const char *count_name, const struct floor *floor,

@@ -26,6 +26,8 @@ const char usage[] =
     "                       alone, with all bytes of the parts in hexadecimal, and a\n"
     "                       payload that is JSON as a value and as indented text; behind\n"
     "                       several, one more that tells the stop\n"
+    "  --fields A,B,C       with --json: only these fields of each frame, in this order;\n"
+    "                       one of a part as in topic.text; the stop stays whole\n"
     "  --all                show all of a payload, not 64 bytes, or 1,024 of JSON\n"
     "  --payload-out FILE   write the payload to FILE, - being standard output, and show\n"
     "                       nothing; of several frames, --frame or a selection says which\n"

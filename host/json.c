@@ -1,10 +1,10 @@
 #include "json.h"
 
-#include <stdio.h>
 #include <string.h>
 
 #include "characters.h"
 #include "layout.h"
+#include "put.h"
 #include "quoted.h"
 
 /* Whether the next value or name has one in front of it, from which a comma parts it. */
@@ -13,119 +13,109 @@ static int follows;
 static void begin(void)
 {
     if (follows)
-        putchar(',');
+        put_byte(',');
     follows = 1;
 }
 
-static void put_string(const uint8_t *bytes, size_t length)
-{
-    putchar('"');
-    for (size_t i = 0; i < length; i++) {
-        if (!printable(bytes[i]))
-            printf("\\u%04x", bytes[i]);
-        else if (bytes[i] == '"' || bytes[i] == '\\')
-            printf("\\%c", bytes[i]);
-        else
-            putchar(bytes[i]);
-    }
-    putchar('"');
-}
-
+/* Names are plain: nothing in them is marked. There are many, so each is put in one piece. */
 void json_name(const char *name)
 {
-    begin();
-    put_string((const uint8_t *)name, strlen(name));
-    putchar(':');
+    size_t length = strlen(name);
+    uint8_t *at = put_place(length + (follows ? 4 : 3));
+
+    if (follows)
+        *at++ = ',';
+    *at = '"';
+    memcpy(at + 1, name, length);
+    at[length + 1] = '"';
+    at[length + 2] = ':';
     follows = 0;
 }
 
 void json_open(char bracket)
 {
     begin();
-    putchar(bracket);
+    put_byte((uint8_t)bracket);
     follows = 0;
 }
 
 void json_close(char bracket)
 {
-    putchar(bracket);
+    put_byte((uint8_t)bracket);
     follows = 1;
 }
 
 void json_end(void)
 {
-    putchar('\n');
+    put_byte('\n');
+    put_out();
     follows = 0;
 }
 
 void json_number(unsigned long long number)
 {
     begin();
-    printf("%llu", number);
+    put_number(number);
 }
 
 void json_bool(int yes)
 {
     begin();
-    fputs(yes ? "true" : "false", stdout);
+    put_text(yes ? "true" : "false");
 }
 
 void json_null(void)
 {
     begin();
-    fputs("null", stdout);
+    put_text("null");
 }
 
 void json_text(const char *text)
 {
     begin();
-    put_string((const uint8_t *)text, strlen(text));
+    put_json_string((const uint8_t *)text, strlen(text));
+}
+
+void json_words(const char *words)
+{
+    begin();
+    put_byte('"');
+    for (; *words != '\0'; words++) {
+        if (*words == '"' || *words == '\\')
+            put_byte('\\');
+        put_byte((uint8_t)*words);
+    }
+    put_byte('"');
 }
 
 void json_bytes(const uint8_t *bytes, size_t length)
 {
-    size_t good = 0;
-
-    while (good < length && printable(bytes[good]))
-        good++;
-    if (good < length) {
+    if (!is_utf8(bytes, length)) {
         json_null();
         return;
     }
     begin();
-    put_string(bytes, length);
+    put_json_string(bytes, length);
 }
 
 void json_value(const uint8_t *text, size_t length)
 {
     begin();
-    lay_out_tight(text, length, print_ascii);
-}
-
-/* A character within a string. */
-static void put_character(uint32_t character)
-{
-    if (character == '\n')
-        fputs("\\n", stdout);
-    else if (character == '"' || character == '\\')
-        printf("\\%c", (int)character);
-    else
-        print_ascii(character);
+    put_tight(text, length);
 }
 
 void json_indented(const uint8_t *text, size_t length)
 {
     begin();
-    putchar('"');
-    lay_out_indented(text, length, put_character);
-    putchar('"');
+    put_byte('"');
+    put_indented(text, length);
+    put_byte('"');
 }
 
 void json_hex(const uint8_t *bytes, size_t length)
 {
     begin();
-    putchar('"');
-    for (size_t i = 0; i < length; i++)
-        printf("%02X", bytes[i]);
-    putchar('"');
+    put_byte('"');
+    put_hex(bytes, length);
+    put_byte('"');
 }

@@ -1,4 +1,7 @@
-/* JSON values on standard output, of ASCII characters alone. Commas come by themselves. */
+/*
+ * JSON values on standard output, of ASCII characters alone. Commas come by themselves. What is
+ * written waits (put.h) until json_end().
+ */
 #ifndef HOST_JSON_H
 #define HOST_JSON_H
 
@@ -18,15 +21,23 @@ void json_end(void);
 void json_number(unsigned long long number);
 void json_bool(int yes);
 void json_null(void);
-void json_text(const char *text);
-
-/* As text where all bytes are printable ASCII, otherwise null: JSON has no strings of bytes. */
-void json_bytes(const uint8_t *bytes, size_t length);
 
 /*
- * A JSON text that the library has said yes to: as a value, with no white space between its tokens;
- * and indented, as a string. In both a character that is not printable ASCII is an escape, and so
- * the same character.
+ * A text, and the bytes of one: as plain text has them between quotes (quoted.h), so that a program
+ * that takes the string out and shows it sends nothing to a terminal that this one would not. Bytes
+ * that are not UTF-8 are null.
+ */
+void json_text(const char *text);
+void json_bytes(const uint8_t *bytes, size_t length);
+
+/* Words of printable ASCII, in which all that has to be marked is marked already. */
+void json_words(const char *words);
+
+/*
+ * A JSON text that the library has said yes to: as a value, with no white space between its tokens
+ * and exact; and indented, as a string. In the value a character that is not printable ASCII is an
+ * escape, and so the same character. In the string one that plain text shows as an escape is that
+ * escape, to be seen, and so still the same text.
  */
 void json_value(const uint8_t *text, size_t length);
 void json_indented(const uint8_t *text, size_t length);

@@ -1,13 +1,16 @@
 #include "layout.h"
 
+#include <string.h>
+
 #include "characters.h"
+#include "put.h"
+#include "quoted.h"
 
 struct layout {
     const uint8_t *at;
     const uint8_t *end;
-    void (*put)(uint32_t character);
-    int indented;
-    int depth;
+    int indented; /* and within a string, where quotes and backslashes are marked */
+    size_t depth;
 };
 
 int is_white(uint8_t byte)
@@ -21,44 +24,74 @@ static void skip_white(struct layout *layout)
         layout->at++;
 }
 
-/* The next character, as it is. */
-static void pass(struct layout *layout)
+/* A quote or a backslash. */
+static void pass_mark(struct layout *layout)
 {
-    layout->put(character_at(layout->at));
-    layout->at += character_length(*layout->at);
+    if (layout->indented)
+        put_byte('\\');
+    put_byte(*layout->at++);
+}
+
+/* What stands at the end of a run: a mark, with what it marks, or a character. */
+static void pass_odd(struct layout *layout)
+{
+    if (!printable(*layout->at)) {
+        if (layout->indented)
+            put_shown_in_json(character_at(layout->at));
+        else
+            put_ascii(character_at(layout->at));
+        layout->at += character_length(*layout->at);
+        return;
+    }
+    pass_mark(layout);
+    if (*layout->at == '"' || *layout->at == '\\')
+        pass_mark(layout);
 }
 
 /* The string that begins here, to its last quote. */
 static void pass_string(struct layout *layout)
 {
-    pass(layout);
-    while (layout->at < layout->end && *layout->at != '"') {
-        if (*layout->at == '\\')
-            pass(layout);
-        pass(layout);
+    pass_mark(layout);
+    for (;;) {
+        size_t run = unmarked_run(layout->at, (size_t)(layout->end - layout->at));
+
+        put_bytes(layout->at, run);
+        layout->at += run;
+        if (layout->at == layout->end)
+            return;
+        if (*layout->at == '"')
+            break;
+        pass_odd(layout);
     }
-    if (layout->at < layout->end)
-        pass(layout);
+    pass_mark(layout);
+}
+
+/* The number, or the word such as true, that begins here. */
+static void pass_scalar(struct layout *layout)
+{
+    const uint8_t *at = layout->at;
+
+    while (at < layout->end && !is_white(*at) && *at != ',' && *at != '}' && *at != ']')
+        at++;
+    put_bytes(layout->at, (size_t)(at - layout->at));
+    layout->at = at;
 }
 
 static void begin_line(const struct layout *layout)
 {
     if (!layout->indented)
         return;
-    layout->put('\n');
-    for (int i = 0; i < layout->depth; i++) {
-        layout->put(' ');
-        layout->put(' ');
-    }
+    put_text("\\n");
+    put_spaces(2 * layout->depth);
 }
 
 /* The bracket that opens an object or an array, and the one that closes it if nothing is inside. */
 static void pass_opened(struct layout *layout)
 {
-    pass(layout);
+    put_byte(*layout->at++);
     skip_white(layout);
     if (layout->at < layout->end && (*layout->at == '}' || *layout->at == ']')) {
-        pass(layout);
+        put_byte(*layout->at++);
         return;
     }
     layout->depth++;
@@ -69,7 +102,7 @@ static void pass_closed(struct layout *layout)
 {
     layout->depth--;
     begin_line(layout);
-    pass(layout);
+    put_byte(*layout->at++);
 }
 
 static void pass_token(struct layout *layout)
@@ -82,12 +115,15 @@ static void pass_token(struct layout *layout)
         pass_opened(layout);
     } else if (first == '}' || first == ']') {
         pass_closed(layout);
+    } else if (first == ',') {
+        put_byte(*layout->at++);
+        begin_line(layout);
+    } else if (first == ':') {
+        put_byte(*layout->at++);
+        if (layout->indented)
+            put_byte(' ');
     } else {
-        pass(layout);
-        if (first == ',')
-            begin_line(layout);
-        else if (first == ':' && layout->indented)
-            layout->put(' ');
+        pass_scalar(layout);
     }
 }
 
@@ -100,16 +136,16 @@ static void lay_out(struct layout *layout)
     }
 }
 
-void lay_out_tight(const uint8_t *text, size_t length, void (*put)(uint32_t character))
+void put_tight(const uint8_t *text, size_t length)
 {
-    struct layout layout = {text, text + length, put, 0, 0};
+    struct layout layout = {text, text + length, 0, 0};
 
     lay_out(&layout);
 }
 
-void lay_out_indented(const uint8_t *text, size_t length, void (*put)(uint32_t character))
+void put_indented(const uint8_t *text, size_t length)
 {
-    struct layout layout = {text, text + length, put, 1, 0};
+    struct layout layout = {text, text + length, 1, 0};
 
     lay_out(&layout);
 }
@@ -129,23 +165,27 @@ static uint32_t escaped(const uint8_t *at)
     return number;
 }
 
+static int is_second_half(uint32_t number)
+{
+    return number >= 0xDC00 && number <= 0xDFFF;
+}
+
+/* A backslash stands only where an escape begins, and a quote behind the last one at least. */
 int has_half_pair(const uint8_t *text, size_t length)
 {
-    int half = 0; /* the first half of a pair stands in front */
-    size_t at = 0;
+    const uint8_t *at = text, *end = text + length;
 
-    while (at < length) {
-        uint32_t number = text[at] == '\\' ? escaped(text + at) : 0;
-        int first = number >= 0xD800 && number <= 0xDBFF;
-        int second = number >= 0xDC00 && number <= 0xDFFF;
+    while ((at = memchr(at, '\\', (size_t)(end - at))) != NULL) {
+        uint32_t number = escaped(at);
 
-        if (second != half)
+        if (is_second_half(number))
             return 1;
-        half = first;
-        if (text[at] != '\\')
-            at++;
-        else
-            at += text[at + 1] == 'u' ? 6 : 2;
+        at += at[1] == 'u' ? 6 : 2;
+        if (number < 0xD800 || number > 0xDBFF)
+            continue;
+        if (*at != '\\' || !is_second_half(escaped(at)))
+            return 1;
+        at += 6;
     }
-    return half;
+    return 0;
 }

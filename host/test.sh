@@ -286,12 +286,19 @@ dump_refuses "an event's unused field is 10" 10 "$n10" "$start 00 00 00 18 02 41
 # shellcheck source=host/test/json.sh
 . host/test/json.sh
 
+# shellcheck source=host/test/fields.sh
+. host/test/fields.sh
+
+# shellcheck source=host/test/shown.sh
+. host/test/shown.sh
+
 # ---- usage
 
 helps run '--payload-text'
 helps run '--payload-text' write
 helps run '--frame-out FILE' dump
 helps run '--payload-json TEXT' write
+helps run '--fields A,B,C' dump
 helps run 'a route, in lower case' write
 helps run '  4  the verdict is no' dump
 wrong 'no command' 'flux_frame dump [OPTIONS] [FILE]'

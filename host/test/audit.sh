@@ -150,7 +150,7 @@ audits 'services that nobody registers' 0 ''
   "kvs" 2
   "k\x1Bx" 1' ]
 report $? 'audit lists them, and bench, which ranks 1 and 4 have, is none of them'
-audit_object 1 '{"status":0,"findings":0,"frames":8,"requests":4,"delivered":0,"error_38":4,"error_113":0,"silenced":0,"open_streams":0,"responses":4,"events":0,"controls":0,"by_kind":{"blank_reply":0,"wrong_error":0,"no_error_reply":0,"second_reply":0,"reply_to_noresponse":0,"never_answered":0,"response_to_nobody":0,"refused_frame":0,"refused_walk":0},"unregistered":[{"service":"kvs","requests":2},{"service":null,"requests":1}],"other_unregistered":0}'
+audit_object 1 '{"status":0,"findings":0,"frames":8,"requests":4,"delivered":0,"error_38":4,"error_113":0,"silenced":0,"open_streams":0,"responses":4,"events":0,"controls":0,"by_kind":{"blank_reply":0,"wrong_error":0,"no_error_reply":0,"second_reply":0,"reply_to_noresponse":0,"never_answered":0,"response_to_nobody":0,"refused_frame":0,"refused_walk":0},"unregistered":[{"service":"kvs","requests":2},{"service":"k\\x1Bx","requests":1}],"other_unregistered":0}'
 
 # ---- where a request entered
 

@@ -154,7 +154,8 @@ tells 'nested empties' '{"a":[ ],"b":{\n},"c":[[],{}]}\0' '"is_json":true,"json"
 tells 'one in another' ' {"a" : {"b":[1 , {"c":null}]}}\n\0' '"is_json":true,"json":{"a":{"b":[1,{"c":null}]}},"text":"{\n  \"a\": {\n    \"b\": [\n      1,\n      {\n        \"c\": null\n      }\n    ]\n  }\n}"'
 tells 'brackets, marks and quotes in strings' '{"}, ]":"[ {\\\\","\\"":": \\\\\\", "}\0' '"is_json":true,"json":{"}, ]":"[ {\\","\"":": \\\", "},"text":"{\n  \"}, ]\": \"[ {\\\\\",\n  \"\\\"\": \": \\\\\\\", \"\n}"'
 tells 'no token is changed' '{"a":[1E400,-0.0e+00,1.000,123456789012345678901234567890],"a":true,"":"\\/\\u00E9"}\0' '"is_json":true,"json":{"a":[1E400,-0.0e+00,1.000,123456789012345678901234567890],"a":true,"":"\/\u00E9"},"text":"{\n  \"a\": [\n    1E400,\n    -0.0e+00,\n    1.000,\n    123456789012345678901234567890\n  ],\n  \"a\": true,\n  \"\": \"\\/\\u00E9\"\n}"'
-tells 'other characters are escapes' '{"h\xC3\xA9":"\xF0\x9F\x98\x80\x7F\xEF\xBF\xBF"}\0' '"is_json":true,"json":{"h\u00e9":"\ud83d\ude00\u007f\uffff"},"text":"{\n  \"h\u00e9\": \"\ud83d\ude00\u007f\uffff\"\n}"'
+LC_ALL=C.UTF-8 tells 'other characters are escapes' '{"h\xC3\xA9":"\xF0\x9F\x98\x80\x7F\xEF\xBF\xBF"}\0' '"is_json":true,"json":{"h\u00e9":"\ud83d\ude00\u007f\uffff"},"text":"{\n  \"h\u00e9\": \"\ud83d\ude00\\u007f\\uffff\"\n}"'
+LC_ALL=C tells 'and can be seen where no terminal shows them' '{"h\xC3\xA9":"\xF0\x9F\x98\x80\x7F"}\0' '"is_json":true,"json":{"h\u00e9":"\ud83d\ude00\u007f"},"text":"{\n  \"h\\u00e9\": \"\\ud83d\\ude00\\u007f\"\n}"'
 tells 'a pair of escapes' '{"a":"\\uD83D\\ude00"}\0' '"is_json":true,"json":{"a":"\uD83D\ude00"},"text":"{\n  \"a\": \"\\uD83D\\ude00\"\n}"'
 for words in '\\ud800' '\\uDFFF' '\\ud800\\n\\udc00' '\\udc00\\ud800' '\\ud83d\xF0\x9F\x98\x80'; do
     event_of in "{\"a\":\"$words\"}\\0"
