@@ -24,8 +24,8 @@ enum {
 enum { INPUT_MAX = 1048576 };
 
 /*
- * Prints the program's name and the message to standard error, and returns EXIT_TROUBLE. What a
- * terminal would obey is printed as \xNN.
+ * Prints the program's name and the message to standard error, in one piece, and returns
+ * EXIT_TROUBLE. Nothing goes to a terminal that it would obey: quoted.h says how it is shown.
  */
 int trouble(const char *format, ...);
 
