@@ -76,23 +76,22 @@ static int look_at_next(struct capture *capture, struct dump *dump)
     return 0;
 }
 
-static int write_payload(const struct dump *dump, const char *name)
-{
-    if (!has_payload(dump))
-        return trouble("the frame has no payload to write to %s", output_name(name));
-    return write_all(name, payload_bytes(dump), payload_length(dump));
-}
-
-/* The payload goes first: where there is none, nothing is written. */
+/* Where a payload is asked for and there is none, nothing is written. */
 static int write_bytes(const struct dump *dump, const struct dump_options *options)
 {
-    int status = 0;
+    struct output outputs[OUTPUTS_MOST];
+    size_t count = 0;
 
+    if (options->payload_out != NULL && !has_payload(dump))
+        return trouble("the frame has no payload to write to %s",
+                       output_name(options->payload_out));
     if (options->payload_out != NULL)
-        status = write_payload(dump, options->payload_out);
-    if (status == 0 && options->frame_out != NULL)
-        status = write_all(options->frame_out, dump->frame.bytes, dump->frame.length);
-    return status;
+        outputs[count++] =
+            (struct output){options->payload_out, payload_bytes(dump), payload_length(dump)};
+    if (options->frame_out != NULL)
+        outputs[count++] =
+            (struct output){options->frame_out, dump->frame.bytes, dump->frame.length};
+    return write_outputs(outputs, count);
 }
 
 static void show(const struct dump *dump, const struct dump_options *options)
@@ -210,6 +209,16 @@ static int dump_asked(struct capture *capture, struct dump *dump,
     return status == 0 ? dump_one(dump, options) : status;
 }
 
+/* An output is neither the capture nor where the text goes. */
+static int check_out(const struct dump_options *options, const char *output)
+{
+    int status = output == NULL ? 0 : check_apart(output, options->file, "capture");
+
+    if (status == 0 && output != NULL && bytes_only(options) == NULL)
+        status = check_beside_text(output);
+    return status;
+}
+
 int command_dump(int count, char **words)
 {
     static struct capture capture;
@@ -217,10 +226,10 @@ int command_dump(int count, char **words)
     struct dump_options options = {0};
 
     int status = read_dump_options(&options, count, words);
-    if (status == 0 && options.payload_out != NULL)
-        status = check_apart(options.payload_out, options.file, "capture");
-    if (status == 0 && options.frame_out != NULL)
-        status = check_apart(options.frame_out, options.file, "capture");
+    if (status == 0)
+        status = check_out(&options, options.payload_out);
+    if (status == 0)
+        status = check_out(&options, options.frame_out);
     if (status == 0)
         status = open_capture(&capture, options.file);
     if (status != 0)

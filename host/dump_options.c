@@ -82,7 +82,7 @@ static int check_options(struct dump_options *options)
     if (bytes_only(options) != NULL && beside_bytes(options) != NULL)
         return trouble("%s - leaves no place for %s", bytes_only(options), beside_bytes(options));
     if (options->payload_out != NULL && options->frame_out != NULL &&
-        strcmp(options->payload_out, options->frame_out) == 0)
+        same_output(options->payload_out, options->frame_out))
         return trouble("--payload-out and --frame-out name one file, %s", options->frame_out);
     if (options->frame_text != NULL &&
         parse_number(options->frame_text, 10, UINT32_MAX, &options->frame) != 0)

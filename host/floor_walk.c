@@ -245,7 +245,7 @@ static int check_output(const struct walk_words *asked)
         status = check_apart(asked->output, asked->frame, "frame");
     if (status == 0 && asked->message.payload_file != NULL)
         status = check_apart(asked->output, asked->message.payload_file, "payload");
-    return status;
+    return status == 0 ? check_beside_text(asked->output) : status;
 }
 
 /* The frame to the front of the buffer, which is as long as a frame can be; *length is all's. */

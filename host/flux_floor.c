@@ -32,7 +32,9 @@ const char usage[] =
     "--nodeid N, --matchtag N, --upstream, --noresponse, --route UUID and so on. The\n"
     "type is request for walk and response for home, where --type gives no other. With\n"
     "--upstream the nodeid names the rank that is skipped, and no target.\n"
-    "  -o FILE              write the frame that is at rest to FILE\n"
+    "  -o FILE              write the frame that is at rest to FILE, which gets all of its\n"
+    "                       bytes or stays as it was; it is no terminal, not what is read,\n"
+    "                       and not where standard output goes\n"
     "\n"
     "A walk is played by the step call, and then compared with the walk call.\n";
 
