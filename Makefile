@@ -25,7 +25,7 @@ help:
 	@echo 'make install  archive, header, pkg-config file, host programs and man pages, to PREFIX (/usr/local)'
 	@echo 'make dist     a tarball for machines with a C compiler and no kit: target/dist/'
 	@echo 'make fmt      format the Rattle and the C files'
-	@echo 'make deps     install the compilers that are missing (Debian packages)'
+	@echo 'make deps     install the compilers that are missing (Debian packages); NO_INSTALL=1 only names them'
 	@echo 'make clean    remove target/'
 
 # Proves every crate: these three need all others.
@@ -62,23 +62,26 @@ include host/host.mk
 
 host: $(HOST)
 
-# The same files make the same tarball: its entries are in order, nobody's, and as old as the last commit.
-DIST      = lampreycoil-$(VERSION)
-DIST_ROOM = target/dist/$(DIST)
-DIST_DATE = $(shell git log -1 --format=%ct 2>/dev/null || echo 0)
+# The same files make the same tarball: those that git tracks, in order, nobody's, and as old as the last
+# commit. Where git does not answer there is no tarball, and not one of other files or of another age.
+DIST       = lampreycoil-$(VERSION)
+DIST_ROOM  = target/dist/$(DIST)
+DIST_FILES = host man include/lampreycoil.h docs/C-GUIDE.md docs/FORMAT.md README.md CHANGELOG.md lampreycoil.pc.in
 dist: $(ARCHIVE)
 	rm -rf target/dist
-	mkdir -p $(DIST_ROOM)/lib/pkgconfig $(DIST_ROOM)/include $(DIST_ROOM)/docs
+	mkdir -p $(DIST_ROOM)/lib/pkgconfig
+	@{ git log -1 --format=%ct >target/dist/date && \
+	    git ls-files -z --error-unmatch -- $(DIST_FILES) >target/dist/files; } || { rm -rf target/dist; \
+	    echo 'make dist: git does not tell the last commit and the files that it tracks: no tarball' >&2; exit 1; }
+	xargs -0 cp --parents -t $(DIST_ROOM) <target/dist/files
 	cp $(ARCHIVE) $(DIST_ROOM)/lib
-	cp include/lampreycoil.h $(DIST_ROOM)/include
-	cp -R host man README.md CHANGELOG.md lampreycoil.pc.in $(DIST_ROOM)
 	mv $(DIST_ROOM)/host/dist.mk $(DIST_ROOM)/Makefile
-	cp docs/C-GUIDE.md docs/FORMAT.md $(DIST_ROOM)/docs
 	$(call PC,$${pcfiledir}/../..,$${prefix}/lib,$${prefix}/include) >$(DIST_ROOM)/lib/pkgconfig/lampreycoil.pc
 	chmod -R u=rwX,go=rX $(DIST_ROOM)
-	tar -C target/dist --sort=name --mtime=@$(DIST_DATE) --owner=0 --group=0 --numeric-owner \
-	    -cf - $(DIST) | gzip -9n >target/dist/$(DIST).tar.gz
-	rm -rf $(DIST_ROOM)
+	tar -C target/dist --sort=name --mtime="@$$(cat target/dist/date)" --owner=0 --group=0 --numeric-owner \
+	    -cf target/dist/$(DIST).tar $(DIST)
+	gzip -9n target/dist/$(DIST).tar
+	rm -rf $(DIST_ROOM) target/dist/date target/dist/files
 
 # The C layout is clang-format's, where it is installed.
 fmt:
@@ -89,8 +92,9 @@ fmt:
 	    echo 'make fmt: no clang-format here, so the C files stay as they are'; \
 	fi
 
-# Installs the Debian packages that are missing, for the rules below.
+# Installs the Debian packages that are missing, for the rules below; with NO_INSTALL=1 it only names them.
 INSTALL_MISSING = [ -z "$$missing" ] || { \
+	    [ -z '$(NO_INSTALL)' ] || { echo "make: missing:$$missing" >&2; exit 1; }; \
 	    echo "make: installing$$missing" >&2; \
 	    root=''; [ "$$(id -u)" -eq 0 ] || root=sudo; \
 	    { $$root apt-get update && $$root apt-get install -y $$missing; } >&2 || \

@@ -7,6 +7,9 @@ run write --type event --topic x --payload-text new -o "$room/one.frame"
 unframed=$(tohex <"$room/one.frame")
 run write --type event --topic x --payload "$room/most" -o "$room/long.frame"
 
+# The hidden files of a folder: what is beside.
+hidden() { find "$@" -name '.?*'; } # FOLDER...
+
 # What is in the folder of outputs.
 left() { (cd "$away" && LC_ALL=C ls -AlR --time-style=+ && find . -type f -exec cksum {} +); }
 
@@ -114,7 +117,7 @@ run write --type event --topic x --payload-text new -o "$away/pipe"
 wait $!
 [ "$status" -eq 0 ] && [ -p "$away/pipe" ] && [ "$(cat "$room/piped-hex")" = "$unframed" ]
 report $? 'a pipe with a name is written as it is'
-! ls -A "$away" "$away/folder" | grep -q '^\.'
+[ -z "$(hidden "$away")" ]
 report $? 'nothing is left beside'
 rm -f "$away"/{pipe,open,fresh,soft,far,dangling,hard} "$away/folder/none"
 
@@ -163,10 +166,10 @@ for words in HUP INT TERM; do
     before=$(cd "$away" && ls -A && cat a)
     (cd "$away" && trap - INT && exec "$FLUX_FRAME" dump --payload-out pipe --frame-out a "$room/long.frame") >"$room/out" 2>"$room/err" &
     for _ in $(seq 100); do
-        ls -A "$away" | grep -q '^\.' && break
+        [ -z "$(hidden "$away")" ] || break
         sleep 0.05
     done
-    ls -A "$away" | grep -q '^\.flux_frame-'
+    [ -n "$(find "$away" -name '.flux_frame-*')" ]
     report $? "$words: a file is beside"
     kill -s "$words" $!
     wait $! 2>/dev/null
