@@ -104,11 +104,11 @@ program() { # NAME [COMPILER OPTIONS...]
     local name=$1 line
     shift
     [ $# -gt 0 ] || set -- "${CC:-gcc}" -std=c99
-    "$@" -O2 -Wall -Wextra -Wconversion -pedantic -Werror -Iinclude -I"$room" \
+    "$1" -O2 "${@:2}" -Wall -Wextra -Wconversion -pedantic -Werror -Iinclude -I"$room" \
         -o "$room/$name" "host/test/$name.c" -x none "$ARCHIVE" >"$room/out" 2>"$room/err" &&
         "$room/$name" >"$room/out" 2>"$room/err"
     status=$?
-    report "$status" "host/test/$name.c by $1"
+    report "$status" "host/test/$name.c by $*"
     [ "$status" -eq 0 ] || return
     while read -r line; do
         case $line in
@@ -356,8 +356,19 @@ program step
 program stream
 program guide
 program walk
-program stack
+# The header's functions take what the compiler makes of them: by each that is here, at each level.
+for words in "${CC:-gcc}" clang; do
+    command -v "$words" >/dev/null || { echo "no $words here: the stack is not measured by it" && continue; }
+    for level in -O0 -O2 -O3; do
+        program stack "$words" -std=c99 "$level"
+        program stack_walk "$words" -std=c99 "$level"
+    done
+done
 sed -n 's/^passed: stack of \(.*\): \([0-9]*\) bytes$/\2 bytes of stack: \1/p' "$room/out" | sort -n | tail -n 1
+# What they measure is what is said.
+grep -qF 'less than 3,072' docs/C-GUIDE.md && grep -qF '3,072 bytes of stack' include/lampreycoil.h &&
+    grep -q 'MESSAGE_STACK = 3072,' host/test/stack.c
+report $? 'the stack of write_message, in words'
 
 echo "$passed passed, $failed failed"
 [ "$failed" -eq 0 ]
