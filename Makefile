@@ -13,13 +13,14 @@ export TMPDIR := $(shell tools/tmpdir)
 # What the archive is made of. The program and the must-fail edits are not in it.
 RATTLE := $(wildcard crates.txt) $(shell find crates -path crates/examples -prune -o -name must-fail -prune \
             -o \( -name '*.rt' -o -name '*.antt' \) -print 2>/dev/null)
-.PHONY: help run test bench archive host dist fmt deps bench-deps clean
+.PHONY: help run test bench fuzz archive host dist fmt deps bench-deps fuzz-deps clean
 .DELETE_ON_ERROR:
 
 help:
 	@echo 'make run      prove the library, show its examples, and write, dump and walk a frame from C'
 	@echo 'make test     the whole gate: every proof, must-fail edit and test'
 	@echo 'make bench    the library beside the second program and other JSON parsers, as ratios'
+	@echo 'make fuzz     fuzz the host programs and the header, FUZZ_SECONDS (60) for each of five harnesses'
 	@echo 'make archive  the library for C: $(ARCHIVE)'
 	@echo 'make host     the C host programs: $(HOST_DIR)/flux_frame and flux_floor'
 	@echo 'make install  archive, header, pkg-config file, host programs and man pages, to PREFIX (/usr/local)'
@@ -52,6 +53,10 @@ test: deps
 bench: deps bench-deps archive
 	@cd tests/second && CARGO_TARGET_DIR='$(CURDIR)/target/cargo' \
 	    cargo run --release --offline --features others --bin bench
+
+FUZZ_SECONDS = 60
+fuzz: fuzz-deps host
+	@ARCHIVE='$(ARCHIVE)' host/fuzz/fuzz.sh '$(FUZZ_SECONDS)'
 
 archive: $(ARCHIVE)
 
@@ -87,7 +92,7 @@ dist: $(ARCHIVE)
 fmt:
 	rt fmt
 	@if command -v clang-format >/dev/null; then \
-	    clang-format -i --style=file:host/.clang-format $(C_FILES) $(H_FILES) host/test/*.[ch]; \
+	    clang-format -i --style=file:host/.clang-format $(C_FILES) $(H_FILES) host/test/*.[ch] host/fuzz/*.[ch]; \
 	else \
 	    echo 'make fmt: no clang-format here, so the C files stay as they are'; \
 	fi
@@ -118,6 +123,14 @@ bench-deps: deps
 	{ command -v g++ && command -v c++; } >/dev/null || missing="$$missing g++"; \
 	[ -e /usr/include/jansson.h ] || missing="$$missing libjansson-dev"; \
 	[ -e /usr/include/simdjson.h ] || missing="$$missing libsimdjson-dev"; \
+	$(INSTALL_MISSING)
+
+# clang and its libFuzzer, which fuzzing alone needs: the gate does without them.
+FUZZ_TRIED = 'int LLVMFuzzerTestOneInput(const unsigned char *b, unsigned long n) { return !b && n; }'
+fuzz-deps:
+	@missing=''; \
+	{ mkdir -p target/fuzz && echo $(FUZZ_TRIED) | clang -fsanitize=fuzzer,address -x c - -o target/fuzz/tried; } \
+	    2>/dev/null || missing=' clang libclang-rt-dev'; \
 	$(INSTALL_MISSING)
 
 clean:

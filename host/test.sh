@@ -2,10 +2,10 @@
 # Tests the host programs. flux_frame: the bytes of paper 01, each refusal that it can meet, files and
 # wrong usage; host/test/dump.sh has more of dump, host/test/capture.sh its captures of several frames, and
 # host/test/json.sh its payloads that are JSON or are not. flux_floor: host/test/floor.sh. What both write:
-# host/test/outputs.sh. The header: host/test/header.sh. Then the list of a stream, the check of JSON, the
-# step and the walk through it, the examples of docs/C-GUIDE.md, and the stack that each call takes. The
-# programs are FLUX_FRAME and FLUX_FLOOR, or else what `make host` builds; the archive is ARCHIVE, or else the
-# one of `make archive`. The last line is 'N passed, M failed'.
+# host/test/outputs.sh. The header: host/test/header.sh. The fuzzing harnesses: host/test/fuzz.sh. Then the list
+# of a stream, the check of JSON, the step and the walk through it, the examples of docs/C-GUIDE.md, and the
+# stack that each call takes. The programs are FLUX_FRAME and FLUX_FLOOR, or else what `make host` builds; the
+# archive is ARCHIVE, or else the one of `make archive`. The last line is 'N passed, M failed'.
 set -u
 cd "$(dirname "$0")/.." || exit 2
 
@@ -347,6 +347,9 @@ mkdir "$room/examples" && examples docs/C-GUIDE.md "$room/examples" || exit 2
 
 # shellcheck source=host/test/header.sh
 . host/test/header.sh
+
+# shellcheck source=host/test/fuzz.sh
+. host/test/fuzz.sh
 
 # ---- the list of a stream, the check of JSON, the step, the examples of docs/C-GUIDE.md, the walk, and the stack
 

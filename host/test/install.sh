@@ -137,7 +137,7 @@ done
 # A path with no more on it than make and its rules need, a kit, and an apt-get that only says so.
 few=$room/few
 mkdir "$few"
-for words in sh bash env make find sed id dirname df awk tail git; do
+for words in sh bash env make find sed id dirname df awk tail git mkdir; do
     ln -s "$(command -v "$words")" "$few/$words"
 done
 for words in rt apt-get sudo gcc cc cargo rustc; do
@@ -151,7 +151,9 @@ rm "$few/cargo" "$few/gcc"
 with_few deps NO_INSTALL=1 2>"$room/said"
 good 'make deps NO_INSTALL=1 fails' [ $? -ne 0 ]
 good 'and names what is missing' grep -qxF 'make: missing: gcc libc6-dev cargo' "$room/said"
-good 'and calls nobody' [ ! -e "$room/called" ]
+with_few fuzz-deps NO_INSTALL=1 2>"$room/said"
+good 'make fuzz-deps NO_INSTALL=1 names what fuzzing alone needs' grep -qxF 'make: missing: clang libclang-rt-dev' "$room/said"
+good 'neither calls anybody' [ ! -e "$room/called" ]
 good 'make deps installs it' with_few deps
 good 'by apt-get' grep -qxE '(apt-get|sudo apt-get) install -y gcc libc6-dev cargo' "$room/called"
 
