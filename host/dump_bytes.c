@@ -7,11 +7,11 @@
 #include "progress.h"
 
 /* Room for a frame's number and place, with their words. */
-enum { PLACE_ROOM = 80 };
+enum { NUMBER_ROOM = 80 };
 
 void tell_refused(const struct dump *dump)
 {
-    char place[PLACE_ROOM] = "";
+    char place[NUMBER_ROOM] = "";
 
     if (dump->placed)
         snprintf(place, sizeof place, "frame %llu, from byte %llu, is ", dump->frame.number,
@@ -20,28 +20,29 @@ void tell_refused(const struct dump *dump)
             lampreycoil_refusal_words(dump->refusal), dump->reason);
 }
 
-static int write_payload(const struct dump *dump, const char *name)
-{
-    if (!has_payload(dump))
-        return trouble("the frame has no payload to write to %s", output_name(name));
-    return write_all(name, payload_bytes(dump), payload_length(dump));
-}
-
-/* The payload goes first: where there is none, nothing is written. */
+/* Where a payload is asked for and there is none, nothing is written. */
 int write_one(const struct dump *dump)
 {
     const struct dump_options *options = dump->options;
-    int status = 0;
+    struct output outputs[OUTPUTS_MOST];
+    size_t count = 0;
+    int status;
 
     clear_progress();
     if (dump->refusal != LAMPREYCOIL_OK) {
         tell_refused(dump);
         return EXIT_REFUSED;
     }
+    if (options->payload_out != NULL && !has_payload(dump))
+        return trouble("the frame has no payload to write to %s",
+                       output_name(options->payload_out));
     if (options->payload_out != NULL)
-        status = write_payload(dump, options->payload_out);
-    if (status == 0 && options->frame_out != NULL)
-        status = write_all(options->frame_out, dump->frame.bytes, dump->frame.length);
+        outputs[count++] =
+            (struct output){options->payload_out, payload_bytes(dump), payload_length(dump)};
+    if (options->frame_out != NULL)
+        outputs[count++] =
+            (struct output){options->frame_out, dump->frame.bytes, dump->frame.length};
+    status = write_outputs(outputs, count);
     if (status != 0)
         return status;
     return dump->tally.passed > 0 ? EXIT_REFUSED : EXIT_DONE;

@@ -3,6 +3,7 @@
 #include "commands.h"
 #include "dump.h"
 #include "files.h"
+#include "places.h"
 #include "progress.h"
 #include "put.h"
 
@@ -159,14 +160,20 @@ static int dump_asked(struct capture *capture, struct dump *dump)
     return status == 0 ? dump_one(dump) : status;
 }
 
+/* A file that is written is neither the capture nor, by another name, standard output. */
+static int check_out(const struct dump_options *options, const char *output)
+{
+    int status = output == NULL ? 0 : check_apart(output, options->file, "capture");
+
+    return status == 0 && !is_standard(output) ? check_beside_text(output) : status;
+}
+
 static int open_asked(struct capture *capture, const struct dump_options *options)
 {
-    int status = 0;
+    int status = check_out(options, options->payload_out);
 
-    if (options->payload_out != NULL)
-        status = check_apart(options->payload_out, options->file, "capture");
-    if (status == 0 && options->frame_out != NULL)
-        status = check_apart(options->frame_out, options->file, "capture");
+    if (status == 0)
+        status = check_out(options, options->frame_out);
     if (status != 0)
         return status;
     return (options->follow ? follow_capture : open_capture)(capture, options->file);

@@ -87,7 +87,7 @@ static int check_outputs(const struct dump_options *options)
     if (is_dash(options->payload_out) && is_dash(options->frame_out))
         return trouble("--payload-out and --frame-out both go to standard output: name a file for "
                        "one of them");
-    if (strcmp(options->payload_out, options->frame_out) == 0)
+    if (same_output(options->payload_out, options->frame_out))
         return trouble("--payload-out and --frame-out name one file, %s", options->frame_out);
     return 0;
 }

@@ -1,15 +1,16 @@
-/* stat, isatty and fileno are POSIX. */
+/* poll is POSIX. */
 #define _POSIX_C_SOURCE 200112L
 
 #include "files.h"
 
 #include <errno.h>
+#include <poll.h>
 #include <stdarg.h>
 #include <stdio.h>
 #include <string.h>
-#include <sys/stat.h>
 #include <unistd.h>
 
+#include "places.h"
 #include "program.h"
 #include "put.h"
 #include "quoted.h"
@@ -30,11 +31,6 @@ int trouble(const char *format, ...)
     put_byte('\n');
     put_to(stdout);
     return EXIT_TROUBLE;
-}
-
-static int is_standard(const char *name)
-{
-    return name == NULL || strcmp(name, "-") == 0;
 }
 
 const char *input_name(const char *name)
@@ -95,44 +91,23 @@ int read_all(const char *name, uint8_t *bytes, size_t *length)
     return status;
 }
 
+/* Whether nobody reads standard output any more: errno may be of something since then. */
+static int reader_is_gone(void)
+{
+    struct pollfd output = {.fd = STDOUT_FILENO, .events = POLLOUT};
+
+    return errno == EPIPE || (poll(&output, 1, 0) == 1 && (output.revents & POLLERR) != 0);
+}
+
 /* A full disk may show only when the last bytes are flushed. */
 int flush_output(void)
 {
     int failed = ferror(stdout);
 
-    if (fflush(stdout) != 0 || failed)
-        return trouble("cannot write standard output: %s", strerror(errno));
-    return 0;
-}
-
-/* What is no regular file, such as a terminal or /dev/null, loses nothing by being both. */
-int check_apart(const char *output, const char *input, const char *what)
-{
-    struct stat in, out;
-    int in_there = is_standard(input) ? fstat(fileno(stdin), &in) : stat(input, &in);
-    int out_there = is_standard(output) ? fstat(fileno(stdout), &out) : stat(output, &out);
-
-    if (in_there != 0 || out_there != 0 || !S_ISREG(in.st_mode) || in.st_dev != out.st_dev ||
-        in.st_ino != out.st_ino)
+    if (fflush(stdout) == 0 && !failed)
         return 0;
-    return trouble("%s is the %s itself: name another file", output_name(output), what);
-}
-
-int write_all(const char *name, const uint8_t *bytes, size_t length)
-{
-    if (is_standard(name)) {
-        if (isatty(fileno(stdout)))
-            return trouble("standard output is a terminal, and what is to be written is binary: "
-                           "name a file");
-        fwrite(bytes, 1, length, stdout);
-        return flush_output();
-    }
-
-    FILE *stream = fopen(name, "wb");
-    if (stream == NULL)
-        return trouble("cannot write %s: %s", name, strerror(errno));
-    size_t written = fwrite(bytes, 1, length, stream);
-    if (fclose(stream) != 0 || written != length)
-        return trouble("cannot write %s: %s", name, strerror(errno));
-    return 0;
+    /* A reader that goes away, as head does, has read what it wanted. */
+    if (reader_is_gone())
+        return EXIT_TROUBLE;
+    return trouble("cannot write standard output: %s", strerror(errno));
 }

@@ -64,12 +64,39 @@ int read_all(const char *name, uint8_t *bytes, size_t *length);
 int check_apart(const char *output, const char *input, const char *what);
 
 /*
- * Writes the file, or standard output if name is NULL or "-"; not to a terminal. Returns 0, or has
- * said what is wrong.
+ * Whether the output, named as for write_all, can be written by a command that shows text on
+ * standard output: it is not where that goes, and no terminal. Returns 0, or has said what is
+ * wrong.
  */
+int check_beside_text(const char *output);
+
+/* Whether two outputs, named as for write_all, are one file, though by names that differ. */
+int same_output(const char *one, const char *other);
+
+/* The most that one command writes. */
+enum { OUTPUTS_MOST = 2 };
+
+/* Bytes that go to a file, or to standard output if its name is NULL or "-". */
+struct output {
+    const char *name;
+    const uint8_t *bytes;
+    size_t length;
+};
+
+/*
+ * Writes them all; not to a terminal, and no two to one file. A regular file gets its bytes as a
+ * whole: where any output fails each stays as it was, or is not there. Returns 0, or has said what
+ * is wrong; but of a pipe whose reader went away it says nothing.
+ */
+int write_outputs(const struct output *outputs, size_t count);
+
+/* The same for one. */
 int write_all(const char *name, const uint8_t *bytes, size_t length);
 
-/* Ends the text on standard output. Returns 0, or has said what is wrong. */
+/*
+ * Ends the text on standard output. Returns 0, or has said what is wrong; but of a pipe whose
+ * reader went away it says nothing.
+ */
 int flush_output(void);
 
 #endif

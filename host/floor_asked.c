@@ -80,7 +80,9 @@ static int check_files(const struct asked *asked)
         if (asked->output != NULL)
             status = check_apart(asked->output, inputs[i].file, inputs[i].what);
     }
-    return status == 0 && standard > 1 ? trouble("only one file can be standard input") : status;
+    if (status == 0 && standard > 1)
+        status = trouble("only one file can be standard input");
+    return status == 0 && asked->output != NULL ? check_beside_text(asked->output) : status;
 }
 
 static int check_words(struct asked *asked, uint32_t *rank)

@@ -51,7 +51,9 @@ const char usage[] =
     "Of walk, home and trip:\n"
     "  --tree               draw the tree, also of more than 64 ranks\n"
     "  -o FILE              write the frame that is at rest to FILE; of trip, the one\n"
-    "                       that is home\n"
+    "                       that is home; FILE gets all of its bytes or stays as it was;\n"
+    "                       it is no terminal, not what is read, and\n"
+    "                       not where standard output goes\n"
     "\n"
     "A walk is played by the step call, and compared with the walk call.\n";
 

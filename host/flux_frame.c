@@ -75,11 +75,13 @@ const char usage[] =
     "                       stack first\n"
     "  --noresponse --upstream --private --streaming\n"
     "                       set the flag\n"
-    "  -o FILE              write to FILE and not to standard output; a terminal gets\n"
-    "                       no frame\n"
+    "  -o FILE              write to FILE and not to standard output\n"
     "The flags topic, payload and route follow from the parts given; requests and\n"
     "responses always have the flag route. To write what these options would not:\n"
     "  --flags HEX          the whole flags byte, in place of what the options say\n"
-    "  --type-number N      the type byte, in place of --type\n";
+    "  --type-number N      the type byte, in place of --type\n"
+    "\n"
+    "A FILE that is written gets all of its bytes, or stays as it was. It is no terminal,\n"
+    "not what is read, and no two outputs are one file, whatever their names.\n";
 
 const struct command commands[] = {{"write", command_write}, {"dump", command_dump}, {NULL, NULL}};

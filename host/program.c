@@ -1,11 +1,14 @@
-/* signal's SIGPIPE is POSIX. */
-#define _POSIX_C_SOURCE 200112L
+/* SIGPIPE, SIGXFSZ and fcntl are POSIX. */
+#define _XOPEN_SOURCE 700
 
 #include "program.h"
 
+#include <errno.h>
+#include <fcntl.h>
 #include <signal.h>
 #include <stdio.h>
 #include <string.h>
+#include <unistd.h>
 
 #include "files.h"
 #include "lampreycoil.h"
@@ -15,7 +18,8 @@ const char statuses[] =
     "Exit status:\n"
     "  0  yes: delivered, or home with errnum 0, or what was asked for was done and held\n"
     "  1  refused: a frame, a table or a floor file; number and words say why\n"
-    "  2  wrong usage, or a file that cannot be read or written\n"
+    "  2  wrong usage, or a file that cannot be read or written; nothing is said of a\n"
+    "     pipe whose reader went away, as in | head\n"
     "  3  two calls of the library differ, which must not be: please report it\n"
     "  4  the verdict is no: an error reply, a response home with an error, or findings\n"
     "  5  silenced: an error that nobody is told, because noresponse is set\n";
@@ -59,10 +63,23 @@ static int run_command(const char *name, int count, char **words)
     return trouble("unknown command '%s' (see %s --help)", name, program);
 }
 
+/* A standard stream that is closed stays so: no file that is opened gets its number. */
+static void keep_closed(void)
+{
+    for (int fd = STDIN_FILENO; fd <= STDERR_FILENO; fd++) {
+        if (fcntl(fd, F_GETFD) == -1 && errno == EBADF &&
+            open("/dev/null", fd == STDIN_FILENO ? O_WRONLY : O_RDONLY) != fd)
+            _exit(EXIT_TROUBLE);
+    }
+}
+
 int main(int argc, char **argv)
 {
-    /* A reader that goes away is an output that cannot be written, and is told as one. */
+    /* A reader that goes away, or a limit on a file's length, is an output that cannot be written.
+     */
     signal(SIGPIPE, SIG_IGN);
+    signal(SIGXFSZ, SIG_IGN);
+    keep_closed();
     if (argc < 2) {
         fputs(usage, stderr);
         fputs(statuses, stderr);

@@ -2,12 +2,13 @@
 # Tests the host programs. flux_frame: the bytes of paper 01, each refusal that it can meet, files and
 # wrong usage; host/test/write.sh has more of write, host/test/dump.sh of dump, host/test/capture.sh its
 # captures of several frames, host/test/cut.sh what it writes to files, host/test/select.sh the frames that
-# it selects or passes, host/test/follow.sh captures that grow, and host/test/json.sh its payloads that are
-# JSON or are not. flux_floor: host/test/floor.sh, which names those beside it, and host/test/audit.sh. The
-# header: host/test/header.sh. Then the list of a stream, the check of JSON, the step and the walk through it, the
-# examples of docs/C-GUIDE.md, and the stack that each call takes. The programs are FLUX_FRAME and
-# FLUX_FLOOR, or else what `make host` builds; the archive is ARCHIVE, or else the one of `make archive`.
-# The last line is 'N passed, M failed'.
+# it selects or passes, host/test/follow.sh captures that grow, host/test/json.sh its payloads that are
+# JSON or are not, host/test/fields.sh and shown.sh what is written of them. flux_floor: host/test/floor.sh,
+# which names those beside it, and host/test/audit.sh. What both write: host/test/outputs.sh. The header:
+# host/test/header.sh. The fuzzing harnesses: host/test/fuzz.sh. Then the list of a stream, the check of
+# JSON, the step and the walk through it, the examples of docs/C-GUIDE.md, and the stack that each call
+# takes. The programs are FLUX_FRAME and FLUX_FLOOR, or else what `make host` builds; the archive is
+# ARCHIVE, or else the one of `make archive`. The last line is 'N passed, M failed'.
 set -u
 cd "$(dirname "$0")/.." || exit 2
 
@@ -106,11 +107,11 @@ program() { # NAME [COMPILER OPTIONS...]
     local name=$1 line
     shift
     [ $# -gt 0 ] || set -- "${CC:-gcc}" -std=c99
-    "$@" -O2 -Wall -Wextra -Wconversion -pedantic -Werror -Iinclude -I"$room" \
+    "$1" -O2 "${@:2}" -Wall -Wextra -Wconversion -pedantic -Werror -Iinclude -I"$room" \
         -o "$room/$name" "host/test/$name.c" -x none "$ARCHIVE" >"$room/out" 2>"$room/err" &&
         "$room/$name" >"$room/out" 2>"$room/err"
     status=$?
-    report "$status" "host/test/$name.c by $1"
+    report "$status" "host/test/$name.c by $*"
     [ "$status" -eq 0 ] || return
     while read -r line; do
         case $line in
@@ -347,8 +348,14 @@ wrong 'a payload that is too long' 'longer than 1048576 bytes' write --type even
 
 # shellcheck source=host/test/floor_usage.sh
 . host/test/floor_usage.sh
+
 # shellcheck source=host/test/audit.sh
 . host/test/audit.sh
+
+# ---- what both write
+
+# shellcheck source=host/test/outputs.sh
+. host/test/outputs.sh
 
 # ---- the header
 
@@ -360,6 +367,9 @@ mkdir "$room/examples" && examples docs/C-GUIDE.md "$room/examples" || exit 2
 # shellcheck source=host/test/header.sh
 . host/test/header.sh
 
+# shellcheck source=host/test/fuzz.sh
+. host/test/fuzz.sh
+
 # ---- the list of a stream, the check of JSON, the step, the examples of docs/C-GUIDE.md, the walk, and the stack
 
 program read_stream
@@ -368,8 +378,19 @@ program step
 program stream
 program guide
 program walk
-program stack
+# The header's functions take what the compiler makes of them: by each that is here, at each level.
+for words in "${CC:-gcc}" clang; do
+    command -v "$words" >/dev/null || { echo "no $words here: the stack is not measured by it" && continue; }
+    for level in -O0 -O2 -O3; do
+        program stack "$words" -std=c99 "$level"
+        program stack_walk "$words" -std=c99 "$level"
+    done
+done
 sed -n 's/^passed: stack of \(.*\): \([0-9]*\) bytes$/\2 bytes of stack: \1/p' "$room/out" | sort -n | tail -n 1
+# What they measure is what is said.
+grep -qF 'less than 3,072' docs/C-GUIDE.md && grep -qF '3,072 bytes of stack' include/lampreycoil.h &&
+    grep -q 'MESSAGE_STACK = 3072,' host/test/stack.c
+report $? 'the stack of write_message, in words'
 
 echo "$passed passed, $failed failed"
 [ "$failed" -eq 0 ]

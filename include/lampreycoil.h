@@ -26,8 +26,9 @@
  * - A refusal writes nothing, to any slice. Two calls differ, lampreycoil_walk and, for refusal 26,
  *   lampreycoil_check_json: see there.
  * - Nothing is allocated. A call takes less than LAMPREYCOIL_STACK_MAX bytes of stack, whatever it
- *   is given, and lampreycoil_check_json less than 4,096 (it took 2,207 at 32 levels). This is
- *   measured (host/test.sh) and not proved.
+ *   is given, and lampreycoil_check_json less than 4,096 (it took 2,231 at 32 levels). This is
+ *   measured (host/test.sh) and not proved. What the dynamic linker takes is not in it: a program
+ *   that is not linked with -z now has it look for memcpy, memmove and memset at their first call.
  *
  * What a message is
  *
@@ -662,8 +663,9 @@ static inline uint32_t lampreycoil_read_message(const uint8_t *bytes, size_t byt
 
 /*
  * Writes a message as a frame to the front of out as lampreycoil_write does, with its refusals;
- * length is then the frame's. A refusal writes nothing. No part may lie in out. It takes 2,405
- * bytes of stack more than that call, in which the routes are put side by side.
+ * length is then the frame's. A refusal writes nothing. No part may lie in out. It takes less than
+ * 3,072 bytes of stack more than that call, in which the routes are put side by side: by gcc and
+ * clang it took 2,416 to 2,544. This is measured (host/test.sh).
  */
 LAMPREYCOIL_CHECKED
 static inline uint32_t lampreycoil_write_message(const struct lampreycoil_message *message,

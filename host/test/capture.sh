@@ -293,5 +293,5 @@ for words in '' --summary --json '--frame 1'; do
 done
 "$FLUX_FRAME" dump --json "$room/thrice" 2>"$room/err" | head -c 1 >"$room/out"
 status=${PIPESTATUS[0]}
-[ "$status" -eq 2 ] && grep -q 'cannot write standard output' "$room/err"
+[ "$status" -eq 2 ] && [ ! -s "$room/err" ]
 report $? 'a reader that goes away'

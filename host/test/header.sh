@@ -30,10 +30,12 @@ every+=' -Wno-declaration-after-statement -Wno-c++98-compat -Wno-c++98-compat-pe
 }
 program empty
 program helpers
+program helpers_words
 if command -v g++ >/dev/null; then
     program helpers g++ -x c++ -std=c++11 -Wold-style-cast
+    program helpers_words g++ -x c++ -std=c++11 -Wold-style-cast
 else
-    echo 'no g++ here: host/test/helpers.c is not compiled as C++'
+    echo 'no g++ here: host/test/helpers.c and helpers_words.c are not compiled as C++'
 fi
 
 # Once more where each access and each step of the C is watched, if the compiler can do that here.
@@ -43,12 +45,13 @@ echo 'int main(void) { return 0; }' >"$room/watched.c"
 if "${CC:-gcc}" $watched -o "$room/watched" "$room/watched.c" 2>"$room/err" && "$room/watched" 2>"$room/err"; then
     program empty "${CC:-gcc}" -std=c99 $watched
     program helpers "${CC:-gcc}" -std=c99 $watched
+    program helpers_words "${CC:-gcc}" -std=c99 $watched
     program read_stream "${CC:-gcc}" -std=c99 $watched
     program check_json "${CC:-gcc}" -std=c99 $watched
     program stream "${CC:-gcc}" -std=c99 $watched
     program guide "${CC:-gcc}" -std=c99 $watched
 else
-    echo 'no sanitizers here: host/test/empty.c, helpers.c, read_stream.c, check_json.c, stream.c and guide.c run without them alone'
+    echo 'no sanitizers here: host/test/empty.c, helpers.c, helpers_words.c, read_stream.c, check_json.c, stream.c and guide.c run without them alone'
 fi
 
 # An answer that nobody looks at is a warning: of each call, and of what is made of the calls.
