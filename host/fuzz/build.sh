@@ -39,6 +39,7 @@ harness() { # NAME SOURCE PROGRAM COMPILER...
     "$@" -o "$folder/$name" "$source" $main $program "$objects/host.a" "$archive"
 }
 harness capture host/fuzz/capture.c "$objects/flux_frame.o" "$@"
+harness audit host/fuzz/audit.c "$objects/flux_floor.o" "$@" -DFLOOR="\"$PWD/host/example.floor\""
 harness floors host/fuzz/floors.c "$objects/flux_floor.o" "$@"
 harness frame_words host/fuzz/words.c "$objects/flux_frame.o" "$@"
 harness floor_words host/fuzz/words.c "$objects/flux_floor.o" "$@"

@@ -4,7 +4,13 @@
 static const mode modes[] = {
     {"check", "-"},
     {"show", "-"},
+    {"check", "--json", "-"},
+    {"show", "--json", "-"},
+    {"show", "--dot", "-"},
     {"walk", "--enter", "3", "-", "--topic", "bench.run"},
+    {"walk", "--json", "--enter=3", "-", "--topic=bench.run"},
+    {"trip", "--tree", "--enter=3", "-", "--topic=log", "--answer-errnum=0"},
+    {"trip", "--dot", "--enter=3", "-", "--topic=bench.run"},
     {"walk", "--enter", "0", "-", "--topic=log", "--nodeid=1", "--noresponse"},
     {"walk", "--enter", "1", "-", "--topic=log", "--nodeid=1", "--upstream"},
     {"home", "--from", "0", "-", "--topic=log", "--errnum=38",

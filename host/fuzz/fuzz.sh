@@ -8,7 +8,7 @@ set -u
 cd "$(dirname "$0")/../.." || exit 2
 seconds=$1
 shift
-[ $# -gt 0 ] || set -- capture floors frame_words floor_words helpers
+[ $# -gt 0 ] || set -- capture audit floors frame_words floor_words helpers
 room=$PWD/target/fuzz # a harness is in no folder while the program runs
 mkdir -p "$room/found" || exit 2
 

@@ -9,7 +9,7 @@ folder=$1
 FLUX_FRAME=${FLUX_FRAME:-target/host/flux_frame}
 FLUX_FLOOR=${FLUX_FLOOR:-target/host/flux_floor}
 rm -rf "$folder"
-mkdir -p "$folder"/{frames,capture,floors,frame_words,floor_words,helpers}
+mkdir -p "$folder"/{frames,capture,audit,floors,frame_words,floor_words,helpers}
 frames=$folder/frames
 
 # Words as one input: each ends with a zero byte.
@@ -34,6 +34,14 @@ printf '{"a":[1.5e3,true,null,"\\u00e9\\n"],"b":{}}\0' >"$folder/payload"
 "$FLUX_FLOOR" walk --enter 5 host/example.floor --topic nobody.here --matchtag 9 -o "$frames/reply" >/dev/null || true
 
 cat "$frames"/{control,request,json,response} >"$folder/four"
+# A talk: requests that come by rank 5, with the replies that are due, a blank one and one too many.
+five=00000005-0123-4567-89ab-cdef01234567
+frame asked --type request --topic bench.run --matchtag 9 --route "$five" --route "$one"
+frame denied --type response --topic bench.run --matchtag 9 --errnum 38 --route "$five" --route "$one"
+frame blank --type response --topic bench.run --matchtag 9 --route "$five" --route "$one"
+frame stream --type request --topic log --matchtag 1 --streaming --route "$five"
+frame streamed --type response --topic log --matchtag 1 --route "$five"
+cat "$frames"/{asked,stream,denied,asked,streamed,blank,blank,event} >"$folder/talk"
 { cat "$frames"/{event,request} && head -c 20 "$frames/json"; } >"$folder/torn"
 { cat "$frames/event" && printf 'what is no frame'; } >"$folder/junk"
 cp "$folder"/{four,torn,junk} "$folder/payload" "$frames"/* "$folder/helpers"
@@ -48,6 +56,9 @@ for mode in {0..15}; do
     for file in "$folder"/{four,torn,junk} "$frames"/{json,long,reply}; do
         { printf '%b' "$byte" && cat "$file"; } >"$folder/capture/$mode-$(basename "$file")"
     done
+    for file in "$folder"/{four,torn,junk,talk} "$frames"/{asked,reply}; do
+        { printf '%b' "$byte" && cat "$file"; } >"$folder/audit/$mode-$(basename "$file")"
+    done
     { printf '%b' "$byte" && cat host/example.floor; } >"$folder/floors/$mode-example"
     { printf '%b' "$byte" && sed -e 's/^5 2/5 9/' -e 's/^3 1/3 3/' host/example.floor; } >"$folder/floors/$mode-wrong"
     { printf '%b' "$byte" && "$FLUX_FLOOR" show host/example.floor; } >"$folder/floors/$mode-shown"
@@ -56,11 +67,14 @@ done
 
 words "$folder/frame_words/dump" dump --json --frame=0 -
 words "$folder/frame_words/out" dump --payload-out - --frame 0
+words "$folder/frame_words/selected" dump --type request --topic 'l*' --errors --skip-refused --json --fields topic.text
 words "$folder/frame_words/raw" write --type-number 1 --flags 09 --first 0xFFFFFFFF --second 1 --topic log
 words "$folder/floor_words/check" check -
 words "$folder/floor_words/show" show -
 words "$folder/floor_words/walk" walk --enter 1 - --topic bench.run --nodeid 0 --matchtag 7 --payload-text x
 words "$folder/floor_words/home" home --from 0 - --topic=log --errnum=38 --route "$two"
+words "$folder/floor_words/trip" trip --enter 2 - --topic log.put --answer-errnum 0 --answer-text x --json
+words "$folder/floor_words/graph" walk --enter 2 - --topic bench --dot
 words "$folder/floor_words/upstream" walk --enter 1 --upstream --nodeid 1 --topic log -o x -
 for program in "$FLUX_FRAME" "$FLUX_FLOOR"; do
     "$program" --help

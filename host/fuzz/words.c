@@ -14,6 +14,16 @@ static const uint8_t floor_text[] = "0 none 00000000-0123-4567-89ab-cdef01234567
                                     "1 0 00000001-0123-4567-89ab-cdef01234567 bench\n"
                                     "2 0 00000002-0123-4567-89ab-cdef01234567\n";
 
+/* A program that follows a file waits for it to grow: the input here does not. */
+static int waits(const char *const *words)
+{
+    for (; *words != NULL; words++) {
+        if (strcmp(*words, "--follow") == 0)
+            return 1;
+    }
+    return 0;
+}
+
 /* A word without a slash names no file outside the folder that the program is in. */
 int LLVMFuzzerTestOneInput(const uint8_t *bytes, size_t length)
 {
@@ -29,6 +39,8 @@ int LLVMFuzzerTestOneInput(const uint8_t *bytes, size_t length)
     for (size_t at = 0; at < length && count < WORDS_MOST; at += strlen(text + at) + 1)
         words[count++] = text + at;
     words[count] = NULL;
+    if (waits(words))
+        return 0;
     if (strcmp(program, "flux_frame") == 0)
         run_program(words, frame, sizeof frame - 1);
     else

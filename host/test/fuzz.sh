@@ -12,7 +12,7 @@ report "$status" 'the fuzzing harnesses compile'
 FLUX_FRAME=$FLUX_FRAME FLUX_FLOOR=$FLUX_FLOOR host/fuzz/seeds.sh "$fuzz/seeds" >"$room/out" 2>"$room/err"
 status=$?
 report "$status" 'their seeds are made by the programs'
-for words in capture floors frame_words floor_words helpers; do
+for words in capture audit floors frame_words floor_words helpers; do
     "$fuzz/$words" "$fuzz/seeds/$words"/* >"$room/out" 2>"$room/err"
     status=$?
     [ "$status" -eq 0 ] && [ "$(cat "$room/out")" = "$(find "$fuzz/seeds/$words" -type f | wc -l) inputs" ]
