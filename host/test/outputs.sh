@@ -205,6 +205,12 @@ report $? 'dump | head'
 status=$?
 [ "$status" -eq 0 ] && [ "$(tohex <"$away/a")" = "$unframed" ]
 report $? 'all streams closed, and a file'
+cat "$away/pipe" >"$room/piped" &
+(cd "$away" && "$FLUX_FRAME" dump --payload-out pipe --frame-out no/n <"$room/one.frame" >"$room/out" 2>&-)
+status=$?
+wait $!
+[ "$status" -eq 2 ] && [ ! -s "$room/piped" ]
+report $? 'what is said of an output stays out of another'
 "$FLUX_FRAME" write --type event --topic x >&- 2>"$room/err"
 status=$?
 [ "$status" -eq 2 ] && grep -qF 'cannot write standard output' "$room/err"
