@@ -22,7 +22,8 @@ FLUX_FRAME=$(realpath "$FLUX_FRAME") && FLUX_FLOOR=$(realpath "$FLUX_FLOOR") || 
 
 ARCHIVE=${ARCHIVE:-target/staticlib/liblampreycoil.a}
 room=$(mktemp -d) || exit 2
-trap 'rm -rf "$room"' EXIT
+# A child that is ended by a signal while it is still a copy of this shell runs the trap too: the room is not its.
+trap '[ "$BASHPID" != "$$" ] || rm -rf "$room"' EXIT
 passed=0 failed=0
 
 # ---- what the tests are written with

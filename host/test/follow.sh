@@ -1,8 +1,11 @@
 # Tests of `flux_frame dump --follow`, and of the progress that is told of a long file. host/test.sh reads this
 # file behind host/test/capture.sh: its functions and captures are used here.
 
-# Follows with these words, beside the test; leaves the process in pid, and the files out and err.
+# Follows with these words, beside the test; leaves the process in pid, and the files out and err. What an
+# earlier test left in out is gone before that: no line of it may pass for one of this process, which would
+# then be sent SIGINT while it is still a copy of this shell, and would remove the room on its way out.
 follow() { # WORDS...
+    : >"$room/out"
     "$FLUX_FRAME" dump --follow "$@" >"$room/out" 2>"$room/err" &
     pid=$!
 }
@@ -11,6 +14,7 @@ follow() { # WORDS...
 mkfifo "$room/pipe"
 follow_pipe() { # WORDS...
     exec 7<>"$room/pipe"
+    : >"$room/out"
     "$FLUX_FRAME" dump --follow "$@" <"$room/pipe" >"$room/out" 2>"$room/err" 7>&- &
     pid=$!
 }
