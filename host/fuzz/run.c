@@ -85,7 +85,7 @@ static void reset_program(void)
 /* A folder that was removed: nothing can be made in it, and no name is there. */
 static int open_nowhere(void)
 {
-    char name[] = "/tmp/fuzz-XXXXXX";
+    char name[] = P_tmpdir "/fuzz-XXXXXX";
     int fd;
 
     checked(mkdtemp(name) == NULL ? -1 : 0);
