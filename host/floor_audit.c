@@ -118,16 +118,19 @@ static int judge_capture(struct audit *audit, struct capture *capture)
     return status;
 }
 
-/* The counts, and the status: a capture without a frame is refused, as the reader refuses it. */
+/*
+ * The counts, and the status. A capture without a frame is refused, as the reader refuses it. One
+ * without a request shows nothing that was judged, and so it is no yes.
+ */
 static int end_audit(struct audit *audit)
 {
-    int status = EXIT_DONE;
+    int status = EXIT_NO;
 
     judge_open(audit);
     if (audit->counts.frames == 0)
         status = EXIT_REFUSED;
-    else if (all_findings(&audit->counts) != 0)
-        status = EXIT_NO;
+    else if (audit->counts.requests > 0 && all_findings(&audit->counts) == 0)
+        status = EXIT_DONE;
     tell_counts(audit, status);
     return flush_output() == 0 ? status : EXIT_TROUBLE;
 }

@@ -71,12 +71,13 @@ new && asks --topic log --streaming && answers --topic log
 audits 'a stream that is still open' 0 ''
 counts '  streams still open' 1
 new && frame --type event --topic up && frame --type control
-audits 'no request at all' 0 ''
+audits 'no request at all is no yes' 4 ''
 verdict 'no request: nothing was judged'
 counts events 1
 counts 'control messages' 1
 floor audit "$example" - <"$room/capture"
-report "$status" 'audit reads standard input'
+[ "$status" -eq 4 ] && grep -qxF 'no request: nothing was judged' "$room/out"
+report $? 'audit reads standard input'
 
 # Who asked is told by the routes on entry.
 new && asks --topic log --route $client && asks --topic bench
@@ -187,6 +188,18 @@ audits 'one more is forgotten' 4 'frame 131074, from byte 10180082: response to 
 status=$?
 report "$status" 'audit: memory is bounded'
 counts requests 400000
+
+# A terminal is told how far a capture above 64 MiB is read.
+if command -v script >/dev/null; then
+    "$room/many" pairs 450000 >"$room/capture"
+    script -qec "$FLUX_FLOOR audit $example $room/capture >$room/counted" /dev/null </dev/null >"$room/out" 2>"$room/err"
+    status=$?
+    [ "$status" -eq 0 ] && tr '\r' '\n' <"$room/out" | grep -qxE " *[0-9]+%, [0-9]+ of $(wc -c <"$room/capture") bytes" &&
+        [ "$(tail -c 1 "$room/out")" = $'\r' ] && grep -qx 'frames  *900000' "$room/counted"
+    report $? 'audit: a terminal is told how far a long capture is read, and the line goes away'
+else
+    echo 'host/test/audit.sh: NO script HERE: what a terminal is told of a long capture is NOT TESTED'
+fi
 
 # ---- usage
 

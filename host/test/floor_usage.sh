@@ -156,3 +156,16 @@ $said" ]
     [ "$status" -eq 3 ] && grep -q '"status":3,.*"answer":"differs","error":null,.*"rank":null,.*"refusal_words":null,' "$room/out"
     report $? "checks that differ, walk --json: $words"
 done
+
+# ---- one table of statuses: the same lines end both helps, and both pages name all six
+
+"$FLUX_FRAME" --help | sed -n '/^Exit status:/,$p' >"$room/err"
+"$FLUX_FLOOR" --help | sed -n '/^Exit status:/,$p' >"$room/out"
+status=0
+cmp -s "$room/out" "$room/err" && [ "$(grep -c '^  [0-5]  ' "$room/out")" -eq 6 ] && [ "$(cut -c 3 "$room/out" | tr -dc 0-9)" = 012345 ]
+report $? 'both helps end with the same six statuses'
+for page in man/flux_frame.1 man/flux_floor.1; do
+    sed -n '/^.SH EXIT STATUS/,/^.SH EXAMPLES/p' "$page" | sed -n '/^\.TP$/{n;p;}' | tr -dc 0-9 >"$room/out"
+    [ "$(cat "$room/out")" = 012345 ]
+    report $? "$page has the statuses 0 to 5"
+done
