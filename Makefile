@@ -20,7 +20,7 @@ help:
 	@echo 'make run      prove the library, show its examples, and write, dump and walk a frame from C'
 	@echo 'make test     the whole gate: every proof, must-fail edit and test'
 	@echo 'make bench    the library beside the second program and other JSON parsers, as ratios'
-	@echo 'make fuzz     fuzz the host programs and the header, FUZZ_SECONDS (60) for each of five harnesses'
+	@echo 'make fuzz     fuzz the host programs and the header, FUZZ_SECONDS (60) for each of six harnesses'
 	@echo 'make archive  the library for C: $(ARCHIVE)'
 	@echo 'make host     the C host programs: $(HOST_DIR)/flux_frame and flux_floor'
 	@echo 'make install  archive, header, pkg-config file, host programs and man pages, to PREFIX (/usr/local)'
