@@ -37,7 +37,7 @@ struct dump {
     uint8_t record[LAMPREYCOIL_READ_RECORD]; /* where it was accepted */
     struct verdict verdict;                  /* where it has a payload, too, that was judged */
     struct split split;                      /* here and below: where it was refused */
-    char reason[REASON_ROOM];
+    struct fault fault;
     int selected;                       /* it is accepted, and to be shown */
     int passed;                         /* it was refused and passed: its length is its own */
     int range_ended;                    /* no frame: --frames ends here */
@@ -80,7 +80,7 @@ int is_broken_off(const struct dump *dump);
 int stop_status(const struct dump *dump);
 
 /* Room for the line that tells it. */
-enum { STOP_ROOM = REASON_ROOM + 600 };
+enum { STOP_ROOM = TOLD_ROOM + 600 };
 
 /* The number at an index of the record. */
 uint32_t dumped(const struct dump *dump, size_t index);

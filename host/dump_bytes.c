@@ -17,7 +17,7 @@ void tell_refused(const struct dump *dump)
         snprintf(place, sizeof place, "frame %llu, from byte %llu, is ", dump->frame.number,
                  dump->frame.start);
     trouble("%srefused, %lu: %s (%s)", place, (unsigned long)dump->refusal,
-            lampreycoil_refusal_words(dump->refusal), dump->reason);
+            lampreycoil_refusal_words(dump->refusal), dump->fault.told);
 }
 
 /* Where a payload is asked for and there is none, nothing is written. */

@@ -67,8 +67,8 @@ enum stop stop_of(const struct dump *dump)
 }
 
 /*
- * Of a refused frame only 4 to 10 leave anything to say: the start was right and the whole body is
- * there, so the front may be right where the rest of the frame is not.
+ * Of a refused frame something is left to say where it has a byte at fault: the start was right and
+ * the whole body is there, so the front may be right where the rest of the frame is not.
  */
 int next_begins(const struct dump *dump, unsigned long long *next)
 {
@@ -79,7 +79,7 @@ int next_begins(const struct dump *dump, unsigned long long *next)
         return 0;
     if (stop != STOP_REFUSED)
         return 1;
-    if (dump->refusal < LAMPREYCOIL_PART_WRONG || dump->refusal > LAMPREYCOIL_FIELD_WRONG)
+    if (!has_byte(&dump->fault))
         return 0;
     *next += FRONT + (unsigned long long)dump->split.body;
     return 1;
@@ -125,9 +125,7 @@ static int look_at_refused(struct capture *capture, struct dump *dump)
     } else {
         status = see_rest(capture, frame);
     }
-    if (frame->length >= FRONT)
-        split_frame(frame->bytes, frame->length, &dump->split);
-    explain(dump->refusal, frame->bytes, frame->length, &dump->split, dump->reason);
+    dump->refusal = explain(frame->bytes, frame->length, &dump->split, &dump->fault);
     return status;
 }
 

@@ -52,7 +52,15 @@ static void put_words(const struct object *object)
 
 static void put_because(const struct object *object)
 {
-    json_text(object->dump->reason);
+    json_text(object->dump->fault.reason);
+}
+
+static void put_fault_byte(const struct object *object)
+{
+    if (has_byte(&object->dump->fault))
+        json_number(object->dump->fault.byte);
+    else
+        json_null();
 }
 
 static void put_front(const struct object *object)
@@ -201,7 +209,7 @@ static void put_header(const struct object *object)
 
 static void put_whole(const struct object *object)
 {
-    json_bool(object->dump->split.end == SPLIT_WHOLE);
+    json_bool(object->dump->split.whole);
 }
 
 static void put_parts(const struct object *object)
@@ -239,6 +247,7 @@ static const struct member of_frame[] = {
     {"refusal", REFUSED, refusal_of, NULL},
     {"words", REFUSED, NULL, put_words},
     {"because", REFUSED, NULL, put_because},
+    {"fault_byte", REFUSED, NULL, put_fault_byte},
     {"front", REFUSED, NULL, put_front},
     {"needed", SHORT, needed, NULL},
     {"body", SPLIT, body_length, NULL},

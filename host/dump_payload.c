@@ -4,13 +4,14 @@
  */
 #include "dump.h"
 #include "characters.h"
+#include "dump_rows.h"
 #include "layout.h"
 #include "names.h"
 #include "put.h"
 #include "quoted.h"
 
-/* How many bytes are shown, how many of a text, bytes in a row, and columns in front of them. */
-enum { BYTES_SHOWN = 64, TEXT_SHOWN = 1024, ROW = 16, MARGIN = 14 };
+/* How many bytes are shown, and how many of a text. */
+enum { BYTES_SHOWN = 64, TEXT_SHOWN = 1024 };
 
 static void put_more(size_t more)
 {
@@ -80,41 +81,10 @@ static void put_text_of(const struct dump *dump)
 
 /* ---- bytes */
 
-static void put_row(const uint8_t *bytes, size_t at, size_t length)
-{
-    uint8_t shown[ROW];
-
-    put_text("  ");
-    put_hex_number((uint32_t)at, 4);
-    put_spaces(8);
-    put_spaced_hex(bytes + at, length);
-    put_spaces(3 * (ROW - length) + 1);
-    for (size_t i = 0; i < length; i++)
-        shown[i] = printable(bytes[at + i]) ? bytes[at + i] : '.';
-    put_byte('|');
-    put_bytes(shown, length);
-    put_text("|\n");
-}
-
-/* Below a row: marks the byte with this number in it, in both forms. */
-static void put_mark(size_t byte)
-{
-    put_spaces(MARGIN + 3 * byte);
-    put_text("^^");
-    put_spaces(3 * ROW - 2 * byte);
-    put_text("^\n");
-}
-
 /* The row that begins at a byte, and the mark if the place is in it. */
 static size_t put_row_at(const struct dump *dump, size_t at)
 {
-    size_t left = payload_length(dump) - at;
-    size_t length = left < ROW ? left : ROW;
-
-    put_row(payload_bytes(dump), at, length);
-    if (dump->verdict.byte / ROW == at / ROW)
-        put_mark(dump->verdict.byte % ROW);
-    return length;
+    return put_row(payload_bytes(dump), payload_length(dump), at, dump->verdict.byte);
 }
 
 /* The first rows, or all; and the one with the place, which may be just behind the last byte. */

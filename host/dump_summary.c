@@ -64,7 +64,7 @@ void show_passed(const struct dump *dump)
 {
     printf("frame %-7llu %5zu bytes, from byte %-9llu %-8s  %lu: %s (%s)\n", dump->frame.number,
            dump->frame.length, dump->frame.start, "refused", (unsigned long)dump->refusal,
-           lampreycoil_refusal_words(dump->refusal), dump->reason);
+           lampreycoil_refusal_words(dump->refusal), dump->fault.told);
 }
 
 /* Room for the words of each of the two below, with the longest numbers. */
@@ -123,11 +123,11 @@ void tell_stop(const struct dump *dump, char text[STOP_ROOM])
         snprintf(text, STOP_ROOM, "%s; interrupted: what is behind was not looked at", counts);
     else if (stop == STOP_TORN)
         snprintf(text, STOP_ROOM, "%s; frame %llu, from byte %llu, is torn: %s", counts, number,
-                 start, dump->reason);
+                 start, dump->fault.told);
     else
         snprintf(text, STOP_ROOM, "%s; frame %llu, from byte %llu, is refused, %lu: %s (%s)%s",
                  counts, number, start, (unsigned long)dump->refusal,
-                 lampreycoil_refusal_words(dump->refusal), dump->reason, tell_next(dump, next));
+                 lampreycoil_refusal_words(dump->refusal), dump->fault.told, tell_next(dump, next));
 }
 
 void show_stop(const struct dump *dump)

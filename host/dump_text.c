@@ -1,5 +1,6 @@
 /* A frame as text for a person. Nothing that a terminal would obey is sent to it. */
 #include "dump.h"
+#include "dump_rows.h"
 #include "names.h"
 #include "put.h"
 #include "quoted.h"
@@ -230,10 +231,10 @@ static void put_split(const struct dump *dump)
         put_fields(dump->frame.bytes + split->header);
     put_name("parts");
     put_number(split->count);
-    put_text(split->end == SPLIT_WHOLE ? "\n" : " can be split\n");
+    put_text(split->whole ? "\n" : " can be split\n");
     for (size_t i = 0; i < split->count; i++)
         put_part(dump, i);
-    if (split->end != SPLIT_WHOLE) {
+    if (!split->whole) {
         put_spaces(NAME_WIDTH);
         put_text("no more from byte ");
         put_number(split->end_at);
@@ -279,6 +280,21 @@ static void put_short(const struct dump *dump)
     put_text(dump->frame.length == 0 ? " none\n" : "\n");
 }
 
+/* The byte at fault, in its row. Of an empty body it is the one behind the frame. */
+static void put_fault(const struct dump *dump)
+{
+    const uint8_t *bytes = dump->frame.bytes;
+    size_t byte = dump->fault.byte, limit = dump->split.limit;
+
+    put_name("at byte");
+    put_number(byte);
+    put_text(byte < limit ? ", which is " : ", where the frame ends");
+    if (byte < limit)
+        put_hex(bytes + byte, 1);
+    put_byte('\n');
+    put_row(bytes, limit, byte / ROW * ROW, byte);
+}
+
 static void put_refused(const struct dump *dump)
 {
     put_input(dump);
@@ -287,11 +303,11 @@ static void put_refused(const struct dump *dump)
     put_text(": ");
     put_text(lampreycoil_refusal_words(dump->refusal));
     put_byte('\n');
-    if (dump->reason[0] != '\0') {
-        put_name("because");
-        put_text(dump->reason);
-        put_byte('\n');
-    }
+    put_name("because");
+    put_text(dump->fault.reason);
+    put_byte('\n');
+    if (has_byte(&dump->fault))
+        put_fault(dump);
     if (dump->frame.length < FRONT)
         put_short(dump);
     else if (dump->refusal != LAMPREYCOIL_START_WRONG)

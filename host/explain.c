@@ -7,6 +7,9 @@
 #include "lampreycoil.h"
 #include "names.h"
 
+/* A part's size that is this byte goes on in four more. */
+enum { LONG_SIZE = 255 };
+
 static void say(char *reason, const char *format, ...)
 {
     va_list values;
@@ -43,36 +46,52 @@ static void explain_short(const uint8_t *bytes, size_t length, const struct spli
             may_begin(bytes, length) ? "" : wrong);
 }
 
-static void explain_part(const struct split *split, char *reason)
-{
-    const char *end = "the body ends";
+/* ---- what stands at the byte that the library tells */
 
-    if (split->end == SPLIT_SIZE_PAST)
-        say(reason, "part %zu, at byte %zu, has a 4-byte size, and %s at byte %zu", split->count,
-            split->end_at, end, split->limit);
-    else if (split->end == SPLIT_SIZE_SMALL)
-        say(reason, "part %zu, at byte %zu, has the 4-byte size %lu", split->count, split->end_at,
-            (unsigned long)split->asked);
-    else if (split->end == SPLIT_DATA_PAST)
-        say(reason, "part %zu, at byte %zu, has the size %lu, and %s at byte %zu", split->count,
-            split->end_at, (unsigned long)split->asked, end, split->limit);
+/* The size that begins at a byte; how many bytes it takes itself goes to *size. */
+static uint32_t size_at(const uint8_t *at, size_t *size)
+{
+    *size = *at == LONG_SIZE ? 5 : 1;
+    return *size == 5 ? number_at(at + 1) : *at;
 }
 
-static void explain_header(const uint8_t *bytes, const struct split *split, char *reason)
+static void explain_part(const uint8_t *at, size_t left, size_t limit, char *reason)
 {
-    const uint8_t *header = bytes + split->header;
+    const char *end = "and the body ends at byte";
+    uint32_t asked;
+    size_t size;
 
-    if (split->count == 0)
+    if (*at == LONG_SIZE && left < 5) {
+        say(reason, "the part has a 4-byte size, %s %zu", end, limit);
+        return;
+    }
+    asked = size_at(at, &size);
+    if (size == 5 && asked < LONG_SIZE)
+        say(reason, "the part has the 4-byte size %lu", (unsigned long)asked);
+    else
+        say(reason, "the part has the size %lu, %s %zu", (unsigned long)asked, end, limit);
+}
+
+/* The byte is the size of the last part, if there is one. */
+static void explain_last_part(const uint8_t *at, size_t left, char *reason)
+{
+    size_t size;
+
+    if (left == 0)
         say(reason, "the body is empty");
-    else if (!split->header_last)
-        say(reason, "the last part has the length %zu, not 20",
-            split->parts[split->count - 1].length);
-    else if (header[0] != 0x8E)
-        say(reason, "the magic is %02X, not 8E", header[0]);
-    else if (header[1] != 0x01)
-        say(reason, "the version is %02X, not 01", header[1]);
-    else if (type_by_number(header[2]) == NULL)
-        say(reason, "there is no type %d", header[2]);
+    else
+        say(reason, "the last part has the length %lu, not %d", (unsigned long)size_at(at, &size),
+            HEADER);
+}
+
+static void explain_header(uint32_t refusal, uint8_t byte, char *reason)
+{
+    if (refusal == LAMPREYCOIL_MAGIC_WRONG)
+        say(reason, "the magic is %02X, not 8E", byte);
+    else if (refusal == LAMPREYCOIL_VERSION_WRONG)
+        say(reason, "the version is %02X, not 01", byte);
+    else if (refusal == LAMPREYCOIL_TYPE_WRONG)
+        say(reason, "there is no type %d", byte);
     else
         say(reason, "flag 80 is set");
 }
@@ -90,10 +109,11 @@ const char *flags_broken(uint8_t type, uint8_t flags)
     return !topic || !route ? "a request or response has the flags topic and route" : NULL;
 }
 
-static void explain_parts(const uint8_t *bytes, const struct split *split, char *reason)
+/* The byte is the header's first. */
+static void explain_parts(const uint8_t *header, const struct split *split, char *reason)
 {
-    uint8_t flags = bytes[split->header + 3];
-    const char *broken = flags_broken(bytes[split->header + 2], flags);
+    uint8_t flags = header[3];
+    const char *broken = flags_broken(header[2], flags);
     size_t asked = 1;
     size_t routes = 0;
 
@@ -142,91 +162,109 @@ size_t wrong_in_route(const uint8_t *route)
     return place;
 }
 
-/* Says what is wrong with a route, if anything is. */
-static int explain_route(const uint8_t *bytes, size_t index, const struct part *part, char *reason)
+/* The byte is a route's first: the one with this index. */
+static void explain_route(const uint8_t *route, size_t index, size_t length, char *reason)
 {
     size_t place;
 
-    if (part->length != LAMPREYCOIL_ROUTE_SIZE) {
-        say(reason, "route %zu, from byte %zu, has the length %zu, not 37", index, part->start,
-            part->length);
-        return 1;
-    }
-    if ((place = wrong_in_route(bytes + part->start)) == part->length)
-        return 0;
-    say(reason, "route %zu, from byte %zu, has %02X at byte %zu, not %s", index, part->start,
-        bytes[part->start + place], part->start + place, route_place(place));
-    return 1;
+    if (index == LAMPREYCOIL_ROUTES_MAX)
+        say(reason, "route %zu, counted from 0, is one more than the %d that may be", index,
+            LAMPREYCOIL_ROUTES_MAX);
+    else if (length != LAMPREYCOIL_ROUTE_SIZE)
+        say(reason, "route %zu has the length %zu, not %d", index, length, LAMPREYCOIL_ROUTE_SIZE);
+    else if ((place = wrong_in_route(route)) < length)
+        say(reason, "route %zu has %02X as its byte %zu, not %s", index, route[place], place,
+            route_place(place));
 }
 
-static void explain_routes(const uint8_t *bytes, const struct split *split, char *reason)
+/* The byte is the topic's first, or would be. */
+static void explain_topic(const uint8_t *topic, size_t length, char *reason)
 {
-    size_t routes = 0;
+    const uint8_t *zero = length == 0 ? NULL : memchr(topic, 0, length);
 
-    while (routes < split->count && split->parts[routes].role == ROLE_ROUTE)
-        routes++;
-    for (size_t i = 0; i < routes; i++) {
-        if (explain_route(bytes, i, &split->parts[i], reason))
-            return;
-    }
-    say(reason, "there are %zu routes, and 64 may be", routes);
-}
-
-static void explain_topic(const uint8_t *bytes, const struct split *split, char *reason)
-{
-    const struct part *topic = split->parts;
-
-    while (topic < split->parts + split->count && topic->role != ROLE_TOPIC)
-        topic++;
-    if (topic == split->parts + split->count)
-        return;
-    const uint8_t *at = bytes + topic->start;
-    const uint8_t *zero = topic->length == 0 ? NULL : memchr(at, 0, topic->length);
-    if (topic->length == 0 || zero == at)
-        say(reason, "the topic, from byte %zu, is empty", topic->start);
+    if (length == 0 || zero == topic)
+        say(reason, "the topic is empty");
     else if (zero == NULL)
-        say(reason, "the topic, from byte %zu, does not end with a zero byte", topic->start);
-    else if (zero != at + topic->length - 1)
-        say(reason, "the topic, from byte %zu, has a zero byte in it, at byte %zu", topic->start,
-            (size_t)(zero - bytes));
+        say(reason, "the topic does not end with a zero byte");
+    else if (zero != topic + length - 1)
+        say(reason, "the topic has a zero byte in it, as its byte %zu", (size_t)(zero - topic));
     else
-        say(reason, "the topic, from byte %zu, has the length %zu, and 255 may be", topic->start,
-            topic->length - 1);
+        say(reason, "the topic has the length %zu, and %d may be", length - 1,
+            LAMPREYCOIL_TOPIC_MAX);
 }
 
-static void explain_field(const uint8_t *bytes, const struct split *split, char *reason)
+/* The byte is a field's first. The field of an event is the header's last. */
+static void explain_field(const uint8_t *field, size_t left, char *reason)
 {
-    if (bytes[split->header + 2] == LAMPREYCOIL_EVENT)
-        say(reason, "the event's unused field is %lu",
-            (unsigned long)number_at(bytes + split->header + 16));
-    else
-        say(reason, "the request's nodeid is 4294967294");
+    say(reason, "the %s is %lu", left == 4 ? "event's unused field" : "request's nodeid",
+        (unsigned long)number_at(field));
 }
 
-void explain(uint32_t refusal, const uint8_t *bytes, size_t length, const struct split *split,
-             char reason[REASON_ROOM])
+/* Of a route or a topic: the part whose data begin at the byte. */
+static void explain_data(uint32_t refusal, const uint8_t *bytes, size_t byte,
+                         const struct split *split, char *reason)
 {
-    reason[0] = '\0';
-    if (refusal == LAMPREYCOIL_INPUT_SHORT)
-        explain_short(bytes, length, split, reason);
-    else if (refusal == LAMPREYCOIL_START_WRONG)
-        say(reason, "%02X %02X %02X %02X in place of FF EE 00 12", bytes[0], bytes[1], bytes[2],
-            bytes[3]);
-    else if (refusal == LAMPREYCOIL_BODY_LONG)
-        say(reason, "the body length is %lu", (unsigned long)split->body);
-    else if (refusal == LAMPREYCOIL_PART_WRONG)
-        explain_part(split, reason);
+    size_t index = 0;
+
+    while (index < split->count && split->parts[index].start != byte)
+        index++;
+    if (index == split->count)
+        return;
+    if (refusal == LAMPREYCOIL_ROUTE_WRONG)
+        explain_route(bytes + byte, index, split->parts[index].length, reason);
+    else
+        explain_topic(bytes + byte, split->parts[index].length, reason);
+}
+
+/* Of a refusal that has a byte. The whole frame is there. */
+static void explain_byte(uint32_t refusal, const uint8_t *bytes, size_t byte,
+                         const struct split *split, char *reason)
+{
+    size_t left = split->limit - byte;
+
+    if (refusal == LAMPREYCOIL_PART_WRONG)
+        explain_part(bytes + byte, left, split->limit, reason);
     else if (refusal == LAMPREYCOIL_PARTS_MANY)
-        say(reason, "68 parts end at byte %zu, and the body at byte %zu", split->end_at,
-            split->limit);
+        say(reason, "a 69th part, and 68 may be");
     else if (refusal == LAMPREYCOIL_HEADER_WRONG)
-        explain_header(bytes, split, reason);
-    else if (split->header_last && refusal == LAMPREYCOIL_PARTS_DISAGREE)
-        explain_parts(bytes, split, reason);
-    else if (split->header_last && refusal == LAMPREYCOIL_ROUTE_WRONG)
-        explain_routes(bytes, split, reason);
-    else if (split->header_last && refusal == LAMPREYCOIL_TOPIC_WRONG)
-        explain_topic(bytes, split, reason);
-    else if (split->header_last && refusal == LAMPREYCOIL_FIELD_WRONG)
-        explain_field(bytes, split, reason);
+        explain_last_part(bytes + byte, left, reason);
+    else if (refusal == LAMPREYCOIL_PARTS_DISAGREE)
+        explain_parts(bytes + byte, split, reason);
+    else if (refusal == LAMPREYCOIL_ROUTE_WRONG || refusal == LAMPREYCOIL_TOPIC_WRONG)
+        explain_data(refusal, bytes, byte, split, reason);
+    else if (refusal == LAMPREYCOIL_FIELD_WRONG)
+        explain_field(bytes + byte, left, reason);
+    else
+        explain_header(refusal, bytes[byte], reason);
+}
+
+uint32_t explain(const uint8_t *bytes, size_t length, struct split *split, struct fault *fault)
+{
+    uint8_t record[LAMPREYCOIL_FAULT_RECORD];
+    uint32_t refusal = lampreycoil_read_fault(bytes, length, record, sizeof record);
+
+    fault->byte = lampreycoil_number(record, LAMPREYCOIL_FAULT_BYTE);
+    fault->reason[0] = '\0';
+    if (length >= FRONT)
+        split_frame(bytes, length, split);
+    if (refusal == LAMPREYCOIL_INPUT_SHORT)
+        explain_short(bytes, length, split, fault->reason);
+    else if (refusal == LAMPREYCOIL_START_WRONG)
+        say(fault->reason, "%02X %02X %02X %02X in place of FF EE 00 12", bytes[0], bytes[1],
+            bytes[2], bytes[3]);
+    else if (refusal == LAMPREYCOIL_BODY_LONG)
+        say(fault->reason, "the body length is %lu", (unsigned long)split->body);
+    else if (has_byte(fault))
+        explain_byte(refusal, bytes, fault->byte, split, fault->reason);
+    if (has_byte(fault))
+        snprintf(fault->told, sizeof fault->told, "at byte %lu: %s", (unsigned long)fault->byte,
+                 fault->reason);
+    else
+        snprintf(fault->told, sizeof fault->told, "%s", fault->reason);
+    return refusal;
+}
+
+int has_byte(const struct fault *fault)
+{
+    return fault->byte != 0;
 }

@@ -1,4 +1,7 @@
-/* Why the library refused a frame, more closely than the number's words: where, and by what. */
+/*
+ * Why the library refuses a frame, more closely than the number's words. Where it is wrong the
+ * library says; here stands only what can be read there.
+ */
 #ifndef HOST_EXPLAIN_H
 #define HOST_EXPLAIN_H
 
@@ -7,14 +10,23 @@
 
 #include "split.h"
 
-enum { REASON_ROOM = 200 };
+/* Room for a reason, and for one with its byte in front. */
+enum { REASON_ROOM = 200, TOLD_ROOM = REASON_ROOM + 24 };
+
+struct fault {
+    uint32_t byte;            /* counted from the frame's front; 0 where there is none */
+    char reason[REASON_ROOM]; /* what stands there, or is missing: one line of ASCII */
+    char told[TOLD_ROOM];     /* the same, behind the byte */
+};
 
 /*
- * Puts the reason for the refusal, one line of ASCII, into reason; an empty one where there is no
- * more to say. split is the frame's; it is not looked at for fewer than FRONT bytes.
+ * Asks the library why it refuses a frame and at which byte, and returns the number. The frame's
+ * parts go to split, which is left alone where there are fewer than FRONT bytes.
  */
-void explain(uint32_t refusal, const uint8_t *bytes, size_t length, const struct split *split,
-             char reason[REASON_ROOM]);
+uint32_t explain(const uint8_t *bytes, size_t length, struct split *split, struct fault *fault);
+
+/* Whether the library tells a byte: not of 1, 2 and 3. */
+int has_byte(const struct fault *fault);
 
 /* What the flags topic, payload and route have against a type; NULL where they agree with it. */
 const char *flags_broken(uint8_t type, uint8_t flags);

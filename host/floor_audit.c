@@ -83,14 +83,10 @@ static int load_audited(struct floor *floor, const struct audit_words *asked)
 static void judge_refused(struct audit *audit, const struct frame *frame)
 {
     static struct split split;
-    uint8_t record[LAMPREYCOIL_READ_RECORD];
-    char reason[REASON_ROOM];
-    struct told told = {.number = frame->number, .start = frame->start, .reason = reason};
+    struct fault fault;
+    struct told told = {.number = frame->number, .start = frame->start, .fault = &fault};
 
-    told.refusal = lampreycoil_read(frame->bytes, frame->length, record, sizeof record);
-    if (frame->length >= FRONT)
-        split_frame(frame->bytes, frame->length, &split);
-    explain(told.refusal, frame->bytes, frame->length, &split, reason);
+    told.refusal = explain(frame->bytes, frame->length, &split, &fault);
     find(audit, REFUSED_FRAME, &told);
 }
 

@@ -3,6 +3,7 @@
 #define HOST_FLOOR_AUDIT_H
 
 #include "capture.h"
+#include "explain.h"
 #include "floor.h"
 #include "floor_book.h"
 
@@ -27,7 +28,7 @@ struct told {
     const struct booked *request;              /* the request of a response; NULL: none */
     uint32_t due;                              /* the error that was due; 0: none */
     uint32_t refusal;                          /* of a frame or a walk */
-    const char *reason;                        /* why a frame was refused, more closely */
+    const struct fault *fault;                 /* why a frame was refused; NULL: it was not */
 };
 
 /* A service that was asked for and that nobody registers. */

@@ -68,9 +68,10 @@ static void print_reason(enum finding kind, const struct told *told)
                                            : "the stream of its request has ended");
         break;
     default:
-        printf("refused, %lu: %s%s%s%s", (unsigned long)told->refusal,
-               lampreycoil_refusal_words(told->refusal), *told->reason == '\0' ? "" : " (",
-               told->reason, *told->reason == '\0' ? "" : ")");
+        printf("refused, %lu: %s", (unsigned long)told->refusal,
+               lampreycoil_refusal_words(told->refusal));
+        if (told->fault != NULL)
+            printf(" (%s)", told->fault->told);
     }
 }
 
@@ -100,6 +101,7 @@ static void put_finding(enum finding kind, const struct told *told)
 {
     const struct lampreycoil_message *message = told->message;
     int is_response = message != NULL && message->type == LAMPREYCOIL_RESPONSE;
+    int has_fault = told->fault != NULL && has_byte(told->fault);
 
     json_open('{');
     json_name("finding");
@@ -117,6 +119,7 @@ static void put_finding(enum finding kind, const struct told *told)
     put_number_or_null("request_frame", told->request != NULL,
                        told->request == NULL ? 0 : told->request->number);
     put_number_or_null("refusal", told->refusal != LAMPREYCOIL_OK, told->refusal);
+    put_number_or_null("fault_byte", has_fault, has_fault ? told->fault->byte : 0);
     json_close('}');
     json_end();
 }

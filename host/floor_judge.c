@@ -197,7 +197,6 @@ int judge_frame(struct audit *audit, const struct frame *frame)
     heard.told.number = frame->number;
     heard.told.start = frame->start;
     heard.told.message = message;
-    heard.told.reason = "";
     if (refusal != LAMPREYCOIL_OK)
         return trouble("the library lists frame %llu, and refuses it with %lu", frame->number,
                        (unsigned long)refusal);

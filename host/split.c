@@ -22,46 +22,26 @@ static int split_part(const uint8_t *bytes, size_t *at, struct split *split)
 {
     size_t left = split->limit - *at;
     size_t size = bytes[*at] == 255 ? 5 : 1;
+    size_t length;
 
-    split->end_at = *at;
-    if (left < size) {
-        split->end = SPLIT_SIZE_PAST;
+    if (split->count == PARTS_MAX || left < size)
         return 0;
-    }
-    split->asked = size == 1 ? bytes[*at] : number_at(bytes + *at + 1);
-    if (size == 5 && split->asked < 255) {
-        split->end = SPLIT_SIZE_SMALL;
+    length = size == 1 ? bytes[*at] : number_at(bytes + *at + 1);
+    if ((size == 5 && length < 255) || left - size < length)
         return 0;
-    }
-    if (left - size < split->asked) {
-        split->end = SPLIT_DATA_PAST;
-        return 0;
-    }
     split->parts[split->count].start = *at + size;
-    split->parts[split->count].length = split->asked;
+    split->parts[split->count].length = length;
     split->count++;
-    *at += size + split->asked;
+    *at += size + length;
     return 1;
 }
 
 static void split_parts(const uint8_t *bytes, struct split *split)
 {
-    size_t at = FRONT;
-
-    split->end = SPLIT_WHOLE;
-    while (at < split->limit) {
-        if (split->count == PARTS_MAX) {
-            split->end = SPLIT_MANY;
-            split->end_at = at;
-            return;
-        }
-        if (!split_part(bytes, &at, split))
-            return;
-    }
-    if (at - FRONT < split->body) {
-        split->end = SPLIT_TORN;
-        split->end_at = at;
-    }
+    split->end_at = FRONT;
+    while (split->end_at < split->limit && split_part(bytes, &split->end_at, split))
+        continue;
+    split->whole = split->end_at - FRONT == split->body;
 }
 
 /*
@@ -75,7 +55,7 @@ static void find_header(const uint8_t *bytes, struct split *split)
 
     if (end - FRONT != split->body)
         return;
-    if (split->end == SPLIT_WHOLE) {
+    if (split->whole) {
         if (split->count > 0 && split->parts[split->count - 1].length == HEADER) {
             split->header = end - HEADER;
             split->header_last = 1;

@@ -27,24 +27,13 @@ struct part {
     enum part_role role;
 };
 
-/* Where the split ended. */
-enum split_end {
-    SPLIT_WHOLE,      /* at the body's end, exactly */
-    SPLIT_TORN,       /* behind a part, at the input's end, and the body goes on */
-    SPLIT_SIZE_PAST,  /* at a part whose size passes the end */
-    SPLIT_DATA_PAST,  /* at a part whose data passes the end */
-    SPLIT_SIZE_SMALL, /* at a 4-byte size below 255 */
-    SPLIT_MANY        /* behind as many parts as there can be */
-};
-
 struct split {
     uint32_t body; /* the body's length, as the front has it */
     size_t limit;  /* where the body ends, or the input if it ends before */
     struct part parts[PARTS_MAX];
     size_t count;
-    enum split_end end;
-    size_t end_at;   /* where the part begins, with its size, at which the split ended */
-    uint32_t asked;  /* the size that this part gives itself */
+    int whole;       /* they end where the body does */
+    size_t end_at;   /* behind them; where they are not whole, no part can be split off there */
     size_t header;   /* where the header's bytes begin; 0 where none was found */
     int header_last; /* it is the last part; otherwise it only stands at the body's end */
 };

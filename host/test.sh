@@ -129,11 +129,15 @@ n2='first four bytes wrong'
 n3='body above 32,768'
 n4="a part's size or data passes the body's end, or a 4-byte size below 255"
 n5='a 69th part begins'
-n6='no part at all; last part not 20 bytes; its magic, version, type or flag 80 wrong'
+n6='no part at all, or last part not 20 bytes'
 n7='parts disagree with type or flags'
 n8='a route not well-formed, or more than 64'
 n9='topic not well-formed'
 n10="request nodeid 4294967294; event's unused field not zero"
+n20="the header's magic, its first byte, not 8E"
+n21="the header's version, its second byte, not 1"
+n22='type none of the four'
+n23='flag 80 set'
 
 # What dump tells of a byte at which a payload is not JSON.
 stands='cannot stand there'
@@ -264,7 +268,11 @@ dump_refuses 'a body of 32,769 is 3' 3 "$n3" "$start 00 00 80 01"
 dump_refuses 'a part past the body is 4' 4 "$n4" "$start 00 00 00 01 01 00 00"
 dump_refuses 'a 69th part is 5' 5 "$n5" "$start 00 00 00 45 $parts68 00"
 dump_refuses 'no part is 6' 6 "$n6" "$start 00 00 00 00"
-dump_refuses 'a wrong magic is 6' 6 "$n6" "$start 00 00 00 15 14 8F 01 08 00 $fields"
+dump_refuses 'a header of 19 bytes is 6' 6 "$n6" "$start 00 00 00 14 13 8E 01 08 00 ${fields% 03}"
+dump_refuses 'a wrong magic is 20' 20 "$n20" "$start 00 00 00 15 14 8F 01 08 00 $fields"
+dump_refuses 'a wrong version is 21' 21 "$n21" "$start 00 00 00 15 14 8E 02 08 00 $fields"
+dump_refuses 'type 3 is 22' 22 "$n22" "$start 00 00 00 15 14 8E 01 03 00 $fields"
+dump_refuses 'flag 80 is 23' 23 "$n23" "$start 00 00 00 15 14 8E 01 08 80 $fields"
 dump_refuses 'a control with a topic flag is 7' 7 "$n7" "$start 00 00 00 15 14 8E 01 08 01 $fields"
 dump_refuses 'a route of one byte is 8' 8 "$n8" "$start 00 00 00 1B 01 41 00 02 41 00 14 8E 01 01 09 $fields"
 dump_refuses 'a topic without its zero is 9' 9 "$n9" "$start 00 00 00 17 01 41 14 8E 01 04 01 $fields"
@@ -373,6 +381,7 @@ mkdir "$room/examples" && examples docs/C-GUIDE.md "$room/examples" || exit 2
 
 # ---- the list of a stream, the check of JSON, the step, the examples of docs/C-GUIDE.md, the walk, and the stack
 
+program read_fault
 program read_stream
 program check_json
 program step

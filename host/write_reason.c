@@ -4,7 +4,6 @@
 #include <string.h>
 
 #include "lampreycoil.h"
-#include "names.h"
 
 /* The option that gave a part which no message of the type has; NULL where none did. */
 static const char *needless_part(const struct write_options *options, uint8_t flags)
@@ -91,9 +90,9 @@ void explain_write(uint32_t refusal, const struct write_options *options, uint8_
         options->type == LAMPREYCOIL_EVENT ? &options->second : &options->first;
 
     reason[0] = '\0';
-    if (refusal == LAMPREYCOIL_HEADER_WRONG && type_by_number(options->type) == NULL)
+    if (refusal == LAMPREYCOIL_TYPE_WRONG)
         snprintf(reason, REASON_ROOM, "there is no type %d", options->type);
-    else if (refusal == LAMPREYCOIL_HEADER_WRONG)
+    else if (refusal == LAMPREYCOIL_FLAG_WRONG)
         snprintf(reason, REASON_ROOM, "--flags %02X: flag 80 is set", flags);
     else if (refusal == LAMPREYCOIL_PARTS_DISAGREE)
         explain_parts(options, flags, reason);

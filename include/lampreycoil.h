@@ -1,7 +1,8 @@
 /*
  * lampreycoil.h: the C calls of Lampreycoil, which reads and writes framed Flux messages (RFC 3),
- * lists the frames of a stream, says whether a payload is JSON, checks the tables of the brokers
- * that pass them on, makes one broker's step, and plays a whole walk.
+ * tells where a refused one is wrong, lists the frames of a stream, says whether a payload is JSON,
+ * checks the tables of the brokers that pass them on, makes one broker's step, and plays a whole
+ * walk.
  * The functions are in the archive liblampreycoil.a. Usable from C99 and from C++. Files that are
  * named below are in the sources; an install has FORMAT.md and C-GUIDE.md, which has examples, in
  * share/doc/lampreycoil.
@@ -23,8 +24,8 @@
  * - A call's results are a record: a row of 4-byte big-endian numbers, which it writes to the
  *   front of a slice lent for it. lampreycoil_number() reads one of them. A record slice that is
  *   too short is refused with 11 before anything else. A longer one keeps its tail as it was.
- * - A refusal writes nothing, to any slice. Two calls differ, lampreycoil_walk and, for refusal 26,
- *   lampreycoil_check_json: see there.
+ * - A refusal writes nothing, to any slice. Three calls differ, lampreycoil_walk,
+ *   lampreycoil_read_fault and, for refusal 26, lampreycoil_check_json: see there.
  * - Nothing is allocated. A call takes less than LAMPREYCOIL_STACK_MAX bytes of stack, whatever it
  *   is given, and lampreycoil_check_json less than 4,096 (it took 2,231 at 32 levels). This is
  *   measured (host/test.sh) and not proved. What the dynamic linker takes is not in it: a program
@@ -111,7 +112,7 @@ enum lampreycoil_refusal {
     LAMPREYCOIL_PART_WRONG = 4,
     /* a 69th part begins */
     LAMPREYCOIL_PARTS_MANY = 5,
-    /* no part at all; last part not 20 bytes; its magic, version, type or flag 80 wrong */
+    /* no part at all, or last part not 20 bytes */
     LAMPREYCOIL_HEADER_WRONG = 6,
     /* parts disagree with type or flags */
     LAMPREYCOIL_PARTS_DISAGREE = 7,
@@ -137,6 +138,14 @@ enum lampreycoil_refusal {
     LAMPREYCOIL_NOT_ROUTED = 18,
     /* a response's top route is a broker that is no neighbour, itself included */
     LAMPREYCOIL_NO_NEIGHBOUR = 19,
+    /* the header's magic, its first byte, not 8E */
+    LAMPREYCOIL_MAGIC_WRONG = 20,
+    /* the header's version, its second byte, not 1 */
+    LAMPREYCOIL_VERSION_WRONG = 21,
+    /* type none of the four */
+    LAMPREYCOIL_TYPE_WRONG = 22,
+    /* flag 80 set */
+    LAMPREYCOIL_FLAG_WRONG = 23,
     /* a payload whose values nest deeper than 32 */
     LAMPREYCOIL_JSON_DEEP = 26
 };
@@ -202,6 +211,7 @@ enum lampreycoil_size {
 /* Sizes of the records that the calls fill, in bytes: 4 for each number. None is an index. */
 enum lampreycoil_record_size {
     LAMPREYCOIL_READ_RECORD = 52,
+    LAMPREYCOIL_FAULT_RECORD = 8,
     LAMPREYCOIL_WRITE_RECORD = 4,
     LAMPREYCOIL_STREAM_RECORD = 12,
     LAMPREYCOIL_JSON_RECORD = 8,
@@ -232,6 +242,12 @@ enum lampreycoil_read_index {
     LAMPREYCOIL_READ_TOPIC_LENGTH = 10, /* without the zero byte */
     LAMPREYCOIL_READ_PAYLOAD_START = 11,
     LAMPREYCOIL_READ_PAYLOAD_LENGTH = 12
+};
+
+/* The numbers of lampreycoil_read_fault's record, by index. */
+enum lampreycoil_fault_index {
+    LAMPREYCOIL_FAULT_NUMBER = 0, /* what the call returned: enum lampreycoil_refusal, or 0 */
+    LAMPREYCOIL_FAULT_BYTE = 1    /* from the frame's front; 0 with 0, 1, 2 and 3, and never else */
 };
 
 #define LAMPREYCOIL_NO_PARENT 0xFFFFFFFFu /* what rank 0 holds in a tree */
@@ -306,11 +322,38 @@ enum lampreycoil_walk_index {
  * LAMPREYCOIL_READ_RECORD bytes. Copies no part, and changes nothing but the record.
  *
  * Refusals, in the order in which they are looked for: 11 for the record; 1 for the 8 bytes; 2; 3;
- * 1 for the body; 4 and 5 as the parts come; then 6 to 10.
+ * 1 for the body; 4 and 5 as the parts come; 6; 20 to 23; then 7 to 10. lampreycoil_read_fault says
+ * at which byte a refused frame is wrong.
  */
 LAMPREYCOIL_CHECKED
 uint32_t lampreycoil_read(const uint8_t *bytes, size_t bytes_length, uint8_t *record,
                           size_t record_length);
+
+/*
+ * Tells what is wrong with the frame at the front of bytes, and at which byte: for a person who has
+ * to find the fault, after a read that was refused. Number and byte go to record, which takes
+ * LAMPREYCOIL_FAULT_RECORD bytes; the byte counts from the frame's front.
+ *
+ * The call returns what lampreycoil_read returns for these bytes, and its record has that number
+ * again. It is written whatever the number is: this refusal writes. Of a good frame number and byte
+ * are 0. Only where the record is too short is nothing written; that is 11, before anything else.
+ *
+ *   number      the byte
+ *   1, 2, 3     none: 0
+ *   4, 5        the size byte of that part, the first of five where its size is long
+ *   6           the last part's size byte, or 8 where there is no part
+ *   7           where the header's data start
+ *   8           where the data of the first malformed route start; if none of the first 64 is
+ *               malformed, those of the 65th
+ *   9           where the topic's data start, or would if it is empty
+ *   10          where the field starts
+ *   20 to 23    that byte of the header
+ *
+ * The byte is 8 or more and lies within the frame, but for the 8 of a frame that ends there.
+ */
+LAMPREYCOIL_CHECKED
+uint32_t lampreycoil_read_fault(const uint8_t *bytes, size_t bytes_length, uint8_t *record,
+                                size_t record_length);
 
 /*
  * Lists the frames of a stream: bytes that hold one frame behind another and end, as reads from a
@@ -330,7 +373,8 @@ uint32_t lampreycoil_read(const uint8_t *bytes, size_t bytes_length, uint8_t *re
  * - 11 where list has no room for an entry more and the next frame is good: go on from there with
  *   another call. A bad frame stops it with its own refusal, whether there is room or not.
  * - Any other refusal of lampreycoil_read is that frame's. After 2 and 3 nothing tells where the
- *   next one starts; after 4 to 10 only this frame's own front does (lampreycoil_frame_length).
+ *   next one starts; after the others only this frame's own front does
+ *   (lampreycoil_frame_length).
  *
  * Bytes past the first LAMPREYCOIL_STREAM_MAX count as absent: a frame that crosses that place is 1
  * (or 2 or 3, if its front is in sight and wrong), though the rest of it is there. So where
@@ -394,9 +438,9 @@ uint32_t lampreycoil_check_json(const uint8_t *payload, size_t payload_length, u
  * stands for: no routes (LAMPREYCOIL_ROUTE), an empty payload (LAMPREYCOIL_PAYLOAD), an empty
  * topic, which is refused with 9 (LAMPREYCOIL_TOPIC).
  *
- * Refusals, in the order in which they are looked for: 11 for the record; 6 (type and flag 80
- * only); 7, also for a part given without its flag; 8, also for routes that are not a multiple of
- * 37 bytes; 9; 10; 3; 11 for out.
+ * Refusals, in the order in which they are looked for: 11 for the record; 22; 23; 7, also for a
+ * part given without its flag; 8, also for routes that are not a multiple of 37 bytes; 9; 10; 3;
+ * 11 for out.
  */
 LAMPREYCOIL_CHECKED
 uint32_t lampreycoil_write(uint8_t type, uint8_t flags, uint32_t userid, uint32_t rolemask,
@@ -710,7 +754,7 @@ static inline const char *lampreycoil_refusal_words(uint32_t refusal)
     case LAMPREYCOIL_PARTS_MANY:
         return "a 69th part begins";
     case LAMPREYCOIL_HEADER_WRONG:
-        return "no part at all; last part not 20 bytes; its magic, version, type or flag 80 wrong";
+        return "no part at all, or last part not 20 bytes";
     case LAMPREYCOIL_PARTS_DISAGREE:
         return "parts disagree with type or flags";
     case LAMPREYCOIL_ROUTE_WRONG:
@@ -735,6 +779,14 @@ static inline const char *lampreycoil_refusal_words(uint32_t refusal)
         return "step or walk given an event or control";
     case LAMPREYCOIL_NO_NEIGHBOUR:
         return "a response's top route is a broker that is no neighbour, itself included";
+    case LAMPREYCOIL_MAGIC_WRONG:
+        return "the header's magic, its first byte, not 8E";
+    case LAMPREYCOIL_VERSION_WRONG:
+        return "the header's version, its second byte, not 1";
+    case LAMPREYCOIL_TYPE_WRONG:
+        return "type none of the four";
+    case LAMPREYCOIL_FLAG_WRONG:
+        return "flag 80 set";
     case LAMPREYCOIL_JSON_DEEP:
         return "a payload whose values nest deeper than 32";
     default:

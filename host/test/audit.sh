@@ -107,7 +107,7 @@ audits 'the blank reply' 4 'frame 1, from byte 79: blank reply: error 38 ENOSYS 
 verdict '1 finding'
 counts findings 1
 counts '  blank reply' 1
-audit_object 1 '{"finding":"blank_reply","frame":1,"byte":79,"topic":"bench.run","matchtag":9,"due":38,"due_name":"ENOSYS","errnum":0,"errnum_name":null,"request_frame":0,"refusal":null}'
+audit_object 1 '{"finding":"blank_reply","frame":1,"byte":79,"topic":"bench.run","matchtag":9,"due":38,"due_name":"ENOSYS","errnum":0,"errnum_name":null,"request_frame":0,"refusal":null,"fault_byte":null}'
 audit_object 2 '{"status":4,"findings":1,"frames":2,"requests":1,"delivered":0,"error_38":1,"error_113":0,"silenced":0,"open_streams":0,"responses":1,"events":0,"controls":0,"by_kind":{"blank_reply":1,"wrong_error":0,"no_error_reply":0,"second_reply":0,"reply_to_noresponse":0,"never_answered":0,"response_to_nobody":0,"refused_frame":0,"refused_walk":0},"unregistered":[],"other_unregistered":0}'
 new && asks --topic bench.run --streaming && answers --topic bench.run && answers --topic bench.run --errnum 38
 audits 'a blank reply to a streaming request' 4 'frame 1, from byte 79: blank reply: error 38 ENOSYS was due, and the reply says errnum 0; "bench.run", matchtag 9; the request is frame 0, from byte 0'
@@ -115,7 +115,7 @@ new && asks --topic bench.run && answers --topic bench.run --errnum 113
 audits 'the wrong error' 4 'frame 1, from byte 79: wrong error: error 38 ENOSYS was due, and the reply says errnum 113 EHOSTUNREACH; "bench.run", matchtag 9; the request is frame 0, from byte 0'
 new && asks --topic bench.run
 audits 'an error was due, and nobody replied' 4 'frame 0, from byte 0: no error reply: error 38 ENOSYS was due, and no reply came; "bench.run", matchtag 9'
-audit_object 1 '{"finding":"no_error_reply","frame":0,"byte":0,"topic":"bench.run","matchtag":9,"due":38,"due_name":"ENOSYS","errnum":null,"errnum_name":null,"request_frame":0,"refusal":null}'
+audit_object 1 '{"finding":"no_error_reply","frame":0,"byte":0,"topic":"bench.run","matchtag":9,"due":38,"due_name":"ENOSYS","errnum":null,"errnum_name":null,"request_frame":0,"refusal":null,"fault_byte":null}'
 new && asks --topic log && answers --topic log && answers --topic log
 audits 'a second reply' 4 'frame 2, from byte 146: second reply: its request has a reply already; "log", matchtag 9; the request is frame 0, from byte 0'
 for topic in log bench; do
@@ -129,8 +129,8 @@ audits 'a response to nobody' 4 'frame 0, from byte 0: response to nobody: no re
 new && asks --topic log --streaming && answers --topic log --errnum 61 && answers --topic log
 audits 'a response behind the end of a stream' 4 'frame 2, from byte 146: response to nobody: the stream of its request has ended; "log", matchtag 9; the request is frame 0, from byte 0'
 new && asks --topic log && unhex "$start 00 00 00 01 01" >>"$room/capture" && answers --topic log
-audits 'a refused frame is passed by' 4 "frame 1, from byte 73: refused frame: refused, 4: $n4 (part 0, at byte 8, has the size 1, and the body ends at byte 9)"
-audit_object 1 '{"finding":"refused_frame","frame":1,"byte":73,"topic":null,"matchtag":null,"due":null,"due_name":null,"errnum":null,"errnum_name":null,"request_frame":null,"refusal":4}'
+audits 'a refused frame is passed by' 4 "frame 1, from byte 73: refused frame: refused, 4: $n4 (at byte 8: the part has the size 1, and the body ends at byte 9)"
+audit_object 1 '{"finding":"refused_frame","frame":1,"byte":73,"topic":null,"matchtag":null,"due":null,"due_name":null,"errnum":null,"errnum_name":null,"request_frame":null,"refusal":4,"fault_byte":8}'
 new && asks --topic log && answers --topic log && printf hi >>"$room/capture"
 audits 'bytes that are no frame' 4 "frame 2, from byte 146: refused frame: refused, 1: $n1 (2 of the 8 bytes that tell a frame's length are there; missing: 6; no frame begins with these)"
 new && asks --topic log && answers --topic log && unhex "${control% 03}" >>"$room/capture"

@@ -25,7 +25,7 @@ torn() { # BYTES
 
 # What is told of the frame in the file nine, behind which a frame would begin at this byte.
 nine() { # BYTE
-    echo "is refused, 9: $n9 (the topic, from byte 9, does not end with a zero byte); by its front the next one would begin at byte $1"
+    echo "is refused, 9: $n9 (at byte 9: the topic does not end with a zero byte); by its front the next one would begin at byte $1"
 }
 junk="is refused, 2: $n2 (77 68 61 74 in place of FF EE 00 12)"
 
@@ -82,7 +82,7 @@ refused       1: $n1
 because       0 of the 8 bytes that tell a frame's length are there; missing: 8
 bytes         none" "$room/nothing"
 shows 'a summary of an empty file' 1 'stop          no frame: the capture is empty' --summary "$room/nothing"
-shows 'the JSON of an empty file' 1 '{"accepted":false,"input":0,"refusal":1,"words":"'"$n1"'","because":"0 of the 8 bytes that tell a frame'"'"'s length are there; missing: 8","front":"","needed":8}' --json "$room/nothing"
+shows 'the JSON of an empty file' 1 '{"accepted":false,"input":0,"refusal":1,"words":"'"$n1"'","because":"0 of the 8 bytes that tell a frame'"'"'s length are there; missing: 8","fault_byte":null,"front":"","needed":8}' --json "$room/nothing"
 stops 'a summary of a refused frame' 1 "0 frames, 0 bytes; frame 0, from byte 0, $(nine 31)" --summary "$room/nine"
 
 # ---- a torn tail
@@ -143,15 +143,15 @@ has_lines 'and which' 1 "$room/junk" -- 'frame 2       from byte 64 of the captu
 cat "$room/control" "$room/nine" "$room/log" >"$room/middle"
 stops 'a refused frame among others' 1 "1 frame, 29 bytes; frame 1, from byte 29, $(nine 60)" --summary "$room/middle"
 has_lines 'its own places count from its front' 1 "$room/middle" -- 'frame 1       from byte 29 of the capture' \
-    'input         66 bytes from there on' 'because       the topic, from byte 9, does not end with a zero byte' '  1 header    20 bytes, from byte 11'
+    'input         66 bytes from there on' 'because       the topic does not end with a zero byte' 'at byte       9, which is 1B' '  1 header    20 bytes, from byte 11'
 ! grep -q '^matchtag' "$room/out"
 report $? 'nothing behind it is shown'
 { cat "$room/control" && unhex "$start 00 00 80 01"; } >"$room/in"
 stops 'a body too long tells no next frame' 1 "1 frame, 29 bytes; frame 1, from byte 29, is refused, 3: $n3 (the body length is 32769)" "$room/in"
 { cat "$room/control" && unhex "$start 00 00 00 01 01 00 00"; } >"$room/in"
-stops 'a part past the body is the first that does' 1 "1 frame, 29 bytes; frame 1, from byte 29, is refused, 4: $n4 (part 0, at byte 8, has the size 1, and the body ends at byte 9); by its front the next one would begin at byte 38" "$room/in"
+stops 'a part past the body is the first that does' 1 "1 frame, 29 bytes; frame 1, from byte 29, is refused, 4: $n4 (at byte 8: the part has the size 1, and the body ends at byte 9); by its front the next one would begin at byte 38" "$room/in"
 { cat "$room/control" && unhex "${log/FF FF FF FF 00 00 00 01/FF FF FF FE 00 00 00 01}"; } >"$room/in"
-stops 'a field is the last' 1 "1 frame, 29 bytes; frame 1, from byte 29, is refused, 10: $n10 (the request's nodeid is 4294967294); by its front the next one would begin at byte 64" "$room/in"
+stops 'a field is the last' 1 "1 frame, 29 bytes; frame 1, from byte 29, is refused, 10: $n10 (at byte 27: the request's nodeid is 4294967294); by its front the next one would begin at byte 64" "$room/in"
 
 # ---- one of several
 
@@ -194,11 +194,11 @@ case $four_json in
 esac
 shows 'the JSON of a frame that is named' 0 "$(placed_json 2 64 "$room/response")" --json --frame 2 "$room/four"
 shows 'the JSON of a torn tail' 1 "$(placed_json 0 0 "$room/control")
-"'{"accepted":false,"number":1,"start":29,"input":3,"refusal":1,"words":"'"$n1"'","because":"3 of the 8 bytes that tell a frame'"'"'s length are there; missing: 5","front":"FFEE00","needed":8}
+"'{"accepted":false,"number":1,"start":29,"input":3,"refusal":1,"words":"'"$n1"'","because":"3 of the 8 bytes that tell a frame'"'"'s length are there; missing: 5","fault_byte":null,"front":"FFEE00","needed":8}
 {"stop":"torn","frames":1,"bytes":29,"refusal":1,"shown":1,"refused":0,"next":null}' --json "$room/front"
-shows 'the JSON of a named frame that is torn' 1 '{"accepted":false,"number":1,"start":29,"input":3,"refusal":1,"words":"'"$n1"'","because":"3 of the 8 bytes that tell a frame'"'"'s length are there; missing: 5","front":"FFEE00","needed":8}' --json --frame 1 "$room/front"
+shows 'the JSON of a named frame that is torn' 1 '{"accepted":false,"number":1,"start":29,"input":3,"refusal":1,"words":"'"$n1"'","because":"3 of the 8 bytes that tell a frame'"'"'s length are there; missing: 5","fault_byte":null,"front":"FFEE00","needed":8}' --json --frame 1 "$room/front"
 shows 'the JSON of junk behind frames' 1 "$(printf '%s\n' "$four_json" | head -n 2)
-"'{"accepted":false,"number":2,"start":64,"input":16,"refusal":2,"words":"'"$n2"'","because":"77 68 61 74 in place of FF EE 00 12","front":"7768617420697320"}
+"'{"accepted":false,"number":2,"start":64,"input":16,"refusal":2,"words":"'"$n2"'","because":"77 68 61 74 in place of FF EE 00 12","fault_byte":null,"front":"7768617420697320"}
 {"stop":"refused","frames":2,"bytes":64,"refusal":2,"shown":2,"refused":1,"next":null}' --json "$room/junk"
 
 good=0

@@ -2,12 +2,9 @@
  * Tests lampreycoil_check_json: what it answers, and where; that nothing but a yes is one; and that
  * it writes its record and no more. Prints a line for each test, "passed" or "FAILED".
  */
-#include <stdio.h>
-#include <string.h>
+#include "told.h"
 
-#include "lampreycoil.h"
-
-enum { FILL = 0xA5, TAIL = 4, DEEP = LAMPREYCOIL_JSON_DEPTH_MAX, LONG = 1 << 20 };
+enum { DEEP = LAMPREYCOIL_JSON_DEPTH_MAX, LONG = 1 << 20 };
 
 /* A text with the zero byte that C puts behind it, and without. */
 #define ENDED(text) text, sizeof text
@@ -15,20 +12,6 @@ enum { FILL = 0xA5, TAIL = 4, DEEP = LAMPREYCOIL_JSON_DEPTH_MAX, LONG = 1 << 20 
 
 /* What the call told last, and some bytes behind it. */
 static uint8_t record[LAMPREYCOIL_JSON_RECORD + TAIL];
-
-static void report(int good, const char *label)
-{
-    printf("%s: %s\n", good ? "passed" : "FAILED", label);
-}
-
-static int filled(const uint8_t *at, size_t count)
-{
-    for (size_t i = 0; i < count; i++) {
-        if (at[i] != FILL)
-            return 0;
-    }
-    return 1;
-}
 
 /* The call says this of so many bytes, and only a yes is one. */
 static int tells(const uint8_t *bytes, size_t length, uint32_t want, uint32_t answer, size_t byte)

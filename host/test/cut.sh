@@ -14,7 +14,7 @@ shows 'the same on standard output' 0 hi --payload-out - --frame 2 "$room/four"
 wrong 'a named frame without a payload' 'no payload' dump --payload-out "$room/none" --frame 1 "$room/four"
 run dump --payload-out - --frame 1 "$room/middle"
 [ "$status" -eq 1 ] && [ ! -s "$room/out" ] &&
-    [ "$(cat "$room/err")" = "flux_frame: frame 1, from byte 29, is refused, 9: $n9 (the topic, from byte 9, does not end with a zero byte)" ]
+    [ "$(cat "$room/err")" = "flux_frame: frame 1, from byte 29, is refused, 9: $n9 (at byte 9: the topic does not end with a zero byte)" ]
 report $? 'no payload of a named frame that is refused'
 
 # ---- a frame, cut out

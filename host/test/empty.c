@@ -57,6 +57,10 @@ static void take_reads(uint8_t *other)
             lampreycoil_read(other, 0, record, sizeof record), LAMPREYCOIL_INPUT_SHORT);
     answers("no record of a read", lampreycoil_read(buffer, sizeof buffer, NULL, 0),
             lampreycoil_read(buffer, sizeof buffer, other, 0), LAMPREYCOIL_OUTPUT_SHORT);
+    answers("no fault of nothing", lampreycoil_read_fault(NULL, 0, record, sizeof record),
+            lampreycoil_read_fault(other, 0, record, sizeof record), LAMPREYCOIL_INPUT_SHORT);
+    answers("no record of a fault", lampreycoil_read_fault(buffer, sizeof buffer, NULL, 0),
+            lampreycoil_read_fault(buffer, sizeof buffer, other, 0), LAMPREYCOIL_OUTPUT_SHORT);
     answers("no record of a write", write_unrecorded(NULL), write_unrecorded(other),
             LAMPREYCOIL_OUTPUT_SHORT);
 }

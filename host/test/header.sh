@@ -46,12 +46,13 @@ if "${CC:-gcc}" $watched -o "$room/watched" "$room/watched.c" 2>"$room/err" && "
     program empty "${CC:-gcc}" -std=c99 $watched
     program helpers "${CC:-gcc}" -std=c99 $watched
     program helpers_words "${CC:-gcc}" -std=c99 $watched
+    program read_fault "${CC:-gcc}" -std=c99 $watched
     program read_stream "${CC:-gcc}" -std=c99 $watched
     program check_json "${CC:-gcc}" -std=c99 $watched
     program stream "${CC:-gcc}" -std=c99 $watched
     program guide "${CC:-gcc}" -std=c99 $watched
 else
-    echo 'no sanitizers here: host/test/empty.c, helpers.c, helpers_words.c, read_stream.c, check_json.c, stream.c and guide.c run without them alone'
+    echo 'no sanitizers here: host/test/empty.c, helpers.c, helpers_words.c, read_fault.c, read_stream.c, check_json.c, stream.c and guide.c run without them alone'
 fi
 
 # An answer that nobody looks at is a warning: of each call, and of what is made of the calls.
@@ -65,6 +66,7 @@ ignored() { # CALL ARGUMENTS
     report $? "an answer of $1 that is not looked at"
 }
 ignored lampreycoil_read 'b, 0, b, 0'
+ignored lampreycoil_read_fault 'b, 0, b, 0'
 ignored lampreycoil_read_stream 'b, 0, b, 0, b, 0'
 ignored lampreycoil_write '1, 0, 0, 0, 0, 0, b, 0, b, 0, b, 0, b, 0, b, 0'
 ignored lampreycoil_check_json 'b, 0, b, 0'

@@ -75,7 +75,7 @@ static int in_words(const char *(*words)(uint32_t), uint32_t first, uint32_t las
     uint32_t i, j;
 
     for (i = first; i <= last; i++) {
-        if (i == 13 || (i > 19 && i < 26)) /* no refusal has these numbers */
+        if (i == 13 || i == 24 || i == 25) /* no refusal has these numbers */
             continue;
         for (j = first; j < i; j++) {
             if (strcmp(words(i), words(j)) == 0)
@@ -89,7 +89,7 @@ static int in_words(const char *(*words)(uint32_t), uint32_t first, uint32_t las
 
 static void take_words(void)
 {
-    const char *none = lampreycoil_refusal_words(20);
+    const char *none = lampreycoil_refusal_words(24);
 
     report(in_words(lampreycoil_refusal_words, 0, 26), "each refusal has words of its own");
     report(strcmp(lampreycoil_refusal_words(13), none) == 0, "13 is no refusal");

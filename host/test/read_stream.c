@@ -128,10 +128,10 @@ static void take_refused(void)
     add(LAMPREYCOIL_CONTROL, 0, "", 0);
     add(LAMPREYCOIL_CONTROL, 0, "", 0);
     bytes[whole + LAMPREYCOIL_FRONT_SIZE + 1] = 0x8F;
-    good = lists(length, sizeof list) && stopped(FRAMES, LAMPREYCOIL_HEADER_WRONG, whole);
+    good = lists(length, sizeof list) && stopped(FRAMES, LAMPREYCOIL_MAGIC_WRONG, whole);
     report(good, "a refused frame stops it, with a good one behind");
     good = lists(length, FRAMES * LAMPREYCOIL_ENTRY_SIZE) &&
-           stopped(FRAMES, LAMPREYCOIL_HEADER_WRONG, whole);
+           stopped(FRAMES, LAMPREYCOIL_MAGIC_WRONG, whole);
     report(good, "it is told as what it is where there is no room either");
     good = 1;
     for (size_t given = whole; given <= length; given++)

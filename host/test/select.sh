@@ -142,8 +142,8 @@ report $? 'and there is no file for any of them'
 # ---- refused frames that are passed
 
 cat "$room/middle" "$room/nine" "$room/nine" "$room/log" >"$room/passes"
-because='the topic, from byte 9, does not end with a zero byte'
-nine_line() { printf 'frame %-7s    31 bytes, from byte %-9s refused   9: %s (%s)' "$1" "$2" "$n9" "$because"; } # NUMBER START
+because='the topic does not end with a zero byte'
+nine_line() { printf 'frame %-7s    31 bytes, from byte %-9s refused   9: %s (at byte 9: %s)' "$1" "$2" "$n9" "$because"; } # NUMBER START
 passed_lines="$control_line
 $(nine_line 1 29)
 frame 2          35 bytes, from byte 60        request   \"log\", nodeid any, matchtag 1, no payload
@@ -168,13 +168,13 @@ shows 'their numbers count for --frames' 1 "$(printf '%s\n' "$passed_lines" | he
 stop          1 of 1 frame shown, 1 refused and passed, 60 bytes; $behind" --skip-refused --frames 0-1 --summary "$room/passes"
 shows 'a frame behind one, by its number' 1 "$(printf '%s\n' "$passed_lines" | sed -n 2,3p)" --skip-refused --frame 2 --summary "$room/passes"
 run dump --skip-refused --frame 2 --frame-out "$room/cut" "$room/passes"
-[ "$status" -eq 1 ] && [ ! -s "$room/out" ] && cmp -s "$room/cut" "$room/log" && [ "$(cat "$room/err")" = "flux_frame: frame 1, from byte 29, is refused, 9: $n9 ($because)" ]
+[ "$status" -eq 1 ] && [ ! -s "$room/out" ] && cmp -s "$room/cut" "$room/log" && [ "$(cat "$room/err")" = "flux_frame: frame 1, from byte 29, is refused, 9: $n9 (at byte 9: $because)" ]
 report $? 'it is cut out, and what was passed is told'
 run dump --skip-refused --type control --frame-out "$room/cut" "$room/passes"
 [ "$status" -eq 1 ] && cmp -s "$room/cut" "$room/control" && [ "$(grep -c 'is refused, 9' "$room/err")" -eq 3 ]
 report $? 'and so is one that is selected'
 good=0
-for number in 4 5 6 7 8 9 10; do
+for number in 4 5 6 7 8 9 10 20 21 22 23; do
     case $number in
     4) bytes="$start 00 00 00 01 01" ;;
     5) bytes="$start 00 00 00 45 $parts68 00" ;;
@@ -183,14 +183,23 @@ for number in 4 5 6 7 8 9 10; do
     8) bytes="$start 00 00 00 1B 01 41 00 02 41 00 14 8E 01 01 09 $fields" ;;
     9) bytes="$start 00 00 00 17 01 41 14 8E 01 04 01 $fields" ;;
     10) bytes="$start 00 00 00 18 02 41 00 14 8E 01 04 01 $fields" ;;
+    20) bytes="$start 00 00 00 15 14 8F 01 08 00 $fields" ;;
+    21) bytes="$start 00 00 00 15 14 8E 02 08 00 $fields" ;;
+    22) bytes="$start 00 00 00 15 14 8E 01 03 00 $fields" ;;
+    23) bytes="$start 00 00 00 15 14 8E 01 08 80 $fields" ;;
     esac
     { unhex "$bytes" && cat "$room/log"; } >"$room/in"
     run dump --skip-refused --summary "$room/in"
     [ "$status" -eq 1 ] && grep -q "^frame 0 .* from byte 0         refused   $number: " "$room/out" && grep -q '^frame 1 .* request ' "$room/out" || good=1
+    unhex "$bytes" >"$room/alone"
+    next=$(stat -c %s "$room/alone")
+    cat "$room/log" "$room/in" >"$room/behind"
+    run dump --summary "$room/behind"
+    [ "$status" -eq 1 ] && grep -q "; by its front the next one would begin at byte $((35 + next))\$" "$room/out" || good=1
     run dump --json "$room/in"
     [ "$status" -eq 1 ] || good=1
 done
-report "$good" 'the refusals 4 to 10 are passed'
+report "$good" 'the refusals 4 to 10 and 20 to 23 are passed, and tell where the next frame would begin'
 cat "$room/passes" "$room/junk" >"$room/in"
 stops 'a wrong start ends it' 1 "5 frames, 3 refused and passed, 256 bytes; frame 8, from byte 256, $junk" --skip-refused --summary "$room/in"
 run dump --skip-refused --json "$room/in"

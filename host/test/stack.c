@@ -20,6 +20,11 @@ static uint32_t read_frame(void)
     return lampreycoil_read(frame, frame_length, record, sizeof record);
 }
 
+static uint32_t read_fault(void)
+{
+    return lampreycoil_read_fault(frame, frame_length, record, sizeof record);
+}
+
 /* The same message for both: as many routes as there may be, and the longest topic. */
 static const uint8_t all_parts = LAMPREYCOIL_TOPIC | LAMPREYCOIL_ROUTE | LAMPREYCOIL_PAYLOAD;
 
@@ -181,6 +186,10 @@ int main(void)
     make_message();
     make_frame(LAMPREYCOIL_REQUEST, 0, LAMPREYCOIL_NODEID_ANY, payload, routes, 1, LONG_BODY);
     takes("read", read_frame, 0);
+    takes("read_fault, a good frame", read_fault, 0);
+    frame[LAMPREYCOIL_FRONT_SIZE + 1] = 'x';
+    takes("read_fault, a wrong route", read_fault, LAMPREYCOIL_ROUTE_WRONG);
+    frame[LAMPREYCOIL_FRONT_SIZE + 1] = '0';
     takes("write", write_frame, 0);
     take_message();
     take_streams();

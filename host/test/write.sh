@@ -3,8 +3,9 @@
 
 # ---- refusals of the writer
 
-refuses 'type 3 is 6' 6 "$n6 (there is no type 3)" --type-number 3
-refuses 'flag 80 is 6' 6 "$n6 (--flags 80: flag 80 is set)" --type control --flags 80
+refuses 'type 3 is 22' 22 "$n22 (there is no type 3)" --type-number 3
+refuses 'flag 80 is 23' 23 "$n23 (--flags 80: flag 80 is set)" --type control --flags 80
+refuses 'both are 22' 22 "$n22 (there is no type 3)" --type-number 3 --flags 80
 refuses 'a control with a topic is 7' 7 "$n7 (a control message has no topic: leave out --topic)" --type control --topic x
 refuses 'a control with a payload is 7' 7 "$n7 (a control message has no payload: leave it out)" --type control --payload-text x
 refuses 'a control with a route is 7' 7 "$n7 (a control message has no route: leave out --route)" --type control --route $one

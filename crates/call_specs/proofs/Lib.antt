@@ -7,3 +7,4 @@ pub mod StepCalls
 pub mod WalkCalls
 pub mod StreamCalls
 pub mod JsonCalls
+pub mod FaultCalls

@@ -6,6 +6,7 @@ ghost use Rattle.bytes_number.specs.Lent.{was};
 ghost use Rattle.bytes_number.specs.Number.{Bytes};
 ghost use Rattle.call_specs.specs.Calls.{headerOf};
 ghost use Rattle.claim_frames.specs.Frames.{RecordHoldsMessage, AcceptedIsWrittenBack, WrittenIsReadBack};
+ghost use Rattle.claim_faults.specs.Faults.{FaultIsTold};
 ghost use Rattle.claim_json.specs.Json.{JsonIsTheGrammar};
 ghost use Rattle.claim_frames.specs.Streams.{StreamIsTheInput};
 ghost use Rattle.claim_tables.specs.Trees.{TreeIsChecked};
@@ -61,6 +62,13 @@ pub fn written_is_read_back(
 // The frames that a stream lists, one after another, are its input up to the stop.
 pub fn stream_is_the_input(bytes: &[u8])
     ensures { λ _. ⌜ StreamIsTheInput (was bytes) ⌝ }
+{
+    are_bytes(bytes);
+}
+
+// The number of a fault is what a read returns, and its byte is the place that goes with it, by the parts of the frame.
+pub fn fault_is_told(bytes: &[u8])
+    ensures { λ _. ⌜ FaultIsTold (was bytes) ⌝ }
 {
     are_bytes(bytes);
 }

@@ -11,7 +11,8 @@ use Rattle.bytes_number.specs.Number.{rowBytes, numberIn}
 use Rattle.bytes_number.specs.Laid.{laid}
 use Rattle.bytes_number.proofs.Rows.{row-number}
 use Rattle.frame_message.specs.declared.Header.{Header}
-use Rattle.frame_message.specs.Header.{isType, isKnown}
+use Rattle.frame_message.specs.Header.{isType}
+use Rattle.frame_message.specs.Working.{isKnown}
 use Rattle.frame_message.specs.Message.{Message}
 use Rattle.frame_message.specs.Working.{FieldsFit}
 use Rattle.frame_message.specs.Frame.{frameOf}

@@ -9,7 +9,8 @@ use Rattle.bytes_number.proofs.Truth.{outcome, clash, and-left, or-neither}
 use Rattle.frame_message.specs.declared.Header.{Header}
 use Rattle.refusal.specs.declared.Refusal.the-variants.{NotRouted}
 use Rattle.refusal.specs.Answer.{refused}
-use Rattle.frame_message.specs.Header.{isType, isKnown}
+use Rattle.frame_message.specs.Header.{isType}
+use Rattle.frame_message.specs.Working.{isKnown}
 use Rattle.frame_message.specs.Message.{Message}
 use Rattle.frame_message.specs.Frame.{frameOf}
 use Rattle.frame_message.proofs.Messages.{written}

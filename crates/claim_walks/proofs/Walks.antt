@@ -12,7 +12,7 @@ use Rattle.bytes_number.specs.Number.{Bytes, rowBytes}
 use Rattle.bytes_number.proofs.Truth.{and-left, and-right, outcome, true-false}
 use Rattle.frame_forms.specs.Forms.{isRoute, isTopic}
 use Rattle.refusal.specs.Answer.{Answer, refused, answered}
-use Rattle.frame_message.specs.Header.{noResponse, isKnown, partsFit, fieldsGood, headerBytes}
+use Rattle.frame_message.specs.Header.{noResponse, partsFit, fieldsGood, headerBytes}
 use Rattle.frame_message.specs.Message.{Message}
 use Rattle.frame_message.specs.Working.{FieldsFit}
 use Rattle.frame_message.specs.Frame.{partsOf, bodyOf, frameOf}
@@ -199,7 +199,7 @@ rows-end owner room enough (row ∷ rows) tests same = (
 )
 
 table-meets : allRows table ≡ true
-unfolding meets fits writing isKnown partsFit partsGivenFit routesGood isTopic fieldsGood headerBytes partsOf bodyOf frameOf ranksIn
+unfolding meets fits writing partsFit partsGivenFit routesGood isTopic fieldsGood headerBytes partsOf bodyOf frameOf ranksIn
 table-meets = refl
 
 pub walks-of-the-table : (owner : Owner) → WalksOfTheTable owner

@@ -12,6 +12,7 @@ use Rattle.frame_message.specs.declared.Header.{Header}
 use Rattle.refusal.specs.Answer.{answered}
 use Rattle.frame_forms.specs.Count.{one}
 use Rattle.frame_message.specs.Header.{hasTopic, hasPayload, hasRoute, fieldsGood}
+use Rattle.frame_message.proofs.Headers.{header-answers}
 use Rattle.frame_message.specs.Message.{Message}
 use Rattle.frame_message.specs.Frame.{sizeBytes, partBytes, joined, partIf, routing, topicPart, bodyOf, frameOf, partsOf}
 use Rattle.frame_message.specs.Writing.{isEmpty}
@@ -227,7 +228,7 @@ module _ (body : List ℕ) (counts : PartCounts) (h : Header) (routes : ℕ) (s 
 
         judged-is : judged (partsFound body) ≡ answered m
         unfolding judged
-        judged-is = rw (s .head .headed, ← s .head .same) answer-is
+        judged-is = rw (header-answers _ (s .head .headed), ← s .head .same) answer-is
 
         frame-long : 8 + length body ≡ length (frameOf m)
         unfolding frameOf bodyOf

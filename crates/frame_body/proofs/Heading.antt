@@ -1,6 +1,6 @@
 -- The last part of a body: what its place tells, and what the counting tells of the parts.
 use mathlib.Core.Path.{_≡_, refl, sym, ap, _∙_}
-use mathlib.Core.Bool.{Bool, true, false, cond}
+use mathlib.Core.Bool.{Bool, true, false}
 use Prim.Native.Nat.{ℕ, _+_, _-_, _<_, _≤_}
 use mathlib.Core.List.{List, [], _∷_, _++_, append-nil}
 use native.Mathlib.Omega.{arith}
@@ -13,10 +13,10 @@ use Rattle.frame_message.specs.declared.Header.{Header}
 use Rattle.refusal.specs.declared.Refusal.{Refusal}
 use Rattle.refusal.specs.declared.Refusal.the-variants.{HeaderWrong}
 use Rattle.refusal.specs.Answer.{Answer, refused, answered, andThen}
-use Rattle.frame_message.specs.Header.{headerIn, isHeader}
 use Rattle.frame_message.specs.Frame.{partBytes, joined}
-use Rattle.frame_message.specs.Reading.{partsIn, front, final, beforeEmpty, judgedAs, judged}
+use Rattle.frame_message.specs.Reading.{partsIn, front, final, beforeEmpty, headerOrWhy, judgedAs, judged}
 use Rattle.frame_message.proofs.Lists.{front-final}
+use Rattle.frame_message.proofs.Headers.{Answers, header-answered}
 use Rattle.frame_message.proofs.Parts.{joined-append, split, part-short, part-long}
 use Rattle.frame_parts.specs.declared.PartCounts.{PartCounts}
 use Rattle.frame_parts.specs.declared.Counting.the-variants.{Refused, Counted}
@@ -64,9 +64,19 @@ size-of p = go (ltb (length p) 255) refl
         let size = ap length (part-long p long) in
         ((λ e. absurd (omega (arith, size))), (λ e. absurd (omega arith)))
 
-not-header : (p : List ℕ) → (length p ≡ 20 → ⊥) → isHeader p ≡ false
-unfolding isHeader
+-- 6
+not-header : (p : List ℕ) → (length p ≡ 20 → ⊥) → headerOrWhy p ≡ refused HeaderWrong
+unfolding headerOrWhy
 not-header p n = rw (ne-eqb (length p) 20 n)
+
+-- what is told of a header that was read
+told-wrong : (a : Answer Header) {r : Refusal} → Wrong r ≡ headAs a → a ≡ refused r
+told-wrong (refused q) e = cc
+told-wrong (answered h) e = let z : _≡_ {A = ℕ} 0 1 = cc in absurd (omega arith)
+
+told-fields : (a : Answer Header) {h : Header} → Fields h ≡ headAs a → a ≡ answered h
+told-fields (refused q) e = let z : _≡_ {A = ℕ} 0 1 = cc in absurd (omega arith)
+told-fields (answered h) e = cc
 
 module _ (body : List ℕ) (b : Bytes body) (counts : PartCounts) (o : CountsOf body counts) where
   abbrev ps : List (List ℕ)
@@ -95,7 +105,7 @@ module _ (body : List ℕ) (b : Bytes body) (counts : PartCounts) (o : CountsOf 
   pub group-within : counts .group ≤ length body
   group-within = omega (arith, o .group, before-short ps, ap length whole)
 
-  header-refused : isHeader (final [] ps) ≡ false → andThen (partsIn 68 body) judged ≡ refused HeaderWrong
+  header-refused : {r : Refusal} → headerOrWhy (final [] ps) ≡ refused r → andThen (partsIn 68 body) judged ≡ refused r
   unfolding judged
   header-refused e = judged-all ∙ rw e
 
@@ -126,21 +136,17 @@ module _ (body : List ℕ) (b : Bytes body) (counts : PartCounts) (o : CountsOf 
         let bytes : drop (counts .last + 1) body ≡ final [] ps = sym (drop-drop 1 (counts .last) body) ∙ rw (behind, part-short (final [] ps) (omega (arith, head-size))) in
         rw bytes (take-all (length body - (counts .last + 1)) (final [] ps) (omega (arith, head-size)))
 
-    pub head-wrong : Wrong ≡ headAs (take (length body - (counts .last + 1)) (drop (counts .last + 1) body)) → andThen (partsIn 68 body) judged ≡ refused HeaderWrong
-    head-wrong e = header-refused (go (isHeader (final [] ps)) (e ∙ ap headAs head-bytes))
-      where
-        go : (t : Bool) → Wrong ≡ cond t (Fields (headerIn (final [] ps))) Wrong → t ≡ false
-        go true e = let z : _≡_ {A = ℕ} 0 1 = cc in absurd (omega arith)
-        go false e = refl
+    pub head-wrong : {r : Refusal} → Wrong r ≡ headAs (headerOrWhy (take (length body - (counts .last + 1)) (drop (counts .last + 1) body))) → andThen (partsIn 68 body) judged ≡ refused r
+    head-wrong e = header-refused (ap headerOrWhy (sym head-bytes) ∙ told-wrong _ e)
 
-    module _ (h : Header) (e : Fields h ≡ headAs (take (length body - (counts .last + 1)) (drop (counts .last + 1) body))) (short : length body ≤ 32768) where
+    module _ (h : Header) (e : Fields h ≡ headAs (headerOrWhy (take (length body - (counts .last + 1)) (drop (counts .last + 1) body)))) (short : length body ≤ 32768) where
+      read : headerOrWhy (final [] ps) ≡ answered h
+      read = ap headerOrWhy (sym head-bytes) ∙ told-fields _ e
+
       pub headed : Headed body counts h
-      headed = go (isHeader (final [] ps)) refl (e ∙ ap headAs head-bytes)
-        where
-          go : (t : Bool) → isHeader (final [] ps) ≡ t → Fields h ≡ cond t (Fields (headerIn (final [] ps))) Wrong → Headed body counts h
-          go true k e = record { over = o; short = short; headed = k; same = cc }
-          go false k e = let z : _≡_ {A = ℕ} 0 1 = cc in absurd (omega arith)
+      headed = let a : Answers (final [] ps) h = header-answered _ _ read in
+          record { over = o; short = short; headed = a .passes; same = a .same }
 
       pub judged-rest : andThen (partsIn 68 body) judged ≡ judgedAs h (front ps)
       unfolding judged
-      judged-rest = judged-all ∙ rw (headed .headed, ← headed .same)
+      judged-rest = judged-all ∙ rw read

@@ -9,7 +9,8 @@ use Rattle.bytes_number.specs.Number.{number}
 use Rattle.frame_message.specs.declared.Header.{Header}
 use Rattle.refusal.specs.Answer.{Answer, refused, answered}
 use Rattle.frame_forms.specs.Count.{one}
-use Rattle.frame_message.specs.Header.{hasTopic, hasPayload, hasRoute, headerIn, isHeader}
+use Rattle.frame_message.specs.Header.{hasTopic, hasPayload, hasRoute, headerIn}
+use Rattle.frame_message.specs.Working.{isHeader}
 use Rattle.frame_message.specs.Frame.{sizeBytes, partBytes, joined, groupIf}
 use Rattle.frame_message.specs.Writing.{routesGood}
 use Rattle.frame_message.specs.Reading.{partsIn, front, final, beforeEmpty, routesIn, partsAgree, isTopicPart}

@@ -23,9 +23,6 @@ ghost use Rattle.frame_message.specs.Reading.{partsIn, front, judged, judgedAs}
 ghost use Rattle.frame_layout.specs.WorkingPlacing.{readAs};
 ghost use Rattle.frame_body.specs.WorkingJudging.{partsFound, Found, stretchAt, pieceIf, Within, topicWrong, CountsOf, Headed, Sorted};
 
-// The most parts that a body has: 64 routes, the delimiter, the topic, the payload and the header.
-const MOST_PARTS: usize = 68;
-
 // The size byte of a route's part.
 const ROUTE_SIZE: u8 = 37;
 
@@ -147,7 +144,7 @@ fn judge_parts(body: &[u8], counts: PartCounts, h: Header) -> Reading
     }
 }
 
-// 6, and then the rest: the header is the last of the parts that were counted.
+// 6 and 20 to 23, and then the rest: the header is the last of the parts that were counted.
 fn judge_counted(body: &[u8], counts: PartCounts) -> Reading
     requires { ⌜ (length (now body) ≤ 32768) × CountsOf (now body) counts ⌝ }
     ensures { λ r. ⌜ r ≡ readAs (andThen (partsIn 68 (was body)) judged) ⌝ }
@@ -158,7 +155,7 @@ fn judge_counted(body: &[u8], counts: PartCounts) -> Reading
     }
     let start = last + 1;
     match read_header(&body[start..]) {
-        Head::Wrong => Reading::Refused(Refusal::HeaderWrong),
+        Head::Wrong(why) => Reading::Refused(why),
         Head::Fields(h) => judge_parts(body, counts, h),
     }
 }
@@ -168,7 +165,7 @@ pub(crate) fn judge(body: &[u8]) -> Reading
     requires { ⌜ length (now body) ≤ 32768 ⌝ }
     ensures { λ r. ⌜ r ≡ readAs (andThen (partsIn 68 (was body)) judged) ⌝ }
 {
-    match count_parts(body, MOST_PARTS) {
+    match count_parts(body, frame_message::MOST_PARTS) {
         Counting::Refused(r, _) => Reading::Refused(r),
         Counting::Counted(counts) => judge_counted(body, counts),
     }

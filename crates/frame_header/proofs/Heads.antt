@@ -8,7 +8,9 @@ use lib.ListN.{length, getD, drop, replicate}
 use Rattle.bytes_number.specs.Number.{number, rowBytes}
 use Rattle.bytes_number.specs.WorkingLays.{laidIfRoom}
 use Rattle.frame_message.specs.declared.Header.{Header}
-use Rattle.frame_message.specs.Header.{isKnown, headerBytes, headerIn, isHeader}
+use Rattle.frame_message.specs.Header.{isType, areFlags, headerBytes, headerIn}
+use Rattle.frame_message.specs.Reading.{headerOrWhy}
+use Rattle.refusal.specs.declared.Refusal.the-variants.{HeaderWrong, MagicWrong, VersionWrong, TypeWrong, FlagWrong}
 use Rattle.frame_header.specs.declared.Head.the-variants.{Wrong, Fields}
 use Rattle.frame_header.specs.WorkingHead.{headAs}
 
@@ -18,31 +20,36 @@ pub fields-in : (p : List ℕ) {u r f s : ℕ} → u ≡ number (drop 4 p) → r
 unfolding headerIn
 fields-in p eu er ef es = rw (eu, er, ef, es)
 
--- ---- a header that is right
+-- ---- a header that is right: 6, 20, 21, 22, then 23
 
 module _ (p : List ℕ) where
-  pub head-length : (length p ≡ 20 → ⊥) → Wrong ≡ headAs p
-  unfolding isHeader
+  pub head-length : (length p ≡ 20 → ⊥) → Wrong HeaderWrong ≡ headAs (headerOrWhy p)
+  unfolding headerOrWhy
   head-length n = rw (ne-eqb (length p) 20 n)
 
   module _ (long : length p ≡ 20) where
-    pub head-magic : (getD p 0 0 ≡ 142 → ⊥) → Wrong ≡ headAs p
-    unfolding isHeader
+    pub head-magic : (getD p 0 0 ≡ 142 → ⊥) → Wrong MagicWrong ≡ headAs (headerOrWhy p)
+    unfolding headerOrWhy
     head-magic n = rw (eq-eqb (length p) 20 long, ne-eqb (getD p 0 0) 142 n)
 
     module _ (magic : getD p 0 0 ≡ 142) where
-      pub head-version : (getD p 1 0 ≡ 1 → ⊥) → Wrong ≡ headAs p
-      unfolding isHeader
+      pub head-version : (getD p 1 0 ≡ 1 → ⊥) → Wrong VersionWrong ≡ headAs (headerOrWhy p)
+      unfolding headerOrWhy
       head-version n = rw (eq-eqb (length p) 20 long, eq-eqb (getD p 0 0) 142 magic, ne-eqb (getD p 1 0) 1 n)
 
       module _ (version : getD p 1 0 ≡ 1) where
-        pub head-unknown : isKnown (headerIn p) ≡ false → Wrong ≡ headAs p
-        unfolding isHeader
-        head-unknown e = rw (eq-eqb (length p) 20 long, eq-eqb (getD p 0 0) 142 magic, eq-eqb (getD p 1 0) 1 version, e)
+        pub head-type : isType (getD p 2 0) ≡ false → Wrong TypeWrong ≡ headAs (headerOrWhy p)
+        unfolding headerOrWhy
+        head-type e = rw (eq-eqb (length p) 20 long, eq-eqb (getD p 0 0) 142 magic, eq-eqb (getD p 1 0) 1 version, e)
 
-        pub head-known : isKnown (headerIn p) ≡ true → Fields (headerIn p) ≡ headAs p
-        unfolding isHeader
-        head-known e = rw (eq-eqb (length p) 20 long, eq-eqb (getD p 0 0) 142 magic, eq-eqb (getD p 1 0) 1 version, e)
+        module _ (type-known : isType (getD p 2 0) ≡ true) where
+          pub head-flag : areFlags (getD p 3 0) ≡ false → Wrong FlagWrong ≡ headAs (headerOrWhy p)
+          unfolding headerOrWhy
+          head-flag e = rw (eq-eqb (length p) 20 long, eq-eqb (getD p 0 0) 142 magic, eq-eqb (getD p 1 0) 1 version, type-known, e)
+
+          pub head-fields : areFlags (getD p 3 0) ≡ true → Fields (headerIn p) ≡ headAs (headerOrWhy p)
+          unfolding headerOrWhy
+          head-fields e = rw (eq-eqb (length p) 20 long, eq-eqb (getD p 0 0) 142 magic, eq-eqb (getD p 1 0) 1 version, type-known, e)
 
 -- ---- a header written
 

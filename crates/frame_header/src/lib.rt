@@ -1,5 +1,6 @@
 // The header, which is a body's last part: read, and written.
 use frame_message::Header;
+use refusal::Refusal;
 ghost use mathlib.Core.Path.{_≡_};
 ghost use Prim.Native.Nat.{_≤_};
 ghost use lib.ListN.{length};
@@ -7,10 +8,11 @@ ghost use Rattle.bytes_number.specs.Lent.{was};
 ghost use Rattle.bytes_number.specs.WorkingLays.{laidIfRoom, laidCount};
 ghost use Rattle.frame_message.specs.Header.{headerBytes, headerIn};
 ghost use Rattle.frame_message.specs.Frame.{partBytes};
+ghost use Rattle.frame_message.specs.Reading.{headerOrWhy};
 ghost use Rattle.frame_header.specs.WorkingHead.{headAs};
 
 pub enum Head {
-    Wrong,
+    Wrong(Refusal),
     Fields(Header),
 }
 
@@ -29,25 +31,26 @@ fn fields(p: &[u8]) -> Header
     }
 }
 
-// The fields of a header that is right.
+// The fields of a header that is right, or why it is wrong: 6, 20, 21, 22, then 23.
 pub fn read_header(p: &[u8]) -> Head
-    ensures { λ r. ⌜ r ≡ headAs (was p) ⌝ }
+    ensures { λ r. ⌜ r ≡ headAs (headerOrWhy (was p)) ⌝ }
 {
     if p.len() != frame_message::HEADER {
-        return Head::Wrong;
+        return Head::Wrong(Refusal::HeaderWrong);
     }
     if p[0] != frame_message::MAGIC {
-        return Head::Wrong;
+        return Head::Wrong(Refusal::MagicWrong);
     }
     if p[1] != frame_message::VERSION {
-        return Head::Wrong;
+        return Head::Wrong(Refusal::VersionWrong);
     }
-    let h = fields(p);
-    if frame_header_rules::is_known(h) {
-        Head::Fields(h)
-    } else {
-        Head::Wrong
+    if !frame_header_rules::is_type(p[2]) {
+        return Head::Wrong(Refusal::TypeWrong);
     }
+    if !frame_header_rules::are_flags(p[3]) {
+        return Head::Wrong(Refusal::FlagWrong);
+    }
+    Head::Fields(fields(p))
 }
 
 // Writes a header's part to the front of out, if there is room for it, and tells how many bytes it has, or 0. The header lies in no slice: its

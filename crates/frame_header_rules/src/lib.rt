@@ -5,7 +5,7 @@ use frame_message::Header;
 use frame_message::REQUEST;
 use frame_message::RESPONSE;
 ghost use mathlib.Core.Path.{_≡_};
-ghost use Rattle.frame_message.specs.Header.{isType, isKnown, partsFit, fieldsGood};
+ghost use Rattle.frame_message.specs.Header.{isType, areFlags, partsFit, fieldsGood};
 
 // The nodeid that never appears on the wire.
 const NO_NODE: u32 = 4294967294;
@@ -13,8 +13,8 @@ const NO_NODE: u32 = 4294967294;
 // The flag that is refused.
 const FLAG_80: u8 = 0x80;
 
-// Whether there is such a type.
-fn is_type(kind: u8) -> bool
+// 22: whether there is such a type.
+pub fn is_type(kind: u8) -> bool
     ensures { λ r. ⌜ r ≡ isType kind ⌝ }
 {
     if kind == REQUEST {
@@ -29,15 +29,11 @@ fn is_type(kind: u8) -> bool
     kind == CONTROL
 }
 
-// Whether the type is one of the four and flag 80 is clear.
-pub fn is_known(h: Header) -> bool
-    ensures { λ r. ⌜ r ≡ isKnown h ⌝ }
+// 23: whether flag 80 is clear.
+pub fn are_flags(flags: u8) -> bool
+    ensures { λ r. ⌜ r ≡ areFlags flags ⌝ }
 {
-    if is_type(h.kind) {
-        h.flags < FLAG_80
-    } else {
-        false
-    }
+    flags < FLAG_80
 }
 
 // Whether the flags ask for the parts that the type has.

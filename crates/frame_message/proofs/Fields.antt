@@ -4,9 +4,10 @@ use mathlib.Core.Bool.{Bool, true, false, not, _&&_}
 use lib.Dec.{eqb, ltb}
 use Prim.Native.Nat.{_<_}
 use borrow.Author.Tests.{eq-eqb, ne-eqb, lt-ltb, eqb-true, ltb-true}
-use Rattle.bytes_number.proofs.Truth.{and-right}
+use Rattle.bytes_number.proofs.Truth.{and-left, and-right}
 use Rattle.frame_message.specs.declared.Header.{Header}
-use Rattle.frame_message.specs.Header.{hasTopic, hasPayload, hasRoute, isType, isKnown, partsFit, fieldsGood}
+use Rattle.frame_message.specs.Header.{hasTopic, hasPayload, hasRoute, isType, areFlags, partsFit, fieldsGood}
+use Rattle.frame_message.specs.Working.{isKnown}
 
 module _ (h : Header) where
   pub known-in : isType (h .kind) ≡ true → h .flags < 128 → isKnown h ≡ true
@@ -17,9 +18,9 @@ module _ (h : Header) where
   unfolding isKnown
   known-flags e = ltb-true (h .flags) 128 (and-right (isType (h .kind)) (ltb (h .flags) 128) e)
 
-  pub unknown-type : isType (h .kind) ≡ false → isKnown h ≡ false
+  pub known-type : isKnown h ≡ true → isType (h .kind) ≡ true
   unfolding isKnown
-  unknown-type e = rw e
+  known-type e = and-left (isType (h .kind)) (areFlags (h .flags)) e
 
   -- which parts go with a control message, an event, a request or a response; r, t and p say which flags are set
   module _ {r t p : Bool} (er : r ≡ hasRoute (h .flags)) (et : t ≡ hasTopic (h .flags)) (ep : p ≡ hasPayload (h .flags)) where

@@ -4,16 +4,20 @@ use Prim.Native.Nat.{ℕ, _+_, _≤_}
 use mathlib.Core.Bool.{true, _&&_}
 use mathlib.Core.List.{List, [], _∷_, _++_}
 use native.Mathlib.Omega.{arith}
-use borrow.Author.Tests.{eqb-true}
+use borrow.Author.Tests.{eqb-true, ltb-true, lt-ltb, not-false}
 use lib.Dec.{eqb}
 use lib.ListN.{length, getD, drop, length-drop, drop-of-length-le, take-append-drop}
 use lib.Seq.{drop-drop}
 use Rattle.bytes_number.specs.Number.{number, four, Bytes}
 use Rattle.bytes_number.proofs.Numbers.{number-four, four-number, number-lt, bytes-drop}
 use Rattle.frame_message.specs.declared.Header.{Header}
-use Rattle.frame_message.specs.Header.{headerBytes, headerIn, isHeader, isKnown}
-use Rattle.frame_message.specs.Working.{FieldsFit}
+use Rattle.refusal.specs.Answer.{answered}
+use Rattle.frame_message.specs.Header.{headerBytes, headerIn}
+use Rattle.frame_message.specs.Reading.{headerOrWhy}
+use Rattle.frame_message.specs.Working.{FieldsFit, isHeader, isKnown}
 use Rattle.bytes_number.proofs.Truth.{and-left, and-right}
+use Rattle.refusal.proofs.Answers.{passed, answered-same}
+use Rattle.frame_message.proofs.Fields.{known-in, known-type, known-flags}
 
 -- the fields read from their bytes are the fields
 pub header-in : (h : Header) → FieldsFit h → headerIn (headerBytes h) ≡ h
@@ -54,6 +58,42 @@ header-tested p e =
 pub header-is : (h : Header) → FieldsFit h → isKnown h ≡ true → isHeader (headerBytes h) ≡ true
 unfolding headerBytes
 header-is h fit known = header-test (headerBytes h) (record { long = refl; magic = refl; version = refl; known = ap isKnown (header-in h fit) ∙ known })
+
+-- ---- 6 and 20 to 23
+
+-- a part that passes is answered with its fields
+pub header-answers : (p : List ℕ) → isHeader p ≡ true → headerOrWhy p ≡ answered (headerIn p)
+unfolding headerOrWhy headerIn
+header-answers p e =
+    let f = header-tested p e in
+    let type-known = known-type (headerIn p) (f .known) in
+    let flags-known = lt-ltb (getD p 3 0) 0x80 (known-flags (headerIn p) (f .known)) in
+    rw (f .long, f .magic, f .version, type-known, flags-known)
+
+-- and nothing else is answered
+pub record Answers (p : List ℕ) (h : Header) : Type 0 where
+  pub passes : isHeader p ≡ true
+  pub same : h ≡ headerIn p
+
+pub header-answered : (p : List ℕ) (h : Header) → headerOrWhy p ≡ answered h → Answers p h
+unfolding headerOrWhy headerIn
+header-answered p h e =
+    let p₁ = passed _ _ _ _ e in
+    let p₂ = passed _ _ _ _ (p₁ .rest) in
+    let p₃ = passed _ _ _ _ (p₂ .rest) in
+    let p₄ = passed _ _ _ _ (p₃ .rest) in
+    let p₅ = passed _ _ _ _ (p₄ .rest) in
+    record {
+      passes =
+          header-test p
+          (record {
+            long = eqb-true _ _ (not-false _ (p₁ .test));
+            magic = eqb-true _ _ (not-false _ (p₂ .test));
+            version = eqb-true _ _ (not-false _ (p₃ .test));
+            known = known-in (headerIn p) (not-false _ (p₄ .test)) (ltb-true _ _ (not-false _ (p₅ .test)));
+          });
+      same = sym (answered-same (p₅ .rest));
+    }
 
 -- ---- the other way
 

@@ -4,26 +4,27 @@ use Prim.Native.Nat.{ℕ, _+_, _<_, _≤_}
 use mathlib.Core.Bool.{Bool, true, false, not, _&&_, _||_}
 use mathlib.Core.List.{List, [], _∷_, _++_, append-assoc}
 use native.Mathlib.Omega.{arith}
-use borrow.Author.Tests.{eqb-true, eq-eqb, ltb-false, le-ltb, not-false}
+use borrow.Author.Tests.{eqb-true, eq-eqb, ltb-true, ltb-false, lt-ltb, le-ltb, not-false}
 use lib.Dec.{eqb}
 use lib.ListN.{length, getD, length-append}
 use Rattle.bytes_number.specs.Number.{Bytes}
 use Rattle.frame_message.specs.declared.Header.{Header}
 use Rattle.refusal.specs.Answer.{answered}
-use Rattle.frame_message.specs.Header.{hasTopic, hasPayload, hasRoute, isKnown, partsFit, fieldsGood, headerBytes, headerIn, isHeader}
+use Rattle.frame_message.specs.Header.{hasTopic, hasPayload, hasRoute, isType, areFlags, partsFit, fieldsGood, headerBytes, headerIn}
 use Rattle.frame_forms.specs.Forms.{isTopic}
 use Rattle.frame_message.specs.Message.{Message}
-use Rattle.frame_message.specs.Working.{FieldsFit}
+use Rattle.frame_message.specs.Working.{FieldsFit, isKnown, isHeader}
 use Rattle.frame_message.specs.Frame.{partsOf, bodyOf, frameOf}
 use Rattle.frame_message.specs.Writing.{isEmpty, partsGivenFit, routesGood, writing}
 use Rattle.frame_forms.specs.Count.{one}
-use Rattle.frame_message.specs.Reading.{front, final, beforeEmpty, routesIn, topicPlace, payloadPlace, partsAgree, isTopicPart, messageIn, judgedAs, judged}
+use Rattle.frame_message.specs.Reading.{front, final, beforeEmpty, routesIn, topicPlace, payloadPlace, partsAgree, isTopicPart, messageIn, headerOrWhy, judgedAs, judged}
 use Rattle.bytes_number.proofs.Truth.{and-left, and-right, and-not, and-not-false}
-use Rattle.refusal.proofs.Answers.{passed, answered-same}
+use Rattle.refusal.proofs.Answers.{passed, both, answered-same}
 use Rattle.frame_message.proofs.Lists.{front-snoc, final-snoc, front-final}
 use Rattle.frame_message.proofs.Forms.{routes-few, routes-each, routes-filled, topic-part, topic-parted, topic-form}
 use Rattle.frame_message.proofs.Places.{before, before-length, before-topic, before-payload, before-routes, before-all, kept, kept-given, before-kept}
-use Rattle.frame_message.proofs.Headers.{header-in, header-is, header-tested, header-bytes, fields-fit}
+use Rattle.frame_message.proofs.Headers.{header-in, header-is, header-tested, header-answers, header-answered, header-bytes, fields-fit}
+use Rattle.frame_message.proofs.Fields.{known-in, known-type, known-flags}
 
 -- a message's flags
 abbrev pub withRoute : Message → Bool
@@ -35,7 +36,7 @@ withTopic m = hasTopic (m .header .flags)
 abbrev pub withPayload : Message → Bool
 withPayload m = hasPayload (m .header .flags)
 
--- ---- what the writer's answer tells, 6 to 10 and 3
+-- ---- what the writer's answer tells, 22, 23, 7 to 10 and 3
 
 pub record Passes (m : Message) : Type 0 where
   pub known : isKnown (m .header) ≡ true
@@ -59,26 +60,28 @@ written m frame e =
     let p₄ = passed _ _ _ _ (p₃ .rest) in
     let p₅ = passed _ _ _ _ (p₄ .rest) in
     let p₆ = passed _ _ _ _ (p₅ .rest) in
-    let parts = not-false _ (p₂ .test) in
+    let p₇ = passed _ _ _ _ (p₆ .rest) in
+    let parts = not-false _ (p₃ .test) in
     record {
       passes =
           record {
-            known = not-false _ (p₁ .test);
+            known = known-in (m .header) (not-false _ (p₁ .test)) (ltb-true _ _ (not-false _ (p₂ .test)));
             fit = and-left (partsFit (m .header)) (partsGivenFit m) parts;
             given = and-right (partsFit (m .header)) (partsGivenFit m) parts;
-            routes = not-false _ (p₃ .test);
-            topic = and-not _ _ (p₄ .test);
-            fields = not-false _ (p₅ .test);
+            routes = not-false _ (p₄ .test);
+            topic = and-not _ _ (p₅ .test);
+            fields = not-false _ (p₆ .test);
           };
-      short = ltb-false 32768 _ (p₆ .test);
-      same = answered-same (p₆ .rest);
+      short = ltb-false 32768 _ (p₇ .test);
+      same = answered-same (p₇ .rest);
     }
 
 pub write : (m : Message) → Passes m → length (bodyOf m) ≤ 32768 → writing m ≡ answered (frameOf m)
 unfolding writing
 write m p short =
     let topic = and-not-false (withTopic m) (isTopic (m .topic)) (p .topic) in
-    rw (p .known, p .fit, p .given, p .routes, topic, p .fields, le-ltb 32768 (length (bodyOf m)) short)
+    let flags-known = lt-ltb (m .header .flags) 0x80 (known-flags (m .header) (p .known)) in
+    rw (known-type (m .header) (p .known), flags-known, p .fit, p .given, p .routes, topic, p .fields, le-ltb 32768 (length (bodyOf m)) short)
 
 -- ---- what the reader's answer tells, 7 to 10
 
@@ -154,7 +157,7 @@ fit-given m g = rw (g .routes, g .topic, g .payload)
 -- "The header is always last"
 pub judged-header : (ps : List (List ℕ)) (p : List ℕ) (h : Header) → isHeader p ≡ true → headerIn p ≡ h → judged (ps ++ (p ∷ [])) ≡ judgedAs h ps
 unfolding judged
-judged-header ps p h is e = rw (final-snoc [] ps p, front-snoc ps p, is, e)
+judged-header ps p h is e = rw (final-snoc [] ps p, front-snoc ps p, header-answers p is, e)
 
 module _ (m : Message) (p : Passes m) where
   fore-routes : routesIn (m .header) (foreParts m) ≡ m .routes
@@ -267,10 +270,11 @@ some-part (p ∷ ps) e = omega arith
 pub held : (ps : List (List ℕ)) (m : Message) → Bytes (final [] ps) → judged ps ≡ answered m → Held ps m
 unfolding judged messageIn
 held ps m b e =
-    let p = passed (not (isHeader (final [] ps))) _ _ m e in
-    let header = not-false (isHeader (final [] ps)) (p .test) in
+    let two = both (headerOrWhy (final [] ps)) _ m e in
+    let a = header-answered (final [] ps) (two .value) (two .first) in
+    let header = a .passes in
     let h = headerIn (final [] ps) in
-    let j = judged-as h (front ps) m (p .rest) in
+    let j = judged-as h (front ps) m (ap (λ (k : Header). judgedAs k (front ps)) (sym (a .same)) ∙ two .second) in
     rw (← j .same)
     (record {
       same = in-parts h (front ps) (j .agrees) ∙ ap (λ (t : List ℕ). front ps ++ (t ∷ [])) (header-bytes (final [] ps) b header) ∙ front-final [] ps (some-part ps header);

@@ -3,7 +3,7 @@ use Prim.Native.Nat.{ℕ, _/_, _%_}
 use mathlib.Core.Bool.{Bool, true, cond, not, _&&_, _||_}
 use mathlib.Core.List.{List, _∷_, _++_}
 use lib.Dec.{eqb, ltb}
-use lib.ListN.{length, getD, drop}
+use lib.ListN.{getD, drop}
 use Rattle.bytes_number.specs.Number.{number, four}
 use Rattle.frame_message.specs.declared.Header.{Header}
 
@@ -42,9 +42,9 @@ controlType = 8
 abbrev pub isType : ℕ → Bool
 isType kind = eqb kind requestType || eqb kind responseType || eqb kind eventType || eqb kind controlType
 
--- "80 is refused": the type is one of the four, and flag 80 is clear
-unfoldable pub isKnown : Header → Bool
-isKnown h = isType (h .kind) && ltb (h .flags) 0x80
+-- "80 is refused"
+abbrev pub areFlags : ℕ → Bool
+areFlags flags = ltb flags 0x80
 
 -- Requests and responses: "delimiter and topic required, routes and payload may be"; events: "topic required, payload may be, no routes or
 -- delimiter"; control: "header alone". "Flags 01, 02 and 08 agree exactly with the parts present", so this is a test of the flags.
@@ -90,7 +90,3 @@ headerIn p =
       first = number (drop 12 p);
       second = number (drop 16 p);
     }
-
--- 6: "last part not 20 bytes; its magic, version, type or flag 80 wrong"
-unfoldable pub isHeader : List ℕ → Bool
-isHeader p = eqb (length p) headerLength && (eqb (getD p 0 0) magic && (eqb (getD p 1 0) version && isKnown (headerIn p)))

@@ -1,5 +1,6 @@
 -- What the reader makes of bytes. "Reader's order: 1 for the 8 bytes, 2, 3, 1 for the body, then 4 and 5 as the parts come (5 before that
--- part's size is read), then 6 to 10." The body is a list of parts here; where they lie in the caller's bytes is said in frame_layout/specs/Layout.antt.
+-- part's size is read), then 6 to 10", and 20 to 23 behind 6 (paper 02, ticket 4). The body is a list of parts here; where they lie in the caller's
+-- bytes is said in frame_layout/specs/Layout.antt.
 use Prim.Native.Nat.{ℕ, zero, suc, _+_, _-_}
 use mathlib.Core.Bool.{Bool, cond, not, _&&_, _||_}
 use mathlib.Core.List.{List, [], _∷_}
@@ -7,10 +8,10 @@ use lib.Dec.{eqb, ltb}
 use lib.ListN.{length, getD, take, drop}
 use Rattle.bytes_number.specs.Number.{number}
 use Rattle.frame_message.specs.declared.Header.{Header}
-use Rattle.refusal.specs.declared.Refusal.the-variants.{InputShort, StartWrong, BodyLong, PartWrong, PartsMany, HeaderWrong, PartsDisagree, RouteWrong, TopicWrong, FieldWrong}
+use Rattle.refusal.specs.declared.Refusal.the-variants.{InputShort, StartWrong, BodyLong, PartWrong, PartsMany, HeaderWrong, MagicWrong, VersionWrong, TypeWrong, FlagWrong, PartsDisagree, RouteWrong, TopicWrong, FieldWrong}
 use Rattle.refusal.specs.Answer.{Answer, refused, answered, refuseIf, andThen}
 use Rattle.frame_forms.specs.Count.{one}
-use Rattle.frame_message.specs.Header.{hasTopic, hasPayload, hasRoute, partsFit, fieldsGood, headerIn, isHeader}
+use Rattle.frame_message.specs.Header.{hasTopic, hasPayload, hasRoute, isType, areFlags, partsFit, fieldsGood, headerLength, magic, version, headerIn}
 use Rattle.frame_forms.specs.Forms.{isTopic}
 use Rattle.frame_message.specs.Message.{Message}
 use Rattle.frame_message.specs.Frame.{frameStart, mostBody}
@@ -84,6 +85,16 @@ messageIn h ps =
 
 -- ---- the reading
 
+-- "6 no part or wrong header length, 20 magic, 21 version, 22 type, 23 flag 80, tested in that order": the fields of the last part, or why it is no header
+unfoldable pub headerOrWhy : List ℕ → Answer Header
+headerOrWhy p =
+    refuseIf (not (eqb (length p) headerLength)) HeaderWrong
+    (refuseIf (not (eqb (getD p 0 0) magic)) MagicWrong
+    (refuseIf (not (eqb (getD p 1 0) version)) VersionWrong
+    (refuseIf (not (isType (getD p 2 0))) TypeWrong
+    (refuseIf (not (areFlags (getD p 3 0))) FlagWrong
+    (answered (headerIn p))))))
+
 -- 7 to 10, of the header's fields and the parts in front of the header
 unfoldable pub judgedAs : Header → List (List ℕ) → Answer Message
 judgedAs h ps =
@@ -93,9 +104,9 @@ judgedAs h ps =
     (refuseIf (not (fieldsGood h)) FieldWrong
     (answered (messageIn h ps)))))
 
--- 6 to 10, of all the parts: "The header is always last"
+-- 6 and 20 to 23, then 7 to 10, of all the parts: "The header is always last"
 unfoldable pub judged : List (List ℕ) → Answer Message
-judged ps = refuseIf (not (isHeader (final [] ps))) HeaderWrong (judgedAs (headerIn (final [] ps)) (front ps))
+judged ps = andThen (headerOrWhy (final [] ps)) (λ h. judgedAs h (front ps))
 
 -- 2: "first four bytes wrong"
 abbrev pub startsRight : List ℕ → Bool

@@ -1,13 +1,14 @@
--- What the writer refuses, and in which order: "Writer: 6 (type and flag 80 only), 7, 8, 9, 10, 3, 11".
+-- What the writer refuses, and in which order: "Writer: 6 (type and flag 80 only), 7, 8, 9, 10, 3, 11"; "the writer's 6 becomes 22, then 23" (paper 02,
+-- ticket 4).
 use Prim.Native.Nat.{ℕ, zero, suc}
 use mathlib.Core.Bool.{Bool, true, false, not, _&&_, _||_}
 use mathlib.Core.List.{List, [], _∷_}
 use lib.Dec.{ltb, leb}
 use lib.ListN.{length, take, drop}
 use Rattle.frame_message.specs.declared.Header.{Header}
-use Rattle.refusal.specs.declared.Refusal.the-variants.{BodyLong, HeaderWrong, PartsDisagree, RouteWrong, TopicWrong, FieldWrong, OutputShort}
+use Rattle.refusal.specs.declared.Refusal.the-variants.{BodyLong, TypeWrong, FlagWrong, PartsDisagree, RouteWrong, TopicWrong, FieldWrong, OutputShort}
 use Rattle.refusal.specs.Answer.{Answer, answered, refuseIf, andThen}
-use Rattle.frame_message.specs.Header.{hasTopic, hasPayload, hasRoute, isKnown, partsFit, fieldsGood}
+use Rattle.frame_message.specs.Header.{hasTopic, hasPayload, hasRoute, isType, areFlags, partsFit, fieldsGood}
 use Rattle.frame_forms.specs.Forms.{routeLength, isRoute, isTopic}
 use Rattle.frame_message.specs.Message.{Message}
 use Rattle.frame_message.specs.Frame.{mostBody, bodyOf, frameOf}
@@ -34,16 +35,17 @@ mostRoutes = 64
 unfoldable pub routesGood : List (List ℕ) → Bool
 routesGood rs = leb (length rs) mostRoutes && allRoutes rs
 
--- the frame of a message, or why it has none: 6 (type and flag 80 only), 7, 8, 9, 10, 3
+-- the frame of a message, or why it has none: 22, 23, 7, 8, 9, 10, 3
 unfoldable pub writing : Message → Answer (List ℕ)
 writing m =
-    refuseIf (not (isKnown (m .header))) HeaderWrong
+    refuseIf (not (isType (m .header .kind))) TypeWrong
+    (refuseIf (not (areFlags (m .header .flags))) FlagWrong
     (refuseIf (not (partsFit (m .header) && partsGivenFit m)) PartsDisagree
     (refuseIf (not (routesGood (m .routes))) RouteWrong
     (refuseIf (hasTopic (m .header .flags) && not (isTopic (m .topic))) TopicWrong
     (refuseIf (not (fieldsGood (m .header))) FieldWrong
     (refuseIf (ltb mostBody (length (bodyOf m))) BodyLong
-    (answered (frameOf m)))))))
+    (answered (frameOf m))))))))
 
 -- the same into an output of so many bytes: 11 comes last
 unfoldable pub writingInto : ℕ → Message → Answer (List ℕ)

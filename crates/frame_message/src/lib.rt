@@ -11,6 +11,9 @@ pub const MOST_BODY: usize = 32768;
 
 pub const MOST_ROUTES: usize = 64;
 
+// The most parts: 64 routes, the delimiter, the topic, the payload and the header.
+pub const MOST_PARTS: usize = 68;
+
 // A route with its size byte, and a header without its size byte and with it.
 pub const ROUTE_PART: usize = 38;
 

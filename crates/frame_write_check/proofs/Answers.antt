@@ -9,10 +9,10 @@ use lib.ListN.{length}
 use borrow.Author.Tests.{not-false, ltb-false}
 use Rattle.refusal.proofs.Answers.{not-answered}
 use Rattle.refusal.specs.declared.Refusal.{Refusal}
-use Rattle.refusal.specs.declared.Refusal.the-variants.{BodyLong, HeaderWrong, PartsDisagree, RouteWrong, TopicWrong, FieldWrong, OutputShort}
+use Rattle.refusal.specs.declared.Refusal.the-variants.{BodyLong, TypeWrong, FlagWrong, PartsDisagree, RouteWrong, TopicWrong, FieldWrong, OutputShort}
 use Rattle.refusal.specs.Answer.{Answer, refused, answered, refuseIf}
 use Rattle.frame_message.specs.declared.Header.{Header}
-use Rattle.frame_message.specs.Header.{hasTopic, isKnown, partsFit, fieldsGood}
+use Rattle.frame_message.specs.Header.{hasTopic, isType, areFlags, partsFit, fieldsGood}
 use Rattle.frame_forms.specs.Forms.{isTopic}
 use Rattle.frame_message.specs.Frame.{bodyOf, frameOf}
 use Rattle.frame_message.specs.Writing.{partsGivenFit, routesGood, cut, writingInto, givenMessage}
@@ -31,15 +31,16 @@ told-frame (refused s) e = absurd (let z : _≡_ {A = ℕ} 0 1 = cc in omega ari
 told-frame (answered frame) e = (frame, refl, cc)
 
 -- an answer at the end of the writer's order has passed all its tests
-no-refusal : (k a r t f l s : Bool) {x : List ℕ} (frame : List ℕ) → refuseIf k HeaderWrong (refuseIf a PartsDisagree (refuseIf r RouteWrong (refuseIf t TopicWrong (refuseIf f FieldWrong (refuseIf l BodyLong (refuseIf s OutputShort (answered x))))))) ≡ answered frame → (frame ≡ x) × (a ≡ false) × (r ≡ false) × (t ≡ false) × (s ≡ false)
-no-refusal true a r t f l s frame e = absurd (not-answered e)
-no-refusal false true r t f l s frame e = absurd (not-answered e)
-no-refusal false false true t f l s frame e = absurd (not-answered e)
-no-refusal false false false true f l s frame e = absurd (not-answered e)
-no-refusal false false false false true l s frame e = absurd (not-answered e)
-no-refusal false false false false false true s frame e = absurd (not-answered e)
-no-refusal false false false false false false true frame e = absurd (not-answered e)
-no-refusal false false false false false false false frame e = (cc, refl, refl, refl, refl)
+no-refusal : (k g a r t f l s : Bool) {x : List ℕ} (frame : List ℕ) → refuseIf k TypeWrong (refuseIf g FlagWrong (refuseIf a PartsDisagree (refuseIf r RouteWrong (refuseIf t TopicWrong (refuseIf f FieldWrong (refuseIf l BodyLong (refuseIf s OutputShort (answered x)))))))) ≡ answered frame → (frame ≡ x) × (a ≡ false) × (r ≡ false) × (t ≡ false) × (s ≡ false)
+no-refusal true g a r t f l s frame e = absurd (not-answered e)
+no-refusal false true a r t f l s frame e = absurd (not-answered e)
+no-refusal false false true r t f l s frame e = absurd (not-answered e)
+no-refusal false false false true t f l s frame e = absurd (not-answered e)
+no-refusal false false false false true f l s frame e = absurd (not-answered e)
+no-refusal false false false false false true l s frame e = absurd (not-answered e)
+no-refusal false false false false false false true s frame e = absurd (not-answered e)
+no-refusal false false false false false false false true frame e = absurd (not-answered e)
+no-refusal false false false false false false false false frame e = (cc, refl, refl, refl, refl)
 
 -- what a frame's length that is told says of the message that is given: its frame is written, which fits, its routes are whole and its topic is short
 pub record Told (room : ℕ) (h : Header) (routes topic payload : List ℕ) (n : ℕ) : Type 0 where
@@ -55,8 +56,8 @@ told-given room h routes topic payload e =
     let m = givenMessage h routes topic payload in
     let told = told-frame (writingInto room m) e in
     let is =
-    no-refusal (not (isKnown h)) (not (partsFit h && partsGivenFit m)) (not (routesGood (cut routes))) (hasTopic (h .flags) && not (isTopic topic)) (not (fieldsGood h)) (ltb 32768 (length (bodyOf m))) (ltb room (length (frameOf m)))
-    (told .0) (order-is h routes topic payload room refl refl refl refl refl ∙ told .1) in
+    no-refusal (not (isType (h .kind))) (not (areFlags (h .flags))) (not (partsFit h && partsGivenFit m)) (not (routesGood (cut routes))) (hasTopic (h .flags) && not (isTopic topic)) (not (fieldsGood h)) (ltb 32768 (length (bodyOf m))) (ltb room (length (frameOf m)))
+    (told .0) (order-is h routes topic payload room refl refl refl refl refl refl ∙ told .1) in
     let long = told .2 ∙ ap length (is .0) in
     record {
       writes = told .1 ∙ ap answered (is .0);

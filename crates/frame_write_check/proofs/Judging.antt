@@ -10,9 +10,9 @@ use lib.ListN.{length}
 use borrow.Author.Tests.{lt-ltb, le-ltb}
 use Rattle.frame_message.specs.declared.Header.{Header}
 use Rattle.refusal.specs.declared.Refusal.{Refusal}
-use Rattle.refusal.specs.declared.Refusal.the-variants.{BodyLong, HeaderWrong, PartsDisagree, RouteWrong, TopicWrong, FieldWrong, OutputShort}
+use Rattle.refusal.specs.declared.Refusal.the-variants.{BodyLong, TypeWrong, FlagWrong, PartsDisagree, RouteWrong, TopicWrong, FieldWrong, OutputShort}
 use Rattle.refusal.specs.Answer.{Answer, refuseIf, andThen}
-use Rattle.frame_message.specs.Header.{hasTopic, hasPayload, hasRoute, isKnown, partsFit, fieldsGood}
+use Rattle.frame_message.specs.Header.{hasTopic, hasPayload, hasRoute, isType, areFlags, partsFit, fieldsGood}
 use Rattle.frame_message.specs.Message.{Message}
 use Rattle.frame_forms.specs.Forms.{isTopic}
 use Rattle.frame_message.specs.Frame.{bodyOf, frameOf}
@@ -35,34 +35,37 @@ then-if : (test : Bool) (r : Refusal) (next : Answer (List ℕ)) (f : List ℕ �
 then-if true r next f = refl
 then-if false r next f = refl
 
--- the order in which 6 to 10 are told, by what their tests found, and what is told after each
-pub record Order (header parts route topic field : Bool) (rest whole : Answer (List ℕ)) : Type 0 where
-  pub order : refuseIf header HeaderWrong (refuseIf parts PartsDisagree (refuseIf route RouteWrong (refuseIf topic TopicWrong (refuseIf field FieldWrong rest)))) ≡ whole
+-- the order in which 22, 23 and 7 to 10 are told, by what their tests found, and what is told after each
+pub record Order (kind flag parts route topic field : Bool) (rest whole : Answer (List ℕ)) : Type 0 where
+  pub order : refuseIf kind TypeWrong (refuseIf flag FlagWrong (refuseIf parts PartsDisagree (refuseIf route RouteWrong (refuseIf topic TopicWrong (refuseIf field FieldWrong rest))))) ≡ whole
 
-module _ {h p r t f : Bool} {rest whole : Answer (List ℕ)} (o : Order h p r t f rest whole) where
-  pub told-header : h ≡ true → Refused HeaderWrong ≡ writtenAs whole
-  told-header e₁ = ap writtenAs (rw e₁ at (o .order))
+module _ {k g p r t f : Bool} {rest whole : Answer (List ℕ)} (o : Order k g p r t f rest whole) where
+  pub told-type : k ≡ true → Refused TypeWrong ≡ writtenAs whole
+  told-type e₁ = ap writtenAs (rw e₁ at (o .order))
 
-  pub told-parts : h ≡ false → p ≡ true → Refused PartsDisagree ≡ writtenAs whole
-  told-parts e₁ e₂ = ap writtenAs (rw (e₁, e₂) at (o .order))
+  pub told-flag : k ≡ false → g ≡ true → Refused FlagWrong ≡ writtenAs whole
+  told-flag e₁ e₂ = ap writtenAs (rw (e₁, e₂) at (o .order))
 
-  pub told-route : h ≡ false → p ≡ false → r ≡ true → Refused RouteWrong ≡ writtenAs whole
-  told-route e₁ e₂ e₃ = ap writtenAs (rw (e₁, e₂, e₃) at (o .order))
+  pub told-parts : k ≡ false → g ≡ false → p ≡ true → Refused PartsDisagree ≡ writtenAs whole
+  told-parts e₁ e₂ e₃ = ap writtenAs (rw (e₁, e₂, e₃) at (o .order))
 
-  pub told-topic : h ≡ false → p ≡ false → r ≡ false → t ≡ true → Refused TopicWrong ≡ writtenAs whole
-  told-topic e₁ e₂ e₃ e₄ = ap writtenAs (rw (e₁, e₂, e₃, e₄) at (o .order))
+  pub told-route : k ≡ false → g ≡ false → p ≡ false → r ≡ true → Refused RouteWrong ≡ writtenAs whole
+  told-route e₁ e₂ e₃ e₄ = ap writtenAs (rw (e₁, e₂, e₃, e₄) at (o .order))
 
-  pub told-field : h ≡ false → p ≡ false → r ≡ false → t ≡ false → f ≡ true → Refused FieldWrong ≡ writtenAs whole
-  told-field e₁ e₂ e₃ e₄ e₅ = ap writtenAs (rw (e₁, e₂, e₃, e₄, e₅) at (o .order))
+  pub told-topic : k ≡ false → g ≡ false → p ≡ false → r ≡ false → t ≡ true → Refused TopicWrong ≡ writtenAs whole
+  told-topic e₁ e₂ e₃ e₄ e₅ = ap writtenAs (rw (e₁, e₂, e₃, e₄, e₅) at (o .order))
 
-  pub told-rest : h ≡ false → p ≡ false → r ≡ false → t ≡ false → f ≡ false → writtenAs rest ≡ writtenAs whole
-  told-rest e₁ e₂ e₃ e₄ e₅ = ap writtenAs (rw (e₁, e₂, e₃, e₄, e₅) at (o .order))
+  pub told-field : k ≡ false → g ≡ false → p ≡ false → r ≡ false → t ≡ false → f ≡ true → Refused FieldWrong ≡ writtenAs whole
+  told-field e₁ e₂ e₃ e₄ e₅ e₆ = ap writtenAs (rw (e₁, e₂, e₃, e₄, e₅, e₆) at (o .order))
+
+  pub told-rest : k ≡ false → g ≡ false → p ≡ false → r ≡ false → t ≡ false → f ≡ false → writtenAs rest ≡ writtenAs whole
+  told-rest e₁ e₂ e₃ e₄ e₅ e₆ = ap writtenAs (rw (e₁, e₂, e₃, e₄, e₅, e₆) at (o .order))
 
 module _ (h : Header) (routes topic payload : List ℕ) where
   -- the writer's order, up to the body's length and the output's
-  pub order-is : (room : ℕ) {k a r t f : Bool} → k ≡ isKnown h → a ≡ (partsFit h && partsGivenFit (givenMessage h routes topic payload)) → r ≡ routesGood (cut routes) → t ≡ (hasTopic (h .flags) && not (isTopic topic)) → f ≡ fieldsGood h → refuseIf (not k) HeaderWrong (refuseIf (not a) PartsDisagree (refuseIf (not r) RouteWrong (refuseIf t TopicWrong (refuseIf (not f) FieldWrong (measured room (givenMessage h routes topic payload)))))) ≡ writingInto room (givenMessage h routes topic payload)
+  pub order-is : (room : ℕ) {k g a r t f : Bool} → k ≡ isType (h .kind) → g ≡ areFlags (h .flags) → a ≡ (partsFit h && partsGivenFit (givenMessage h routes topic payload)) → r ≡ routesGood (cut routes) → t ≡ (hasTopic (h .flags) && not (isTopic topic)) → f ≡ fieldsGood h → refuseIf (not k) TypeWrong (refuseIf (not g) FlagWrong (refuseIf (not a) PartsDisagree (refuseIf (not r) RouteWrong (refuseIf t TopicWrong (refuseIf (not f) FieldWrong (measured room (givenMessage h routes topic payload))))))) ≡ writingInto room (givenMessage h routes topic payload)
   unfolding writingInto writing measured givenMessage
-  order-is room ek ea er et ef = rw (ek, ea, er, et, ef, then-if, then-if, then-if, then-if, then-if, then-if)
+  order-is room ek eg ea er et ef = rw (ek, eg, ea, er, et, ef, then-if, then-if, then-if, then-if, then-if, then-if, then-if)
 
   -- what is known where the parts agree with type and flags
   module _ (agree : (partsFit h && partsGivenFit (givenMessage h routes topic payload)) ≡ true) where

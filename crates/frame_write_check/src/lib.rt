@@ -47,7 +47,7 @@ fn measure(header: Header, routes: &[u8], topic: &[u8], payload: &[u8], room: us
     }
 }
 
-// The refusal, or the length of the frame to be written into so much room: 6, 7, 8, 9, 10, then 3 and 11. All of the first five are looked
+// The refusal, or the length of the frame to be written into so much room: 22, 23, 7, 8, 9, 10, then 3 and 11. All of the first six are looked
 // at before any is told, so that their order stands in one list; a message that is written needs them all anyway.
 pub fn check_message(
     header: Header,
@@ -58,13 +58,17 @@ pub fn check_message(
 ) -> Written
     ensures { λ r. ⌜ r ≡ writtenAs (writingInto room (givenMessage header (was routes) (was topic) (was payload))) ⌝ }
 {
-    let known = frame_header_rules::is_known(header);
+    let typed = frame_header_rules::is_type(header.kind);
+    let clear = frame_header_rules::are_flags(header.flags);
     let agree = frame_write_given::parts_agree(header, routes, topic, payload);
     let good = frame_write_given::routes_good(routes);
     let wrong = topic_wrong(header.flags, topic);
     let fields = frame_header_rules::fields_good(header);
-    if !known {
-        return Written::Refused(Refusal::HeaderWrong);
+    if !typed {
+        return Written::Refused(Refusal::TypeWrong);
+    }
+    if !clear {
+        return Written::Refused(Refusal::FlagWrong);
     }
     if !agree {
         return Written::Refused(Refusal::PartsDisagree);

@@ -6,6 +6,7 @@ ghost use Rattle.frame_message.specs.Writing.{givenMessage};
 ghost use Rattle.table_services.specs.Services;
 ghost use Rattle.table_identities.specs.Identities;
 ghost use Rattle.step_routing.specs.Routed.{tablesOf};
+ghost use Rattle.call_specs.specs.FaultCalls.{ReadsFault};
 ghost use Rattle.call_specs.specs.JsonCalls.{ChecksJson};
 ghost use Rattle.call_specs.specs.Calls.{returned, Reads, headerOf, Writes, ReadsStream, ChecksTree, hostBroker, Steps, Plays};
 
@@ -15,6 +16,14 @@ pub extern "C" fn lampreycoil_read(bytes: &[u8], row: &mut [u8]) -> u32
     ensures { λ r. ⌜ Reads (was bytes) (was row) r (now (row .exit)) ⌝ }
 {
     call_frame::read(bytes, row)
+}
+
+// Tells what is wrong with the frame at the front of bytes: lists the number that a read of it returns, and the byte at fault.
+#[no_mangle]
+pub extern "C" fn lampreycoil_read_fault(bytes: &[u8], row: &mut [u8]) -> u32
+    ensures { λ r. ⌜ ReadsFault (was bytes) (was row) r (now (row .exit)) ⌝ }
+{
+    call_fault::read_fault(bytes, row)
 }
 
 // Writes a message's frame to the front of out, and lists its length. The header's fields come one by one, in the header's order.

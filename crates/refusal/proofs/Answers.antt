@@ -5,7 +5,7 @@ use Prim.Native.Nat.{_<_, _≤_}
 use native.Mathlib.Omega.{arith}
 use Rattle.bytes_number.proofs.Truth.{true-false}
 use Rattle.refusal.specs.declared.Refusal.{Refusal}
-use Rattle.refusal.specs.declared.Refusal.the-variants.{InputShort, StartWrong, BodyLong, PartWrong, PartsMany, HeaderWrong, PartsDisagree, RouteWrong, TopicWrong, FieldWrong, OutputShort, ForwardLong, TreeWrong, ServicesWrong, IdentitiesWrong, RankWrong, NotRouted, NoNeighbour, JsonDeep}
+use Rattle.refusal.specs.declared.Refusal.the-variants.{InputShort, StartWrong, BodyLong, PartWrong, PartsMany, HeaderWrong, PartsDisagree, RouteWrong, TopicWrong, FieldWrong, OutputShort, ForwardLong, TreeWrong, ServicesWrong, IdentitiesWrong, RankWrong, NotRouted, NoNeighbour, MagicWrong, VersionWrong, TypeWrong, FlagWrong, JsonDeep}
 use Rattle.refusal.specs.Refusals.{numberOf}
 use Rattle.refusal.specs.Answer.{Answer, refused, answered, refuseIf, andThen}
 
@@ -30,6 +30,10 @@ number-range IdentitiesWrong = (omega arith, omega arith)
 number-range RankWrong = (omega arith, omega arith)
 number-range NotRouted = (omega arith, omega arith)
 number-range NoNeighbour = (omega arith, omega arith)
+number-range MagicWrong = (omega arith, omega arith)
+number-range VersionWrong = (omega arith, omega arith)
+number-range TypeWrong = (omega arith, omega arith)
+number-range FlagWrong = (omega arith, omega arith)
 number-range JsonDeep = (omega arith, omega arith)
 
 -- 0 is no refusal's number
@@ -60,6 +64,15 @@ passed false r next x e = record { test = refl; rest = e }
 pub pass : {A : Type 0} (t : Bool) (r : Refusal) (next : Answer A) → t ≡ false → refuseIf t r next ≡ next
 pass true r next e = absurd (true-false e)
 pass false r next e = refl
+
+-- a refusal is that of the test, which then holds, or comes of what is next
+pub data Refuses {A : Type 0} (t : Bool) (q : Refusal) (next : Answer A) (r : Refusal) : Type 0 where
+  here : t ≡ true → q ≡ r → Refuses t q next r
+  later : t ≡ false → next ≡ refused r → Refuses t q next r
+
+pub refuses : {A : Type 0} (t : Bool) (q : Refusal) (next : Answer A) (r : Refusal) → refuseIf t q next ≡ refused r → Refuses t q next r
+refuses true q next r e = here refl (refused-same e)
+refuses false q next r e = later refl e
 
 -- where an answer came of two, each gave one
 pub record Both {A B : Type 0} (a : Answer A) (f : A → Answer B) (y : B) : Type 0 where

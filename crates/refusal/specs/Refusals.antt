@@ -1,7 +1,7 @@
 -- The paper's numbers: "Numbers for a no".
 use Prim.Native.Nat.{ℕ}
 use Rattle.refusal.specs.declared.Refusal.{Refusal}
-use Rattle.refusal.specs.declared.Refusal.the-variants.{InputShort, StartWrong, BodyLong, PartWrong, PartsMany, HeaderWrong, PartsDisagree, RouteWrong, TopicWrong, FieldWrong, OutputShort, ForwardLong, TreeWrong, ServicesWrong, IdentitiesWrong, RankWrong, NotRouted, NoNeighbour, JsonDeep}
+use Rattle.refusal.specs.declared.Refusal.the-variants.{InputShort, StartWrong, BodyLong, PartWrong, PartsMany, HeaderWrong, PartsDisagree, RouteWrong, TopicWrong, FieldWrong, OutputShort, ForwardLong, TreeWrong, ServicesWrong, IdentitiesWrong, RankWrong, NotRouted, NoNeighbour, MagicWrong, VersionWrong, TypeWrong, FlagWrong, JsonDeep}
 
 abbrev pub numberOf : Refusal → ℕ
 -- "fewer than 8 bytes, or fewer than 8 plus the body length"
@@ -14,7 +14,7 @@ numberOf BodyLong = 3
 numberOf PartWrong = 4
 -- "a 69th part begins"
 numberOf PartsMany = 5
--- "no part at all; last part not 20 bytes; its magic, version, type or flag 80 wrong"
+-- "no part or wrong header length" (paper 02, ticket 4)
 numberOf HeaderWrong = 6
 -- "parts disagree with type or flags"
 numberOf PartsDisagree = 7
@@ -38,5 +38,10 @@ numberOf RankWrong = 17
 numberOf NotRouted = 18
 -- "a response's top route is a broker that is no neighbour, itself included"
 numberOf NoNeighbour = 19
+-- "20 magic, 21 version, 22 type, 23 flag 80" (paper 02, ticket 4)
+numberOf MagicWrong = 20
+numberOf VersionWrong = 21
+numberOf TypeWrong = 22
+numberOf FlagWrong = 23
 -- "at most 32 deep with the outer object as 1; deeper is 26" (paper 02, ticket 2)
 numberOf JsonDeep = 26

@@ -22,6 +22,10 @@ pub enum Refusal {
     RankWrong,
     NotRouted,
     NoNeighbour,
+    MagicWrong,
+    VersionWrong,
+    TypeWrong,
+    FlagWrong,
     JsonDeep,
 }
 
@@ -48,6 +52,10 @@ pub fn number(r: Refusal) -> u32
         Refusal::RankWrong => 17,
         Refusal::NotRouted => 18,
         Refusal::NoNeighbour => 19,
+        Refusal::MagicWrong => 20,
+        Refusal::VersionWrong => 21,
+        Refusal::TypeWrong => 22,
+        Refusal::FlagWrong => 23,
         Refusal::JsonDeep => 26,
     }
 }

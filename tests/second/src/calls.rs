@@ -14,6 +14,7 @@ use crate::write::Message;
 use crate::{read, tables, write};
 
 pub const READ_RECORD_LEN: usize = 52;
+pub const FAULT_RECORD_LEN: usize = 8;
 pub const STREAM_RECORD_LEN: usize = 12;
 pub const WRITE_RECORD_LEN: usize = 4;
 pub const TREE_RECORD_LEN: usize = 4;
@@ -33,6 +34,19 @@ pub fn read_call(bytes: &[u8], record: &mut [u8]) -> u32 {
         }
         Err(refusal) => refusal as u32,
     }
+}
+
+/// What the reader answers, told in the record too, with the byte at fault.
+pub fn read_fault_call(bytes: &[u8], record: &mut [u8]) -> u32 {
+    let Some(record) = record.get_mut(..FAULT_RECORD_LEN) else {
+        return Refusal::OutputTooShort as u32;
+    };
+    let (refusal, byte) = match read::read_fault(bytes) {
+        Ok(_) => (0, 0),
+        Err(fault) => (fault.refusal as u32, fault.byte as u32),
+    };
+    put_numbers(record, &[refusal, byte]);
+    refusal
 }
 
 /// The refusal that stopped the stream is told in the record alone.
@@ -195,6 +209,21 @@ pub unsafe extern "C" fn second_read(
     record_len: usize,
 ) -> u32 {
     read_call(
+        from_raw_parts(bytes, bytes_len),
+        from_raw_parts_mut(record, record_len),
+    )
+}
+
+/// # Safety
+/// Each pointer with its length is a slice that lives through the call and overlaps no other.
+#[inline(never)]
+pub unsafe extern "C" fn second_read_fault(
+    bytes: *const u8,
+    bytes_len: usize,
+    record: *mut u8,
+    record_len: usize,
+) -> u32 {
+    read_fault_call(
         from_raw_parts(bytes, bytes_len),
         from_raw_parts_mut(record, record_len),
     )

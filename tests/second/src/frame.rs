@@ -16,6 +16,9 @@ pub const LONG_SIZE: u8 = 255;
 
 pub const HEADER_MAGIC: u8 = 0x8E;
 pub const HEADER_VERSION: u8 = 0x01;
+/// Where the last two fields begin in the header.
+pub const FIRST_AT: usize = 12;
+pub const SECOND_AT: usize = 16;
 
 pub const REQUEST: u8 = 1;
 pub const RESPONSE: u8 = 2;
@@ -44,7 +47,7 @@ pub enum Refusal {
     BodyTooLong = 3,
     PartPastEnd = 4,
     TooManyParts = 5,
-    WrongHeader = 6,
+    WrongHeaderLength = 6,
     PartsDisagree = 7,
     WrongRoute = 8,
     WrongTopic = 9,
@@ -57,6 +60,10 @@ pub enum Refusal {
     WrongRank = 17,
     NotRouted = 18,
     NoNeighbour = 19,
+    WrongHeaderMagic = 20,
+    WrongVersion = 21,
+    WrongType = 22,
+    RefusedFlag = 23,
     TooDeep = 26,
 }
 
@@ -76,9 +83,9 @@ impl Header {
         self.flags & flag != 0
     }
 
-    /// A type that there is, and no flag that is refused.
-    pub fn is_known(&self) -> bool {
-        matches!(self.kind, REQUEST | RESPONSE | EVENT | CONTROL) && !self.has(FLAG_REFUSED)
+    /// A type that there is.
+    pub fn has_known_type(&self) -> bool {
+        matches!(self.kind, REQUEST | RESPONSE | EVENT | CONTROL)
     }
 
     /// The type's required parts are flagged and its forbidden ones are not.
@@ -90,12 +97,12 @@ impl Header {
         }
     }
 
-    /// The two values that a last field may not have.
-    pub fn fields_fit_type(&self) -> bool {
+    /// Where in the header the field begins that has a value which its type forbids.
+    pub fn wrong_field(&self) -> Option<usize> {
         match self.kind {
-            REQUEST => self.first != NODEID_UPSTREAM,
-            EVENT => self.second == 0,
-            _ => true,
+            REQUEST if self.first == NODEID_UPSTREAM => Some(FIRST_AT),
+            EVENT if self.second != 0 => Some(SECOND_AT),
+            _ => None,
         }
     }
 }

@@ -7,6 +7,8 @@
 
 pub mod calls;
 pub mod demand3;
+#[cfg(test)]
+mod fault_tests;
 pub mod floor;
 pub mod frame;
 pub mod json;

@@ -8,6 +8,13 @@ extern "C" {
         record_len: usize,
     ) -> u32;
 
+    pub fn lampreycoil_read_fault(
+        bytes: *const u8,
+        bytes_len: usize,
+        record: *mut u8,
+        record_len: usize,
+    ) -> u32;
+
     pub fn lampreycoil_read_stream(
         bytes: *const u8,
         bytes_len: usize,

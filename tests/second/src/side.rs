@@ -27,6 +27,7 @@ type StepCall = unsafe extern "C" fn(
 pub struct Side {
     pub name: &'static str,
     read: ReadCall,
+    read_fault: ReadCall,
     read_stream: StreamCall,
     write: WriteCall,
     check_tree: TreeCall,
@@ -40,6 +41,7 @@ pub struct Side {
 pub const LIBRARY: Side = Side {
     name: "library",
     read: library::lampreycoil_read,
+    read_fault: library::lampreycoil_read_fault,
     read_stream: library::lampreycoil_read_stream,
     write: library::lampreycoil_write,
     check_tree: library::lampreycoil_check_tree,
@@ -53,6 +55,7 @@ pub const LIBRARY: Side = Side {
 pub const SECOND: Side = Side {
     name: "second",
     read: calls::second_read,
+    read_fault: calls::second_read_fault,
     read_stream: calls::second_read_stream,
     write: calls::second_write,
     check_tree: calls::second_check_tree,
@@ -65,15 +68,11 @@ pub const SECOND: Side = Side {
 
 impl Side {
     pub fn read(&self, bytes: &[u8], record: &mut [u8]) -> u32 {
-        // Safe: both slices live through the call, and record is lent to it alone.
-        unsafe {
-            (self.read)(
-                bytes.as_ptr(),
-                bytes.len(),
-                record.as_mut_ptr(),
-                record.len(),
-            )
-        }
+        bytes_and_record(self.read, bytes, record)
+    }
+
+    pub fn read_fault(&self, bytes: &[u8], record: &mut [u8]) -> u32 {
+        bytes_and_record(self.read_fault, bytes, record)
     }
 
     pub fn read_stream(&self, bytes: &[u8], list: &mut [u8], record: &mut [u8]) -> u32 {
@@ -185,15 +184,21 @@ impl Side {
             )
         }
     }
+
     pub fn check_json(&self, payload: &[u8], record: &mut [u8]) -> u32 {
-        // Safe: both slices live through the call, and record is lent to it alone.
-        unsafe {
-            (self.check_json)(
-                payload.as_ptr(),
-                payload.len(),
-                record.as_mut_ptr(),
-                record.len(),
-            )
-        }
+        bytes_and_record(self.check_json, payload, record)
+    }
+}
+
+/// A call that is lent bytes to read and a record to write.
+fn bytes_and_record(call: ReadCall, bytes: &[u8], record: &mut [u8]) -> u32 {
+    // Safe: both slices live through the call, and record is lent to it alone.
+    unsafe {
+        call(
+            bytes.as_ptr(),
+            bytes.len(),
+            record.as_mut_ptr(),
+            record.len(),
+        )
     }
 }

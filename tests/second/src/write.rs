@@ -30,8 +30,11 @@ pub fn write(message: &Message, out: &mut [u8]) -> Result<usize, Refusal> {
 /// Everything but the lengths of body and output, in the paper's order.
 fn check(message: &Message) -> Result<(), Refusal> {
     let header = &message.header;
-    if !header.is_known() {
-        return Err(Refusal::WrongHeader);
+    if !header.has_known_type() {
+        return Err(Refusal::WrongType);
+    }
+    if header.has(FLAG_REFUSED) {
+        return Err(Refusal::RefusedFlag);
     }
     // A part that is not empty needs its flag; a flag may stand with an empty part.
     let unflagged = (!message.routes.is_empty() && !header.has(FLAG_ROUTE))
@@ -48,7 +51,7 @@ fn check(message: &Message) -> Result<(), Refusal> {
     if header.has(FLAG_TOPIC) && !is_topic(message.topic) {
         return Err(Refusal::WrongTopic);
     }
-    if !header.fields_fit_type() {
+    if header.wrong_field().is_some() {
         return Err(Refusal::WrongField);
     }
     Ok(())

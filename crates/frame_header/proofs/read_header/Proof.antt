@@ -2,34 +2,26 @@
 use borrow.Author.Needs.{needs}
 use native.Mathlib.Omega.{arith}
 use mathlib.Core.Path.{_≡_, sym, ap, _∙_}
-use Prim.Native.Nat.{ℕ}
+use mathlib.Core.Bool.{true}
 use mathlib.Core.List.{List}
-use lib.ListN.{length, getD}
-use Rattle.frame_header.proofs.Heads.{head-length, head-magic, head-version, head-unknown, head-known}
+use Prim.Native.Nat.{ℕ}
+use borrow.Author.Tests.{not-true, not-false}
+use lib.ListN.{getD}
+use Rattle.frame_message.specs.Header.{isType}
 use Rattle.frame_header.specs.declared.Head.the-variants.{Fields}
-use Rattle.frame_message.specs.Header.{isKnown, headerIn}
+use Rattle.frame_header.proofs.Heads.{head-length, head-magic, head-version, head-type, head-flag, head-fields}
 use Rattle.frame_header.proofs.read_header.Statement.{statement}
 use Rattle.frame_header.proofs.read_header.Tie as tie
 
--- the length, the magic and the version are right, and the fields are read
-module _ (d : tie.After-is-known) where
-  abbrev third : tie.Else3
-  third = d .before .before
+-- the bytes of the part, where its type and where its flags were looked at
+abbrev typed : tie.After-is-type → List ℕ
+typed k = k .before .before .before .before .before .before .before .before .args .p .now
 
-  abbrev bytes : List ℕ
-  bytes = third .before .before .before .before .before .before .args .p .now
+abbrev flagged : tie.After-are-flags → List ℕ
+flagged k = typed (k .before .before .before)
 
-  long : length bytes ≡ 20
-  long = omega (arith, third .before .before .before .before .if1 .left)
-
-  magic-is : getD bytes 0 0 ≡ 142
-  magic-is = omega (arith, third .before .before .if2 .left)
-
-  version-is : getD bytes 1 0 ≡ 1
-  version-is = omega (arith, third .if3 .left)
-
-  known-is : isKnown (headerIn bytes) ≡ d .is-known .result
-  known-is = ap isKnown (sym (d .before .fields .ensures)) ∙ sym (d .is-known .ensures)
+known : (k : tie.After-are-flags) → isType (getD (flagged k) 2 0) ≡ true
+known k = sym (k .before .before .before .is-type .ensures) ∙ not-false _ (k .before .before .if4 .left)
 
 returns : tie.Need-returns
 returns c = head-length (c .before .before .args .p .now) (λ e. omega (arith, c .if1 .taken))
@@ -38,27 +30,40 @@ shared-slice-read-if2 : tie.Need-shared-slice-read-if2
 shared-slice-read-if2 c = search needs
 
 returns-2 : tie.Need-returns-2
-returns-2 c = head-magic (c .before .before .before .before .args .p .now) (omega (arith, c .before .before .if1 .left)) (λ e. omega (arith, c .if2 .taken))
+returns-2 c = head-magic (c .before .before .before .before .args .p .now) (search needs) (λ e. omega (arith, c .if2 .taken))
 
 shared-slice-read-if3 : tie.Need-shared-slice-read-if3
 shared-slice-read-if3 c = search needs
 
 returns-3 : tie.Need-returns-3
-returns-3 c = head-version (c .before .before .before .before .before .before .args .p .now) (omega (arith, c .before .before .before .before .if1 .left)) (omega (arith, c .before .before .if2 .left)) (λ e. omega (arith, c .if3 .taken))
+returns-3 c = head-version (c .before .before .before .before .before .before .args .p .now) (search needs) (search needs) (λ e. omega (arith, c .if3 .taken))
+
+shared-slice-read-is-type : tie.Need-shared-slice-read-is-type
+shared-slice-read-is-type c = search needs
+
+is-type-requires : tie.Need-is-type-requires
+is-type-requires c κs = search needs
+
+returns-4 : tie.Need-returns-4
+returns-4 c = let k = c .before in
+    head-type (typed k) (search needs) (search needs) (search needs) (sym (k .is-type .ensures) ∙ not-true _ (c .if4 .taken))
+
+shared-slice-read-are-flags : tie.Need-shared-slice-read-are-flags
+shared-slice-read-are-flags c = search needs
+
+are-flags-requires : tie.Need-are-flags-requires
+are-flags-requires c κs = search needs
+
+returns-5 : tie.Need-returns-5
+returns-5 c = let k = c .before in
+    head-flag (flagged k) (search needs) (search needs) (search needs) (known k) (sym (k .are-flags .ensures) ∙ not-true _ (c .if5 .taken))
 
 fields-requires : tie.Need-fields-requires
 fields-requires c κs = search needs
 
-is-known-requires : tie.Need-is-known-requires
-is-known-requires c κs = search needs
-
-returns-4 : tie.Need-returns-4
-returns-4 c = let d = c .before in
-    ap Fields (d .before .fields .ensures) ∙ head-known (bytes d) (long d) (magic-is d) (version-is d) (known-is d ∙ c .if4 .taken)
-
-returns-5 : tie.Need-returns-5
-returns-5 c = let d = c .before in
-    head-unknown (bytes d) (long d) (magic-is d) (version-is d) (known-is d ∙ c .if4 .left)
+returns-6 : tie.Need-returns-6
+returns-6 c = let k = c .before .before in
+    ap Fields (c .fields .ensures) ∙ head-fields (flagged k) (search needs) (search needs) (search needs) (known k) (sym (k .are-flags .ensures) ∙ not-false _ (c .before .if5 .left))
 
 pub read-header-spec : {M : Type 1} → statement M
 read-header-spec =
@@ -69,7 +74,11 @@ read-header-spec =
     returns-2
     shared-slice-read-if3
     returns-3
-    fields-requires
-    is-known-requires
+    shared-slice-read-is-type
+    is-type-requires
     returns-4
-    returns-5)
+    shared-slice-read-are-flags
+    are-flags-requires
+    returns-5
+    fields-requires
+    returns-6)

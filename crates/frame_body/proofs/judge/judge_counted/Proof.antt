@@ -33,14 +33,14 @@ part-read-header-end c = search needs
 read-header-requires : tie.Need-read-header-requires
 read-header-requires c κs = search needs
 
-enum-told : tie.Need-enum-told
-enum-told c = search needs
+enum-known-why : tie.Need-enum-known-why
+enum-known-why c = search needs
 
 enum-known-h : tie.Need-enum-known-h
 enum-known-h c = search needs
 
 -- the header is right, and its fields are those that were read
-module _ (c : tie.After-known-told) where
+module _ (c : tie.After-known-told2) where
   abbrev test : tie.Else1
   test = c .before .before .before .before .before
 
@@ -52,9 +52,10 @@ judge-parts-requires c κs = let s = test c .before in
     headed _ (bytes s) _ (s .before .pre .1) (test c .if1 .left) _ (read c ∙ c .before .before .before .read-header .ensures) (s .before .pre .0)
 
 returns-2 : tie.Need-returns-2
-returns-2 c = let e = c .before .before .before .before in
+returns-2 c = let k = c .before .before .before in
+    let e = k .before .before in
     let s = e .before in
-    sym (ap readAs (head-wrong _ (bytes s) _ (s .before .pre .1) (e .if1 .left) (sym (c .enum-told .given .1) ∙ c .before .before .read-header .ensures)))
+    sym (ap readAs (head-wrong _ (bytes s) _ (s .before .pre .1) (e .if1 .left) (sym (c .before .why .given .1) ∙ k .read-header .ensures)))
 
 returns-3 : tie.Need-returns-3
 returns-3 c = let k = c .before in
@@ -73,7 +74,7 @@ judge-counted-spec =
     part-read-header-start
     part-read-header-end
     read-header-requires
-    enum-told
+    enum-known-why
     enum-known-h
     judge-parts-requires
     returns-2

@@ -21,6 +21,8 @@ pub struct Draft {
     pub no_header: bool,
     /// Gives the first part a 4-byte size, whatever its length is.
     pub long_first: bool,
+    /// Gives the part of this number, from 0, a size that passes the body's end.
+    pub past_end: Option<usize>,
     /// Bytes of the body behind the header that form no right part.
     pub raw: Vec<u8>,
     /// Only so many bytes of the frame are there.
@@ -43,6 +45,7 @@ impl Draft {
             header: header(8, 0, 2, 3),
             no_header: false,
             long_first: false,
+            past_end: None,
             raw: Vec::new(),
             keep: None,
             cut: 0,
@@ -97,10 +100,7 @@ impl Draft {
     }
 
     pub fn bytes(&self) -> Vec<u8> {
-        let mut body = Vec::new();
-        for (number, part) in self.parts().into_iter().enumerate() {
-            push_part(&mut body, part, self.long_first && number == 0);
-        }
+        let (mut body, _) = self.body();
         body.extend_from_slice(&self.raw);
         let length = self.body_length.unwrap_or(body.len() as u32);
         let mut frame = [&self.magic[..], &length.to_be_bytes(), &body].concat();
@@ -110,6 +110,44 @@ impl Draft {
         }
         frame
     }
+
+    /// Where the parts lie, counted from the frame's front. What lies behind the header counts as a
+    /// part of its own.
+    pub fn places(&self) -> Vec<Place> {
+        let (body, mut places) = self.body();
+        if !self.raw.is_empty() {
+            let size = 8 + body.len();
+            places.push(Place {
+                size,
+                data: size + 1,
+            });
+        }
+        places
+    }
+
+    /// The parts with their sizes.
+    fn body(&self) -> (Vec<u8>, Vec<Place>) {
+        let (mut body, mut places) = (Vec::new(), Vec::new());
+        for (number, part) in self.parts().into_iter().enumerate() {
+            let size = 8 + body.len();
+            if self.past_end == Some(number) {
+                body.extend_from_slice(&[255, 0, 1, 0, 0]);
+                body.extend_from_slice(part);
+            } else {
+                push_part(&mut body, part, self.long_first && number == 0);
+            }
+            let data = 8 + body.len() - part.len();
+            places.push(Place { size, data });
+        }
+        (body, places)
+    }
+}
+
+/// Where a part's size begins, and where its data does.
+#[derive(Clone, Copy)]
+pub struct Place {
+    pub size: usize,
+    pub data: usize,
 }
 
 pub fn push_part(body: &mut Vec<u8>, data: &[u8], always_long: bool) {
@@ -183,6 +221,11 @@ pub fn fits_route(place: usize, byte: u8) -> bool {
         8 | 13 | 18 | 23 => byte == b'-',
         _ => b"0123456789abcdef".contains(&byte),
     }
+}
+
+/// A route of the form, straight from the paper.
+pub fn is_right_route(part: &[u8]) -> bool {
+    part.len() == 37 && (0..37).all(|place| fits_route(place, part[place]))
 }
 
 /// Values of a header's field: each single bit, all but each, and the ends of the range.

@@ -1,13 +1,16 @@
 //! The check of JSON on both programs.
 
-use second::calls::JSON_RECORD_LEN;
-use second::frame::number_at;
 use second::side::{Side, LIBRARY, SECOND};
 
-use crate::tester::{front, named, Call, Expect, Tester};
+use crate::tester::{ReadCase, Tester};
+pub use crate::two_numbers::RECORD;
+use crate::two_numbers::{Answer, TwoNumbers};
 
-/// Bytes of the check's record.
-pub const RECORD: usize = 8;
+const CHECK_JSON: TwoNumbers = TwoNumbers {
+    name: "lampreycoil_check_json",
+    input: "payload",
+    call: Side::check_json,
+};
 /// Longer payloads have no room among the guards.
 const SHOWN_WHOLE: usize = 1 << 21;
 
@@ -36,30 +39,14 @@ pub enum Told {
     TooDeep(usize),
 }
 
-/// What a program answered; the numbers are only there if the record has room for them.
-#[derive(Clone, Copy, Debug, PartialEq, Eq)]
-pub struct JsonAnswer {
-    pub refusal: u32,
-    /// Answer and byte.
-    pub numbers: [u32; 2],
-}
-
-impl JsonAnswer {
-    /// That of a record that is too short.
-    const NOTHING: JsonAnswer = JsonAnswer {
-        refusal: 11,
-        numbers: [0; 2],
-    };
-}
-
 impl Told {
-    pub fn answer(self) -> JsonAnswer {
+    pub fn answer(self) -> Answer {
         let (refusal, answer, byte) = match self {
             Told::Yes => (0, 1, 0),
             Told::No(byte) => (0, 2, byte),
             Told::TooDeep(byte) => (26, 0, byte),
         };
-        JsonAnswer {
+        Answer {
             refusal,
             numbers: [answer, byte as u32],
         }
@@ -92,7 +79,7 @@ impl Tester {
     }
 
     /// A call without guards. If it fails and is to be shown, it is made again with them.
-    pub fn quick_json(&mut self, payload: &[u8], told: Option<Told>) -> JsonAnswer {
+    pub fn quick_json(&mut self, payload: &[u8], told: Option<Told>) -> Answer {
         let [library, second] = [LIBRARY, SECOND].map(|side| answer_of(&side, payload));
         if library == second && told.is_none_or(|told| told.answer() == library) {
             self.count(library.refusal);
@@ -108,35 +95,14 @@ impl Tester {
         library
     }
 
-    pub fn json(&mut self, case: &JsonCase, told: Option<Told>) -> JsonAnswer {
-        let short = case.record_len < RECORD;
-        let right = match short {
-            true => Some(JsonAnswer::NOTHING),
-            false => told.map(Told::answer),
+    pub fn json(&mut self, case: &JsonCase, told: Option<Told>) -> Answer {
+        let right = Answer::due(case.record_len, told.map(Told::answer));
+        let lent = ReadCase {
+            bytes: case.payload,
+            behind: case.behind,
+            record_len: case.record_len,
         };
-        self.arena.start();
-        let payload = self.arena.lend(case.payload, case.behind);
-        let record = self.arena.lend_room(case.record_len);
-        self.arena.seal();
-        let refusals = self.on_both([&payload, &record], |side, [payload, record]| {
-            side.check_json(payload, record)
-        });
-        // A payload that is too deep is told in the record as well.
-        let written = match short {
-            true => vec![],
-            false => vec![front(&record, JSON_RECORD_LEN)],
-        };
-        let expect = right.map_or(Expect::Agreed, |right| Expect::Number(right.refusal));
-        self.judge_all(refusals, expect, [&written, &written], || Call {
-            name: "lampreycoil_check_json",
-            numbers: String::new(),
-            inputs: named(["payload"], [&payload]),
-            rooms: named(["record"], [&record]),
-        });
-        let answer = match short {
-            true => JsonAnswer::NOTHING,
-            false => answer_in(refusals[0], &self.arena.after[0][record]),
-        };
+        let answer = self.two_numbers(&CHECK_JSON, &lent, right);
         self.require(right.is_none_or(|right| right == answer), || {
             let text = String::from_utf8_lossy(case.payload);
             let text: String = text.chars().take(200).collect();
@@ -146,7 +112,7 @@ impl Tester {
         answer
     }
 
-    fn count_json(&mut self, answer: JsonAnswer) {
+    fn count_json(&mut self, answer: Answer) {
         if answer == Told::Yes.answer() {
             self.count_yes();
         }
@@ -160,16 +126,6 @@ impl Tester {
 }
 
 /// What one program says of a payload.
-pub fn answer_of(side: &Side, payload: &[u8]) -> JsonAnswer {
-    // Rubbish, so that a number that is not written is seen.
-    let mut record = [0xA7; RECORD];
-    let refusal = side.check_json(payload, &mut record);
-    answer_in(refusal, &record)
-}
-
-fn answer_in(refusal: u32, record: &[u8]) -> JsonAnswer {
-    JsonAnswer {
-        refusal,
-        numbers: [0, 4].map(|at| number_at(record, at)),
-    }
+pub fn answer_of(side: &Side, payload: &[u8]) -> Answer {
+    CHECK_JSON.answer_of(side, payload)
 }

@@ -3,10 +3,11 @@
 
 use second::side::{LIBRARY, SECOND};
 
-use crate::json_calls::{answer_of, JsonAnswer, Told};
+use crate::json_calls::{answer_of, Told};
 use crate::long_lengths::{ABOVE, FRONT};
 use crate::pages::Repeated;
 use crate::tester::{hex, Tester};
+use crate::two_numbers::Answer;
 
 /// Lengths that are small, or none, if they are cut to 32 bits.
 const LENGTHS: [usize; 3] = [1 << 32, (1 << 32) + 3, ABOVE];
@@ -49,7 +50,7 @@ pub fn far_bytes(tester: &mut Tester, memory: &mut Repeated) {
     }
 }
 
-fn same(tester: &mut Tester, name: &str, answer: JsonAnswer, told: Told) {
+fn same(tester: &mut Tester, name: &str, answer: Answer, told: Told) {
     tester.count(answer.refusal);
     let right = told.answer();
     tester.require(answer == right, || {

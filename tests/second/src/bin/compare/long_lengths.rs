@@ -53,6 +53,7 @@ fn given(tester: &mut Tester, memory: Result<Repeated, Error>) -> Option<Repeate
 
 fn run_in(tester: &mut Tester, memory: &mut Repeated) {
     read_above(tester, memory.bytes());
+    fault_above(tester, memory.bytes());
     unchanged(tester, memory, "read");
     write_above(tester, memory.bytes());
     unchanged(tester, memory, "write");
@@ -87,6 +88,27 @@ fn read_above(tester: &mut Tester, bytes: &mut [u8]) {
                 format!("library and second answered {answers:?} to {len} bytes")
             });
         });
+    }
+}
+
+/// A frame that is refused at the front of as many bytes: the same number and byte.
+fn fault_above(tester: &mut Tester, bytes: &mut [u8]) {
+    let mut draft = Draft::request(1, b"log", Some(b"payload"));
+    draft.header[2] = 3;
+    let frame = draft.bytes();
+    let told = [22, frame.len() as u32 - 18].map(u32::to_be_bytes).concat();
+    bytes[..frame.len()].copy_from_slice(&frame);
+    for len in [1 << 32, (1 << 32) + 5, ABOVE, frame.len()] {
+        for side in [LIBRARY, SECOND] {
+            tester.case("fault", len as u64, 22, |tester| {
+                let mut record = [0xA7; 8];
+                let answer = side.read_fault(&bytes[..len], &mut record);
+                tester.count(answer);
+                tester.require(answer == 22 && record[..] == told, || {
+                    format!("{} answered {answer} and {}", side.name, hex(&record))
+                });
+            });
+        }
     }
 }
 

@@ -9,6 +9,10 @@
 mod arena;
 mod crash;
 mod draft;
+mod fault;
+mod fault_calls;
+mod fault_parts;
+mod fault_routes;
 mod faults;
 mod json_bytes;
 mod json_calls;
@@ -29,6 +33,8 @@ mod paper;
 mod paper_floor;
 mod reader_bounds;
 mod reader_order;
+mod repairs;
+mod repairs_of_one;
 mod seeded;
 mod seeded_json;
 mod seeded_steps;
@@ -47,6 +53,7 @@ mod stream_parts;
 mod table_bounds;
 mod table_calls;
 mod tester;
+mod two_numbers;
 mod upstream;
 mod walk_bounds;
 mod walk_calls;
@@ -94,6 +101,7 @@ fn frame_groups() -> Vec<Group> {
         group("paper", 0, |tester, _| paper::run(tester)),
         group("reader-bounds", 0, |tester, _| reader_bounds::run(tester)),
         group("reader-order", 0, |tester, _| reader_order::run(tester)),
+        group("fault", 0, |tester, _| fault::run(tester)),
         group("writer-bounds", 0, |tester, _| writer_bounds::run(tester)),
         group("writer-order", 0, |tester, _| writer_order::run(tester)),
         group("long-lengths", 0, |tester, _| long_lengths::run(tester)),

@@ -283,10 +283,10 @@ fn headers(tester: &mut Tester) {
         number(tester, "header length", len, &draft.bytes(), refusal);
     }
     for byte in 0..=255 {
-        for (at, right) in [(0, 0x8E), (1, 0x01)] {
+        for (at, right, wrong) in [(0, 0x8E, 20), (1, 0x01, 21)] {
             let mut draft = Draft::control();
             draft.header[at] = byte;
-            let refusal = if byte == right { 0 } else { 6 };
+            let refusal = if byte == right { 0 } else { wrong };
             number(tester, "header byte", at, &draft.bytes(), refusal);
         }
     }
@@ -340,8 +340,11 @@ fn with_parts(present: u8) -> (Draft, u8) {
 }
 
 fn flags_expected(kind: u8, flags: u8, bits: u8) -> Expect {
-    if ![1, 2, 4, 8].contains(&kind) || flags & 0x80 != 0 {
-        return Expect::Number(6);
+    if ![1, 2, 4, 8].contains(&kind) {
+        return Expect::Number(22);
+    }
+    if flags & 0x80 != 0 {
+        return Expect::Number(23);
     }
     if flags & 0x0B != bits {
         return Expect::Refused;

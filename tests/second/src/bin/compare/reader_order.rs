@@ -6,9 +6,24 @@ use crate::tester::{Expect, ReadCase, Tester};
 
 /// A frame with faults and the record that it is read into.
 #[derive(Clone)]
-struct Attempt {
-    draft: Draft,
-    record_len: usize,
+pub struct Attempt {
+    pub draft: Draft,
+    /// So many bytes are missing from the record.
+    record_lacks: usize,
+}
+
+impl Attempt {
+    fn new(draft: Draft) -> Attempt {
+        Attempt {
+            draft,
+            record_lacks: 0,
+        }
+    }
+
+    /// The length of a record that has this one if nothing is missing.
+    pub fn record_len(&self, whole: usize) -> usize {
+        whole.saturating_sub(self.record_lacks)
+    }
 }
 
 /// Where a fault stands in the reader's order.
@@ -20,10 +35,15 @@ enum Stage {
     BodyTooLong,
     BodyMissing,
     FirstPart,
+    SecondPart,
     Part69,
     PartBehindHeader,
     NoPart,
-    Header,
+    HeaderLength,
+    HeaderMagic,
+    Version,
+    Type,
+    Flag80,
     PartsDisagree,
     Route,
     Topic,
@@ -31,34 +51,54 @@ enum Stage {
 }
 
 type Fault = faults::Fault<Stage, Draft, Attempt>;
+type Label = (&'static str, u64, u64);
 
 pub fn run(tester: &mut Tester) {
     tester.begin_group("reader-order");
-    let faults = faults();
-    let mut pairs = [[false; 12]; 12];
-    for (base, draft) in bases().into_iter().enumerate() {
-        let attempt = Attempt {
-            draft,
-            record_len: 52,
+    let remark = each_attempt(tester, bases(), |tester, label, attempt, number| {
+        let bytes = attempt.draft.bytes();
+        let case = ReadCase {
+            record_len: attempt.record_len(52),
+            ..ReadCase::new(&bytes)
         };
-        let fitting = |fault: &&Fault| (fault.fits)(&attempt.draft);
-        for first in faults.iter().filter(fitting) {
-            alone(tester, base, &attempt, first);
-            for second in faults.iter().filter(fitting) {
-                if first.stage < second.stage && both_can_be(first, second) {
-                    together(tester, base, &attempt, [first, second]);
-                    let [low, high] = in_order(first.number, second.number);
-                    pairs[low][high] = true;
-                }
-            }
-        }
-    }
-    let numbers: Vec<usize> = (1..=11).collect();
-    let remark = covered(tester, &pairs, &numbers, &[]);
+        tester.read_case(label, &case, Expect::Number(number));
+    });
     tester.end_group(&remark);
 }
 
-fn bases() -> Vec<Draft> {
+/// Puts every fault and every two into each base, and hands on what comes of it with the number
+/// that the paper says. Tells how many pairs of numbers met.
+pub fn each_attempt(
+    tester: &mut Tester,
+    bases: Vec<Draft>,
+    mut check: impl FnMut(&mut Tester, Label, &Attempt, u32),
+) -> String {
+    let faults = faults();
+    let mut pairs = [[false; 24]; 24];
+    for (base, draft) in bases.into_iter().enumerate() {
+        let fitting = |fault: &&Fault| (fault.fits)(&draft);
+        for first in faults.iter().filter(fitting) {
+            let mut one = Attempt::new(draft.clone());
+            (first.apply)(&mut one);
+            let label = ("alone", base as u64, first.stage as u64);
+            check(tester, label, &one, number_of(&one, first));
+            for second in faults.iter().filter(fitting) {
+                let Some(both) = together(&draft, [first, second]) else {
+                    continue;
+                };
+                let stages = 100 * first.stage as u64 + second.stage as u64;
+                let label = ("together", base as u64, stages);
+                check(tester, label, &both, number_of(&both, first));
+                let [low, high] = in_order(first.number, second.number);
+                pairs[low][high] = true;
+            }
+        }
+    }
+    let numbers: Vec<usize> = (1..=11).chain(20..=23).collect();
+    covered(tester, &pairs, &numbers, &[])
+}
+
+pub fn bases() -> Vec<Draft> {
     vec![
         Draft::request(2, b"kvs.get", Some(b"some payload")),
         Draft::request(0, b"log", None),
@@ -70,41 +110,34 @@ fn bases() -> Vec<Draft> {
     ]
 }
 
-fn alone(tester: &mut Tester, base: usize, attempt: &Attempt, fault: &Fault) {
-    let mut attempt = attempt.clone();
-    (fault.apply)(&mut attempt);
-    check(tester, ("alone", base as u64, 0), &attempt, fault.number);
-}
-
-/// The earlier stage wins. It is put in last, so that the other fault cannot undo it. Two faults
-/// may bring a 69th part with them, which then takes part.
-fn together(tester: &mut Tester, base: usize, attempt: &Attempt, faults: [&Fault; 2]) {
-    let mut both = attempt.clone();
-    (faults[1].apply)(&mut both);
-    (faults[0].apply)(&mut both);
-    let parts = both.draft.parts();
-    if faults[0].stage == Stage::FirstPart && parts[0].len() >= 255 {
-        // Here a 4-byte size is right.
-        return;
+/// Two faults, the earlier first; nothing if they cannot be together. The earlier is put in last,
+/// so that the other fault cannot undo it.
+fn together(draft: &Draft, [first, second]: [&Fault; 2]) -> Option<Attempt> {
+    if first.stage >= second.stage || !both_can_be(first, second) {
+        return None;
     }
-    let behind = !both.draft.raw.is_empty() as usize;
-    let number = if parts.len() + behind > 68 && faults[0].stage > Stage::Part69 {
-        5
-    } else {
-        faults[0].number
+    let mut both = Attempt::new(draft.clone());
+    (second.apply)(&mut both);
+    (first.apply)(&mut both);
+    let parts = both.draft.parts();
+    let undone = match first.stage {
+        // Here a 4-byte size is right.
+        Stage::FirstPart => both.draft.long_first && parts[0].len() >= 255,
+        Stage::SecondPart => parts.len() < 2,
+        _ => false,
     };
-    let stages = 100 * faults[0].stage as u64 + faults[1].stage as u64;
-    check(tester, ("together", base as u64, stages), &both, number);
+    (!undone).then_some(both)
 }
 
-fn check(tester: &mut Tester, label: (&'static str, u64, u64), attempt: &Attempt, number: u32) {
-    let bytes = attempt.draft.bytes();
-    let case = ReadCase {
-        bytes: &bytes,
-        behind: &[],
-        record_len: attempt.record_len,
-    };
-    tester.read_case(label, &case, Expect::Number(number));
+/// What an attempt with this fault as its first comes to. It may have brought a 69th part with it,
+/// which then takes part.
+fn number_of(attempt: &Attempt, first: &Fault) -> u32 {
+    let draft = &attempt.draft;
+    let parts = draft.parts().len() + !draft.raw.is_empty() as usize;
+    match first.stage > Stage::Part69 && parts > 68 {
+        true => 5,
+        false => first.number,
+    }
 }
 
 /// With no part at all there is no part to be wrong, and no body to be missing.
@@ -149,8 +182,8 @@ fn faults() -> Vec<Fault> {
 fn outer_faults() -> Vec<Fault> {
     use Stage::*;
     vec![
-        fault(Record, 11, any, |a| a.record_len = 51),
-        fault(Record, 11, any, |a| a.record_len = 0),
+        fault(Record, 11, any, |a| a.record_lacks = 1),
+        fault(Record, 11, any, |a| a.record_lacks = usize::MAX),
         fault(EightBytes, 1, any, |a| a.draft.keep = Some(0)),
         fault(EightBytes, 1, any, |a| a.draft.keep = Some(3)),
         fault(EightBytes, 1, any, |a| a.draft.keep = Some(7)),
@@ -168,8 +201,11 @@ fn outer_faults() -> Vec<Fault> {
 
 fn part_faults() -> Vec<Fault> {
     use Stage::*;
+    let short_first = |draft: &Draft| draft.parts()[0].len() < 255;
     vec![
-        fault(FirstPart, 4, any, |a| a.draft.long_first = true),
+        fault(FirstPart, 4, short_first, |a| a.draft.long_first = true),
+        fault(FirstPart, 4, any, |a| a.draft.past_end = Some(0)),
+        fault(SecondPart, 4, has_topic, |a| a.draft.past_end = Some(1)),
         fault(Part69, 5, any, |a| a.draft.extra.resize(70, vec![])),
         fault(Part69, 5, any, |a| a.draft.extra.resize(70, vec![0x14; 20])),
         fault(Part69, 5, routed, |a| {
@@ -185,20 +221,21 @@ fn part_faults() -> Vec<Fault> {
 }
 
 fn header_faults() -> Vec<Fault> {
-    use Stage::{Header, NoPart};
+    use Stage::*;
     vec![
         fault(NoPart, 6, any, no_part),
-        fault(Header, 6, has_topic, |a| a.draft.no_header = true),
-        fault(Header, 6, any, |a| a.draft.header.truncate(19)),
-        fault(Header, 6, any, |a| a.draft.header.push(0)),
-        fault(Header, 6, any, |a| a.draft.raw.push(0)),
-        fault(Header, 6, any, |a| a.draft.header[0] = 0x8F),
-        fault(Header, 6, any, |a| a.draft.header[1] = 0),
-        fault(Header, 6, any, |a| a.draft.header[1] = 2),
-        fault(Header, 6, any, |a| a.draft.header[2] = 0),
-        fault(Header, 6, any, |a| a.draft.header[2] = 3),
-        fault(Header, 6, any, |a| a.draft.header[2] |= 0x10),
-        fault(Header, 6, any, |a| a.draft.header[3] |= 0x80),
+        fault(HeaderLength, 6, has_topic, |a| a.draft.no_header = true),
+        fault(HeaderLength, 6, any, |a| a.draft.header.truncate(19)),
+        fault(HeaderLength, 6, any, |a| a.draft.header.push(0)),
+        fault(HeaderLength, 6, any, |a| a.draft.header.resize(300, 0)),
+        fault(HeaderLength, 6, any, |a| a.draft.raw.push(0)),
+        fault(HeaderMagic, 20, any, |a| a.draft.header[0] = 0x8F),
+        fault(Version, 21, any, |a| a.draft.header[1] = 0),
+        fault(Version, 21, any, |a| a.draft.header[1] = 2),
+        fault(Type, 22, any, |a| a.draft.header[2] = 0),
+        fault(Type, 22, any, |a| a.draft.header[2] = 3),
+        fault(Type, 22, any, |a| a.draft.header[2] |= 0x10),
+        fault(Flag80, 23, any, |a| a.draft.header[3] |= 0x80),
     ]
 }
 
@@ -235,6 +272,8 @@ fn content_faults() -> Vec<Fault> {
         fault(Route, 8, has_routes, |a| a.draft.routes[0][0] = b'A'),
         fault(Route, 8, has_routes, |a| a.draft.routes[0][13] = b'0'),
         fault(Route, 8, has_routes, |a| a.draft.routes[0][36] = b'0'),
+        fault(Route, 8, has_routes, |a| last_route(a).resize(300, b'0')),
+        fault(Route, 8, has_routes, |a| last_route(a)[35] = b'g'),
         fault(Route, 8, no_payload, |a| {
             a.draft.routes = (0..65).map(route).collect()
         }),
@@ -252,6 +291,11 @@ fn content_faults() -> Vec<Fault> {
         fault(Field, 10, is_event, |a| a.draft.header[16] = 0x80),
         fault(Field, 10, is_event, |a| a.draft.header[18] = 1),
     ]
+}
+
+/// Which there is.
+fn last_route(attempt: &mut Attempt) -> &mut Vec<u8> {
+    attempt.draft.routes.last_mut().unwrap()
 }
 
 /// A topic that another fault has taken away stays away.

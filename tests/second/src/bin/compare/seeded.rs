@@ -6,6 +6,7 @@ use second::sample::{route, OwnedMessage, Rng};
 
 use crate::draft::{frame_of, frame_with, header, push_part, MAGIC};
 use crate::messages::{frame_len_at_most, right, spoil};
+use crate::repairs::Repairs;
 use crate::tester::{hex, Expect, ReadAnswer, ReadCase, Tester, WriteAnswer, WriteCase};
 
 /// Which seeded cases are run.
@@ -22,6 +23,7 @@ type Case = fn(&mut Tester, &mut Rng, &mut Turned);
 pub struct Turned {
     read_back: u64,
     written_back: u64,
+    repairs: Repairs,
 }
 
 pub fn structured(tester: &mut Tester, run: &Run) {
@@ -46,9 +48,15 @@ fn group(tester: &mut Tester, name: &'static str, run: &Run, case: Case) {
             case(tester, &mut rng, &mut turned)
         });
     }
+    let Turned {
+        read_back,
+        written_back,
+        repairs,
+    } = turned;
     tester.end_group(&format!(
-        "seed {}; {} messages written and read back, {} frames read and written back",
-        run.seed, turned.read_back, turned.written_back
+        "seed {}; {read_back} messages written and read back, \
+         {written_back} frames read and written back; {repairs}",
+        run.seed
     ));
 }
 
@@ -180,8 +188,10 @@ fn read_and_write_back(tester: &mut Tester, rng: &mut Rng, bytes: &[u8], turned:
         record_len,
     };
     let read = tester.read(&case, Expect::Agreed);
-    if read.refusal == 0 && !tester.case_has_failed() {
-        write_back(tester, rng, bytes, &read, turned);
+    match read.refusal {
+        _ if tester.case_has_failed() => {}
+        0 => write_back(tester, rng, bytes, &read, turned),
+        _ => turned.repairs.one_after_another(tester, bytes),
     }
 }
 

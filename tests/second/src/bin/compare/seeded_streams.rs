@@ -18,7 +18,7 @@ struct Count {
     frames: u64,
     long: u64,
     /// By the refusal that stopped them.
-    stops: [u64; 12],
+    stops: [u64; 24],
 }
 
 pub fn streams(tester: &mut Tester, run: &Run) {
@@ -85,7 +85,7 @@ fn check(tester: &mut Tester, case: &StreamCase, right: Option<StreamAnswer>, co
     one_after_another(tester, case.bytes, &answer);
     count.frames += answer.entries.len() as u64;
     count.long += (case.bytes.len() > LIMIT) as u64;
-    count.stops[answer.numbers[1].min(11) as usize] += 1;
+    count.stops[answer.numbers[1].min(23) as usize] += 1;
 }
 
 /// A few frames, now and then many, or more than a stream can have.

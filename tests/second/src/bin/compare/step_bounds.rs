@@ -184,7 +184,7 @@ fn frames() -> Vec<(u32, Vec<u8>, Told)> {
     all.push((3, Draft::control().bytes(), Told::Refused(18)));
     let mut wrong = Draft::control();
     wrong.header = header(3, 0, 1, 2);
-    all.push((3, wrong.bytes(), Told::Refused(6)));
+    all.push((3, wrong.bytes(), Told::Refused(22)));
     all
 }
 

@@ -97,8 +97,19 @@ impl Tester {
             ),
             rooms: named(["buffer", "record"], [&buffer, &record]),
         });
+        let answer = self.step_answer(refusals[0], buffer, record);
+        self.fault_in_buffer(case.buffer, answer.refusal);
+        answer
+    }
+
+    fn step_answer(
+        &mut self,
+        refusal: u32,
+        buffer: Range<usize>,
+        record: Range<usize>,
+    ) -> StepAnswer {
         let mut answer = StepAnswer {
-            refusal: refusals[0],
+            refusal,
             numbers: [0; 4],
             buffer,
         };
@@ -108,6 +119,13 @@ impl Tester {
             self.step_is_whole(&answer);
         }
         answer
+    }
+
+    /// What a broker refuses with one of the reader's numbers the reader refuses alike.
+    pub fn fault_in_buffer(&mut self, buffer: &[u8], refusal: u32) {
+        if matches!(refusal, 1..=10 | 20..=23) {
+            self.fault_of(buffer, refusal);
+        }
     }
 
     /// The buffer only if the answer is a forward or an error reply.

@@ -36,7 +36,11 @@ enum Stage {
     FirstPart,
     Part69,
     PartBehindHeader,
-    Header,
+    HeaderLength,
+    HeaderMagic,
+    Version,
+    Type,
+    Flag80,
     PartsDisagree,
     Route,
     Topic,
@@ -50,8 +54,8 @@ enum Stage {
 type Fault = faults::Fault<Stage, Attempt, Attempt>;
 
 /// A record's 11 is counted as 0, so that it is told from a buffer's.
-const NUMBERS: [usize; 19] = [
-    0, 1, 2, 3, 4, 5, 6, 7, 8, 9, 10, 11, 12, 14, 15, 16, 17, 18, 19,
+const NUMBERS: [usize; 23] = [
+    0, 1, 2, 3, 4, 5, 6, 7, 8, 9, 10, 11, 12, 14, 15, 16, 17, 18, 19, 20, 21, 22, 23,
 ];
 /// Requests alone have 12, a buffer's 11 and a nodeid; responses alone have 19; what has 18 has no
 /// routes.
@@ -68,7 +72,7 @@ const NEVER: [[usize; 2]; 7] = [
 pub fn run(tester: &mut Tester) {
     tester.begin_group("step-order");
     let faults = faults();
-    let mut pairs = [[false; 20]; 20];
+    let mut pairs = [[false; 24]; 24];
     for (base, attempt) in bases().into_iter().enumerate() {
         for later in faults.iter().filter(|fault| (fault.fits)(&attempt)) {
             let mut one = attempt.clone();
@@ -248,9 +252,11 @@ fn inner_faults() -> Vec<Fault> {
     let is_event = |a: &Attempt| a.draft.kind() == 4;
     let bare = |a: &Attempt| a.draft.kind() <= 2 && a.draft.payload.is_none();
     vec![
-        fault(Header, 6, any, |a| a.draft.header[0] = 0x8F),
-        fault(Header, 6, any, |a| a.draft.header[2] |= 0x10),
-        fault(Header, 6, any, |a| a.draft.header[3] |= 0x80),
+        fault(HeaderLength, 6, any, |a| a.draft.header.push(0)),
+        fault(HeaderMagic, 20, any, |a| a.draft.header[0] = 0x8F),
+        fault(Version, 21, any, |a| a.draft.header[1] = 2),
+        fault(Type, 22, any, |a| a.draft.header[2] |= 0x10),
+        fault(Flag80, 23, any, |a| a.draft.header[3] |= 0x80),
         fault(PartsDisagree, 7, any, |a| a.draft.header[3] ^= 0x02),
         fault(PartsDisagree, 7, any, |a| a.draft.header[3] ^= 0x08),
         fault(PartsDisagree, 7, any, |a| a.draft.extra.push(vec![b'x'])),

@@ -4,7 +4,7 @@ use std::ops::Range;
 
 use second::calls::STREAM_RECORD_LEN;
 use second::frame::number_at;
-use second::stream::ENTRY_LEN;
+use second::stream::{ENTRY_LEN, MAX_STREAM};
 
 use crate::tester::{front, named, Call, Expect, Tester};
 
@@ -120,7 +120,18 @@ impl Tester {
                 ..StreamAnswer::NOTHING
             };
         }
-        self.stream_answer(&written[0])
+        let answer = self.stream_answer(&written[0]);
+        self.fault_at_the_stop(case.bytes, &answer);
+        answer
+    }
+
+    /// What a stream stops at is refused alike by itself, unless there was no room for it.
+    fn fault_at_the_stop(&mut self, bytes: &[u8], answer: &StreamAnswer) {
+        let [_, refusal, start] = answer.numbers;
+        let bytes = &bytes[..bytes.len().min(MAX_STREAM)];
+        if let Some(rest) = bytes.get(start as usize..) {
+            self.fault_of(rest, if refusal == 11 { 0 } else { refusal });
+        }
     }
 
     /// What the library left in its list and in its record.

@@ -58,33 +58,11 @@ impl Stream {
     }
 }
 
+type Change = fn(&mut Draft);
+
 /// Each refusal that a frame can have, at the least once.
 pub fn bad_frames() -> Vec<BadFrame> {
-    type Change = fn(&mut Draft);
-    let changes: [(u32, Change); 18] = [
-        (1, |draft| draft.body_length = Some(32_768)),
-        (2, |draft| draft.magic[0] = 0xFE),
-        (2, |draft| draft.magic[3] = 0x13),
-        (3, |draft| draft.body_length = Some(32_769)),
-        (3, |draft| draft.body_length = Some(u32::MAX)),
-        (4, |draft| draft.long_first = true),
-        (4, |draft| draft.raw = vec![1]),
-        (5, |draft| draft.extra.resize(70, vec![])),
-        (6, |draft| draft.header[0] = 0),
-        (6, |draft| draft.header[2] = 3),
-        (6, |draft| draft.header[3] |= 0x80),
-        (7, |draft| draft.payload = None),
-        (7, |draft| draft.delimiter = false),
-        (8, |draft| draft.routes[0][0] = b'A'),
-        (8, |draft| *draft = Draft::request(65, b"log", None)),
-        (9, |draft| draft.topic = Some(b"kvs".to_vec())),
-        (10, |draft| draft.set_field(12, 4_294_967_294)),
-        (10, |draft| {
-            *draft = Draft::event(b"hb", None);
-            draft.set_field(16, 1);
-        }),
-    ];
-    let made = changes.into_iter().map(|(refusal, change)| {
+    let made = changes().into_iter().map(|(refusal, change)| {
         let mut draft = Draft::request(1, b"kvs.get", Some(b"payload"));
         change(&mut draft);
         (refusal, draft.bytes())
@@ -97,4 +75,33 @@ pub fn bad_frames() -> Vec<BadFrame> {
             bytes,
         })
         .collect()
+}
+
+/// What makes a good frame a bad one, with its number.
+fn changes() -> [(u32, Change); 20] {
+    [
+        (1, |draft| draft.body_length = Some(32_768)),
+        (2, |draft| draft.magic[0] = 0xFE),
+        (2, |draft| draft.magic[3] = 0x13),
+        (3, |draft| draft.body_length = Some(32_769)),
+        (3, |draft| draft.body_length = Some(u32::MAX)),
+        (4, |draft| draft.long_first = true),
+        (4, |draft| draft.raw = vec![1]),
+        (5, |draft| draft.extra.resize(70, vec![])),
+        (6, |draft| draft.header.truncate(19)),
+        (20, |draft| draft.header[0] = 0),
+        (21, |draft| draft.header[1] = 0),
+        (22, |draft| draft.header[2] = 3),
+        (23, |draft| draft.header[3] |= 0x80),
+        (7, |draft| draft.payload = None),
+        (7, |draft| draft.delimiter = false),
+        (8, |draft| draft.routes[0][0] = b'A'),
+        (8, |draft| *draft = Draft::request(65, b"log", None)),
+        (9, |draft| draft.topic = Some(b"kvs".to_vec())),
+        (10, |draft| draft.set_field(12, 4_294_967_294)),
+        (10, |draft| {
+            *draft = Draft::event(b"hb", None);
+            draft.set_field(16, 1);
+        }),
+    ]
 }

@@ -93,6 +93,8 @@ struct Tally {
     answers: [u64; 32],
     /// Those among them that say that a payload is JSON.
     yes: u64,
+    /// Frames of other calls that were also asked for the byte at fault.
+    faults: u64,
 }
 
 pub struct Tester {
@@ -145,6 +147,9 @@ impl Tester {
         );
         if !remark.is_empty() {
             write!(line, "; {remark}").unwrap();
+        }
+        if tally.faults > 0 {
+            write!(line, "; {} asked for the byte at fault", tally.faults).unwrap();
         }
         println!("{line}");
         let answers: Vec<String> = (0..tally.answers.len())
@@ -230,6 +235,9 @@ impl Tester {
             let left = &self.arena.after[0][record];
             answer.record = std::array::from_fn(|place| number_at(left, 4 * place));
         }
+        if case.record_len >= READ_RECORD_LEN {
+            self.fault_of(case.bytes, answer.refusal);
+        }
         answer
     }
 
@@ -299,6 +307,10 @@ impl Tester {
 
     pub fn count_yes(&mut self) {
         self.tally.yes += 1;
+    }
+
+    pub fn count_fault(&mut self) {
+        self.tally.faults += 1;
     }
 
     pub fn yes(&self) -> u64 {

@@ -15,6 +15,7 @@ pub fn run(tester: &mut Tester) {
     tester.begin_group("walk-bounds");
     rooms(tester);
     refused_at_once(tester);
+    wrong_tables(tester);
     growth_on_the_way(tester);
     to_and_fro(tester);
     two_chains(tester);
@@ -119,13 +120,16 @@ fn refused_at_once(tester: &mut Tester) {
     let tables = paper_floor::tables();
     let good = Draft::request(1, b"bench.run", None);
     type Change = fn(&mut Draft);
-    let frames: [(u32, Change); 14] = [
+    let frames: [(u32, Change); 17] = [
         (2, |draft| draft.magic[0] = 0),
         (3, |draft| draft.body_length = Some(32_769)),
         (4, |draft| draft.long_first = true),
         (5, |draft| draft.extra.resize(70, vec![])),
-        (6, |draft| draft.header[0] = 0),
-        (6, |draft| draft.header[3] |= 0x80),
+        (6, |draft| draft.header.truncate(19)),
+        (20, |draft| draft.header[0] = 0),
+        (21, |draft| draft.header[1] = 0),
+        (22, |draft| draft.header[2] = 3),
+        (23, |draft| draft.header[3] |= 0x80),
         (7, |draft| draft.header[3] |= 0x02),
         (8, |draft| draft.routes[0][0] = b'A'),
         (9, |draft| draft.topic = Some(b"kvs".to_vec())),
@@ -146,6 +150,11 @@ fn refused_at_once(tester: &mut Tester) {
         let label = ("refused at once", number as u64, refusal as u64);
         check_bytes(tester, label, (&tables, 5), &draft.bytes(), &told);
     }
+}
+
+/// Wrong tables come before a rank that is not in the tree.
+fn wrong_tables(tester: &mut Tester) {
+    let good = Draft::request(1, b"bench.run", None);
     let wrong: [(u32, fn(&mut OwnedTables)); 6] = [
         (14, |tables| tables.tree.truncate(27)),
         (14, |tables| tables.tree[4 * 6 + 3] = 6),

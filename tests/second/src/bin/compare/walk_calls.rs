@@ -97,11 +97,14 @@ impl Tester {
             ),
             rooms: named(["buffer", "record"], [&buffer, &record]),
         });
-        WalkAnswer {
+        let answer = WalkAnswer {
             refusal: refusals[0],
             numbers: self.walk_numbers(0, &record),
             buffer,
-        }
+        };
+        // Only a first step can find a frame that is not good.
+        self.fault_in_buffer(case.buffer, answer.refusal);
+        answer
     }
 
     /// All zero if the record is too short.

@@ -112,7 +112,7 @@ fn outputs_and_records(tester: &mut Tester) {
         for record_len in 0..=64 {
             let mut wrong = message;
             wrong.header.kind = 3;
-            for (message, refusal) in [(message, 0), (wrong, 6)] {
+            for (message, refusal) in [(message, 0), (wrong, 22)] {
                 let case = WriteCase {
                     message,
                     out_len: needed,
@@ -150,8 +150,11 @@ fn types_and_flags(tester: &mut Tester) {
 }
 
 fn flags_expected(kind: u8, flags: u8, given: u8) -> u32 {
-    if ![1, 2, 4, 8].contains(&kind) || flags & 0x80 != 0 {
-        return 6;
+    if ![1, 2, 4, 8].contains(&kind) {
+        return 22;
+    }
+    if flags & 0x80 != 0 {
+        return 23;
     }
     let allowed: &[u8] = match kind {
         1 | 2 => &[0x09, 0x0B],

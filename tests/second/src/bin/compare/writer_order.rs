@@ -23,7 +23,8 @@ struct Attempt {
 #[derive(Clone, Copy, PartialEq, Eq, PartialOrd, Ord)]
 enum Stage {
     Record,
-    Header,
+    Type,
+    Flag80,
     PartsDisagree,
     Route,
     Topic,
@@ -37,7 +38,7 @@ type Fault = faults::Fault<Stage, Attempt, Attempt>;
 pub fn run(tester: &mut Tester) {
     tester.begin_group("writer-order");
     let faults = faults();
-    let mut pairs = [[false; 12]; 12];
+    let mut pairs = [[false; 24]; 24];
     for (base, attempt) in bases().into_iter().enumerate() {
         let fitting = |fault: &&Fault| (fault.fits)(&attempt);
         for first in faults.iter().filter(fitting) {
@@ -60,7 +61,7 @@ pub fn run(tester: &mut Tester) {
             }
         }
     }
-    let remark = covered(tester, &pairs, &[3, 6, 7, 8, 9, 10, 11], &[]);
+    let remark = covered(tester, &pairs, &[3, 7, 8, 9, 10, 11, 22, 23], &[]);
     tester.end_group(&remark);
 }
 
@@ -125,10 +126,10 @@ fn early_faults() -> Vec<Fault> {
     vec![
         fault(Record, 11, any, |a| a.record_len = 3),
         fault(Record, 11, any, |a| a.record_len = 0),
-        fault(Header, 6, any, |a| a.header.kind = 0),
-        fault(Header, 6, any, |a| a.header.kind = 3),
-        fault(Header, 6, any, |a| a.header.kind |= 0x10),
-        fault(Header, 6, any, |a| a.header.flags |= 0x80),
+        fault(Type, 22, any, |a| a.header.kind = 0),
+        fault(Type, 22, any, |a| a.header.kind = 3),
+        fault(Type, 22, any, |a| a.header.kind |= 0x10),
+        fault(Flag80, 23, any, |a| a.header.flags |= 0x80),
         fault(PartsDisagree, 7, any, |a| a.header.flags ^= 0x01),
         fault(PartsDisagree, 7, any, |a| a.header.flags ^= 0x08),
         // A payload without its flag; one stays as it is.
