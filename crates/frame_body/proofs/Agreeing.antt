@@ -6,7 +6,7 @@ use mathlib.Core.List.{List, [], _∷_, _++_}
 use native.Mathlib.Omega.{arith}
 use native.Mathlib.Decide.{ℕ-discrete}
 use lib.Dec.{eqb}
-use borrow.Author.Tests.{eq-eqb, ne-eqb, eqb-true, le-leb, lt-leb}
+use borrow.Author.Tests.{eqb-true, le-leb, lt-leb}
 use lib.ListN.{length, take, length-append}
 use lib.Seq.{take-append-le}
 use Rattle.frame_message.specs.declared.Header.{Header}
@@ -18,19 +18,12 @@ use Rattle.frame_message.specs.Reading.{front, final, beforeEmpty, routesIn, to
 use Rattle.bytes_number.proofs.Truth.{and-right}
 use Rattle.frame_message.proofs.Lists.{front-final}
 use Rattle.bytes_number.specs.Number.{Bytes}
+use Rattle.frame_forms.proofs.Counts.{same-test}
 use Rattle.frame_message.proofs.Parts.{split, joined-append}
 use Rattle.frame_message.proofs.Headers.{header-tested}
 use Rattle.frame_parts.specs.declared.PartCounts.{PartCounts}
 use Rattle.frame_body.specs.WorkingJudging.{partsFound, partsWanted, groupIn, Headed, Sorted}
 use Rattle.frame_parts.proofs.Passing.{before-few, before-none, before-earlier}
-
--- two tests that hold of the same numbers
-same-test : {a b c d : ℕ} → (a ≡ b → c ≡ d) → (c ≡ d → a ≡ b) → eqb a b ≡ eqb c d
-same-test {a} {b} {c} {d} to from = go (ℕ-discrete a b)
-  where
-    go : Dec (a ≡ b) → eqb a b ≡ eqb c d
-    go (yes e) = eq-eqb a b e ∙ sym (eq-eqb c d (to e))
-    go (no n) = ne-eqb a b n ∙ sym (ne-eqb c d (λ (e : c ≡ d). n (from e)))
 
 -- ---- on numbers: n parts in front of the header, e of them in front of the first empty one; found is the same number of all parts
 

@@ -1,18 +1,27 @@
 -- Laws on counting the bytes that pass a test.
-use mathlib.Core.Path.{_≡_, refl, sym}
+use mathlib.Core.Path.{_≡_, refl, sym, _∙_}
 use mathlib.Core.Bool.{Bool, true, false, not, _&&_}
 use Prim.Native.Nat.{ℕ, _+_, _<_, _≤_}
 use mathlib.Core.List.{List, [], _∷_, _++_}
+use native.Mathlib.Decide.{ℕ-discrete}
 use native.Mathlib.Omega.{arith}
 use native.Mathlib.Nat.{zero-add}
 use native.Mathlib.Numerals.{add-one}
 use lib.Dec.{eqb}
 use lib.ListN.{length, getD, take, length-take}
 use lib.Seq.{take-suc}
-use borrow.Author.Tests.{ne-eqb}
+use borrow.Author.Tests.{eq-eqb, ne-eqb}
 use Rattle.frame_forms.specs.Count.{one}
 use Rattle.frame_forms.specs.Working.{isZero, count}
 use Rattle.frame_forms.specs.Forms.{noZero}
+
+-- two tests that hold of the same numbers
+pub same-test : {a b c d : ℕ} → (a ≡ b → c ≡ d) → (c ≡ d → a ≡ b) → eqb a b ≡ eqb c d
+same-test {a} {b} {c} {d} to from = go (ℕ-discrete a b)
+  where
+    go : Dec (a ≡ b) → eqb a b ≡ eqb c d
+    go (yes e) = eq-eqb a b e ∙ sym (eq-eqb c d (to e))
+    go (no n) = ne-eqb a b n ∙ sym (ne-eqb c d (λ (e : c ≡ d). n (from e)))
 
 pub one-le : (t : Bool) → one t ≤ 1
 one-le true = omega arith
@@ -22,7 +31,7 @@ pub count-le : (test : ℕ → Bool) (xs : List ℕ) → count test xs ≤ lengt
 count-le test [] = omega arith
 count-le test (x ∷ xs) = omega (arith, count-le test xs, one-le (test x))
 
-count-append : (test : ℕ → Bool) (xs ys : List ℕ) → count test (xs ++ ys) ≡ count test xs + count test ys
+pub count-append : (test : ℕ → Bool) (xs ys : List ℕ) → count test (xs ++ ys) ≡ count test xs + count test ys
 count-append test [] ys = omega arith
 count-append test (x ∷ xs) ys = omega (arith, count-append test xs ys)
 

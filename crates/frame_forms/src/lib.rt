@@ -1,40 +1,46 @@
 // The forms of a route and of a topic. Bytes are counted rather than searched, so that the compiler can
 // look at several at a time.
 ghost use mathlib.Core.Path.{_≡_};
-ghost use Prim.Native.Nat.{_≤_};
+ghost use mathlib.Core.Bool.{_&&_};
+ghost use Prim.Native.Nat.{_≤_, _+_};
+ghost use lib.Dec.{leb};
 ghost use lib.ListN.{length};
 ghost use Rattle.bytes_number.specs.Lent.{was};
 ghost use Rattle.frame_forms.specs.Count.{one};
-ghost use Rattle.frame_forms.specs.Working.{count, isZero};
+ghost use Rattle.frame_forms.specs.Working.{count, hexIn, isZero};
 ghost use Rattle.frame_forms.specs.Forms.{isHex, isRoute, isTopic};
 
 // Bytes of a route, its zero byte with them.
 pub const ROUTE: usize = 37;
 
-// 1 for a lower-case hex digit.
-fn hex(x: u8) -> u8
-    ensures { λ r. ⌜ r ≡ one (isHex x) ⌝ }
+// 1 for a byte from low to high.
+fn between(x: u8, low: u8, high: u8) -> u8
+    ensures { λ r. ⌜ (r ≡ one (leb low x && leb x high)) × (r ≤ 1) ⌝ }
 {
-    if x < 58 {
-        if 48 <= x { 1 } else { 0 }
+    if low <= x {
+        if x <= high { 1 } else { 0 }
     } else {
-        if 97 <= x {
-            if x <= 102 { 1 } else { 0 }
-        } else {
-            0
-        }
+        0
     }
 }
 
-// How many of so few bytes are hex digits.
+// 1 for a lower-case hex digit.
+fn hex(x: u8) -> u8
+    ensures { λ r. ⌜ (r ≡ one (isHex x)) × (r ≤ 1) ⌝ }
+{
+    between(x, 48, 57) + between(x, 97, 102)
+}
+
+// The hex digits in three stretches of 16 bytes of a route, which the compiler takes whole: the first two, and the one that ends in
+// front of the zero byte. It has 12 bytes of the second once more.
 fn hex_digits(s: &[u8]) -> u8
-    requires { ⌜ length (now s) ≤ 255 ⌝ }
-    ensures { λ r. ⌜ r ≡ count isHex (was s) ⌝ }
+    requires { ⌜ length (now s) ≡ 37 ⌝ }
+    ensures { λ r. ⌜ r ≡ hexIn 0 16 (was s) + hexIn 16 16 (was s) + hexIn 20 16 (was s) ⌝ }
 {
     let mut n: u8 = 0;
     let mut i = 0;
-    while i < s.len() {
-        n += hex(s[i]);
+    while i < 16 {
+        n += hex(s[i]) + hex(s[16 + i]) + hex(s[20 + i]);
         i += 1;
     }
     n
@@ -62,7 +68,7 @@ fn zeros(s: &[u8]) -> u8
 }
 
 // Whether s is a route with its zero byte. With the hyphens and the zero byte in place there are hex digits at all the other places
-// exactly if there are 32 of them.
+// exactly if 32 are counted, and 11 of them a second time.
 pub fn is_route(s: &[u8]) -> bool
     ensures { λ r. ⌜ r ≡ isRoute (was s) ⌝ }
 {
@@ -84,7 +90,7 @@ pub fn is_route(s: &[u8]) -> bool
     if s[36] != 0 {
         return false;
     }
-    hex_digits(s) == 32
+    hex_digits(s) == 43
 }
 
 // Whether s is a topic, without its zero byte.

@@ -1,12 +1,13 @@
 -- `frame_forms::is_route` meets its contract.
 use borrow.Author.Needs.{needs}
 use native.Mathlib.Omega.{arith}
-use mathlib.Core.Path.{sym, ap, _∙_}
+use mathlib.Core.Path.{_≡_, sym, ap, _∙_}
 use Prim.Native.Nat.{ℕ}
 use lib.Dec.{eqb, lit<}
-use lib.ListN.{getD}
+use lib.ListN.{length, getD}
 use borrow.Author.Tests.{ne-eqb}
 use Rattle.frame_forms.proofs.Routes.{route-length, route-missed, route-counted}
+use Rattle.frame_forms.proofs.Stretches.{in-stretches}
 use Rattle.frame_forms.proofs.is_route.Statement.{statement}
 use Rattle.frame_forms.proofs.is_route.Tie as tie
 
@@ -48,7 +49,13 @@ hex-digits-requires c κs = search needs
 
 returns-7 : tie.Need-returns-7
 returns-7 c = let s = c .before .before .before .before .before .before .before .before .before .before .before .before .before .args .s .now in
-    ap (λ (n : ℕ). eqb n 32) (c .hex-digits .ensures) ∙ sym (route-counted s (omega (arith, c .before .before .before .before .before .before .before .before .before .before .before .if1 .left)) (omega (arith, c .before .before .before .before .before .before .before .before .before .if2 .left)) (omega (arith, c .before .before .before .before .before .before .before .if3 .left)) (omega (arith, c .before .before .before .before .before .if4 .left)) (omega (arith, c .before .before .before .if5 .left)) (omega (arith, c .before .if6 .left)))
+    let h : length s ≡ 37 = omega (arith, c .before .before .before .before .before .before .before .before .before .before .before .if1 .left) in
+    let e₈ : getD s 8 0 ≡ 45 = omega (arith, c .before .before .before .before .before .before .before .before .before .if2 .left) in
+    let e₁₃ : getD s 13 0 ≡ 45 = omega (arith, c .before .before .before .before .before .before .before .if3 .left) in
+    let e₁₈ : getD s 18 0 ≡ 45 = omega (arith, c .before .before .before .before .before .if4 .left) in
+    let e₂₃ : getD s 23 0 ≡ 45 = omega (arith, c .before .before .before .if5 .left) in
+    let e₃₆ : getD s 36 0 ≡ 0 = omega (arith, c .before .if6 .left) in
+    ap (λ (n : ℕ). eqb n 43) (c .hex-digits .ensures) ∙ in-stretches s h e₈ e₁₃ e₁₈ e₂₃ e₃₆ ∙ sym (route-counted s h e₈ e₁₃ e₁₈ e₂₃ e₃₆)
 
 pub is-route-spec : {M : Type 1} → statement M
 is-route-spec =
