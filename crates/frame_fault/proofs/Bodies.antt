@@ -47,12 +47,12 @@ stop-within : {most : ℕ} {body : List ℕ} {ps : List (List ℕ)} {n : ℕ} �
 stop-within {ps = ps} (size-wrong rest same few none) = omega (arith, ap length same, length-append (joined ps) rest)
 stop-within {ps = ps} (too-many rest same few some) = omega (arith, ap length same, length-append (joined ps) rest)
 
-module _ (body : List ℕ) {n : ℕ} (w : BodyWhy body n) where
-  pub stopped-low : Bytes body → {r : Refusal} {at : ℕ} → Refused r at ≡ countingOf 68 body → at ≤ length body
-  stopped-low b {r} e =
-      let is = counting-refused (stopByte 68 body) (partsIn 68 body) e in
-      omega (arith, told-stop (stopByte 68 body) (partsIn 68 body) e, stop-whole 68 body, stop-within (stops 68 body r b is))
+pub stop-low : (body : List ℕ) → Bytes body → {r : Refusal} {at : ℕ} → Refused r at ≡ countingOf 68 body → at ≤ length body
+stop-low body b {r} e =
+    let is = counting-refused (stopByte 68 body) (partsIn 68 body) e in
+    omega (arith, told-stop (stopByte 68 body) (partsIn 68 body) e, stop-whole 68 body, stop-within (stops 68 body r b is))
 
+module _ (body : List ℕ) {n : ℕ} (w : BodyWhy body n) where
   pub stopped-byte : Bytes body → {r : Refusal} {at : ℕ} → Refused r at ≡ countingOf 68 body → 8 + at ≡ byteFor n (faultBytes (wholeParts 68 body))
   stopped-byte b {r} {at} e =
       let is = counting-refused (stopByte 68 body) (partsIn 68 body) e in
@@ -139,3 +139,8 @@ module _ (b : List ℕ) where
   pub fault-at : {r : Refusal} {n at : ℕ} → readingOf b ≡ refused r → n ≡ numberOf r → at ≡ byteFor (numberOf r) (faultBytes (wholeParts 68 (bodyIn b))) → _≡_ {A = Fault} (record { number = n; byte = at }) (faultOf b)
   unfolding faultOf
   fault-at e number byte = rw (e, number, byte)
+
+  -- of a frame whose body was counted
+  pub fault-counted : {body : List ℕ} {n at : ℕ} → body ≡ bodyIn b → n ≡ faultNumber (readingOf b) → at ≡ byteFor n (faultBytes (wholeParts 68 body)) → _≡_ {A = Fault} (record { number = n; byte = at }) (faultOf b)
+  unfolding faultOf
+  fault-counted same number byte = rw (byte, same, number)

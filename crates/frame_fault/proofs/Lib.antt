@@ -2,7 +2,9 @@
 pub mod Whole
 pub mod Whys
 pub mod Sizes
+pub mod Alikes
 pub mod Routes
 pub mod Parts
 pub mod Places
 pub mod Bodies
+pub mod Telling

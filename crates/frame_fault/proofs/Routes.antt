@@ -1,6 +1,6 @@
 -- The first malformed route: the test of one part, and the loop over them.
 use mathlib.Core.Path.{_≡_, refl, sym, ap, subst, _∙_}
-use Prim.Native.Nat.{ℕ, zero, suc, _+_, _-_, _<_, _≤_}
+use Prim.Native.Nat.{ℕ, zero, suc, _+_, _-_, _*_, _<_, _≤_}
 use native.Mathlib.Nat.{add-zero}
 use native.Mathlib.Numerals.{add-one}
 use mathlib.Core.Bool.{Bool, true, false}
@@ -23,6 +23,7 @@ use Rattle.frame_body.specs.WorkingJudging.{partsFound, Found}
 use Rattle.frame_body.proofs.Stretches.{PartBegins, begins, first-byte}
 use Rattle.frame_body.proofs.Cursors.{At, at-parts, at-found, at-next}
 use Rattle.frame_fault.specs.Fault.{firstMalformed}
+use Rattle.frame_fault.specs.WorkingAlike.{Alike}
 use Rattle.frame_fault.proofs.Sizes.{byte-there}
 
 -- no bytes are no route
@@ -162,3 +163,40 @@ module _ {body : List ℕ} {ps : List (List ℕ)} {i at : ℕ} (l : Leads body p
             bytes = omega (arith, l .bytes, ap (λ (qs : List (List ℕ)). length (joined qs)) (take-suc ps i [] some), ap length (joined-snoc (take i ps) q), length-append (joined (take i ps)) (partBytes q), long);
             most = omega arith;
           })
+
+-- ---- the same by the place alone: so many routes of 38 bytes are passed
+
+pub record Passes (body : List ℕ) (ps : List (List ℕ)) (at : ℕ) : Type 0 where
+  pub count : ℕ
+  pub is : at ≡ 38 * count
+  pub leads : Leads body ps count at
+
+pub passes-none : (body : List ℕ) (ps : List (List ℕ)) → body ≡ joined ps → Passes body ps 0
+passes-none body ps e = record { count = 0; is = refl; leads = leads-none body ps e }
+
+module _ {body : List ℕ} {ps : List (List ℕ)} {at : ℕ} (p : Passes body ps at) (short : length body ≤ 32768) (few : length ps ≤ 68) where
+  pub passes-found : Found (drop at body)
+  passes-found = leads-found (p .leads) short few
+
+  pub passes-out : isRoute (getD (partsFound (drop at body)) 0 []) ≡ false → at ≡ length (joined (take (firstMalformed 64 ps) ps))
+  passes-out e = leads-out (p .leads) short few e
+
+  pub passes-all : 2432 ≤ at → at ≡ length (joined (take (firstMalformed 64 ps) ps))
+  passes-all h = leads-all (p .leads) short few (omega (arith, p .is))
+
+  module _ (route : isRoute (getD (partsFound (drop at body)) 0 []) ≡ true) where
+    pub passes-within : at + 38 ≤ length body
+    passes-within = leads-within (p .leads) short few route
+
+    pub passes-more : at < 2432 → Passes body ps (at + 38)
+    passes-more h = record { count = p .count + 1; is = omega (arith, p .is); leads = leads-more (p .leads) short few route (omega (arith, p .is)) }
+
+  -- a part whose size is known
+  module _ (b : Bytes body) {n : ℕ} (a : Alike body n) (more : at < 38 * n) where
+    pub known-fits : at + 38 < length body
+    known-fits = omega (arith, p .is, a .behind (omega arith))
+
+    pub known-route : isRoute (take (at + 38 - (at + 1)) (drop (at + 1) body)) ≡ isRoute (getD (partsFound (drop at body)) 0 [])
+    known-route =
+        let size : getD body at 0 ≡ 37 = ap (λ (k : ℕ). getD body k 0) (p .is) ∙ a .sizes (p .count) (omega (arith, p .is)) in
+        at-route body at b passes-found (omega (arith, known-fits)) size

@@ -2,3 +2,4 @@
 pub mod Fault
 -- What begins with Working serves the proofs alone: nothing there has to be believed.
 pub mod WorkingFaults
+pub mod WorkingAlike

@@ -1,6 +1,6 @@
 -- Why the parts of a body are refused, by the number: what is known where its byte is looked for.
 use mathlib.Core.Path.{_≡_}
-use Prim.Native.Nat.{ℕ}
+use Prim.Native.Nat.{ℕ, _≤_}
 use mathlib.Core.Bool.{true, false, cond}
 use mathlib.Core.List.{List, []}
 use lib.Dec.{ltb}
@@ -10,9 +10,9 @@ use Rattle.refusal.specs.Refusals.{numberOf}
 use Rattle.refusal.specs.Answer.{refused, andThen}
 use Rattle.frame_message.specs.Header.{hasTopic, isType, areFlags, fieldsGood}
 use Rattle.frame_message.specs.Writing.{routesGood}
-use Rattle.frame_message.specs.Reading.{partsIn, front, final, routesIn, topicPlace, partsAgree, isTopicPart, judged}
+use Rattle.frame_message.specs.Reading.{partsIn, front, final, routesIn, topicPlace, partsAgree, isTopicPart, judged, readingOf}
 use Rattle.frame_message.specs.Working.{isHeader}
-use Rattle.frame_fault.specs.Fault.{headerOfParts}
+use Rattle.frame_fault.specs.Fault.{bodyIn, headerOfParts}
 
 -- how many bytes a part's size takes, by the first of them
 abbrev pub sizeLength : ℕ → ℕ
@@ -39,3 +39,13 @@ pub record BodyWhy (body : List ℕ) (number : ℕ) : Type 0 where
   pub why : Refusal
   pub same : number ≡ numberOf why
   pub refuses : andThen (partsIn 68 body) judged ≡ refused why
+
+-- what the tests that need no look at a part but the last tell: 0, or why the body is refused
+pub record Early (body : List ℕ) (number : ℕ) : Type 0 where
+  pub told : (number ≡ 0 → ⊥) → BodyWhy body number
+
+-- the body of a frame whose front is right
+pub record BodyOf (b body : List ℕ) : Type 0 where
+  pub same : body ≡ bodyIn b
+  pub short : length body ≤ 32768
+  pub reading : readingOf b ≡ andThen (partsIn 68 body) judged

@@ -1,16 +1,18 @@
-// The fault of a frame: the reader's number for it, and the byte at which it lies, counted from the frame's front. The reader is asked first; only where it
-// refuses a frame are its parts gone through once more.
-use frame_layout::Reading;
+// The fault of a frame: the reader's number for it, and the byte at which it lies, counted from the frame's front. Its parts are counted, and most numbers
+// told by that alone; the reader is asked for the others.
+use alike::count_alike;
+use alike::leading_alike;
 use frame_message::FRONT;
-use place::byte_in;
-use refusal::Refusal;
+use frame_parts::Counting;
+use number::number_counted;
+use place::byte_counted;
 ghost use mathlib.Core.Path.{_≡_};
 ghost use Rattle.bytes_number.specs.Lent.{was};
-ghost use Rattle.refusal.specs.Refusals.{numberOf};
-ghost use Rattle.refusal.specs.Answer.{refused};
-ghost use Rattle.frame_message.specs.Reading.{readingOf};
-ghost use Rattle.frame_fault.specs.Fault.{bodyIn, wholeParts, faultBytes, byteFor, faultOf};
+ghost use Rattle.frame_fault.specs.Fault.{faultOf};
+ghost use Rattle.frame_fault.specs.WorkingFaults.{BodyOf};
 
+mod alike;
+mod number;
 mod place;
 mod route;
 
@@ -20,31 +22,39 @@ pub struct Fault {
     pub byte: usize,
 }
 
-// The least number that has a byte.
-const LEAST: u32 = 4;
-
-// The byte of a number that the reader has refused bytes with. Its body is all there if the number is none of 1, 2 and 3.
-fn byte_of(bytes: &[u8], why: Refusal) -> usize
-    requires { ⌜ readingOf (now bytes) ≡ refused why ⌝ }
-    ensures { λ r. ⌜ r ≡ byteFor (numberOf why) (faultBytes (wholeParts 68 (bodyIn (was bytes)))) ⌝ }
+// What is wrong with a frame whose body is all there, and where.
+fn fault_in(bytes: &[u8], body: &[u8]) -> Fault
+    requires { ⌜ BodyOf (now bytes) (now body) ⌝ }
+    ensures { λ r. ⌜ r ≡ faultOf (was bytes) ⌝ }
 {
-    let number = refusal::number(why);
-    if number < LEAST {
-        return 0;
+    let alike = leading_alike(body);
+    match count_alike(body, alike) {
+        Counting::Refused(why, at) => Fault {
+            number: refusal::number(why),
+            byte: FRONT + at,
+        },
+        Counting::Counted(counts) => {
+            let number = number_counted(bytes, body, counts);
+            Fault {
+                number,
+                byte: byte_counted(body, counts, alike, number),
+            }
+        }
     }
-    let end = FRONT + bytes_number::number_at(bytes, 4) as usize;
-    byte_in(&bytes[FRONT..end], number)
 }
 
 // What is wrong with the frame at the front of bytes, and where.
 pub fn find_fault(bytes: &[u8]) -> Fault
     ensures { λ r. ⌜ r ≡ faultOf (was bytes) ⌝ }
 {
-    match frame_read::read(bytes) {
-        Reading::Accepted(_) => Fault { number: 0, byte: 0 },
-        Reading::Refused(why) => Fault {
+    let front = frame_read::find_body(bytes);
+    let end = front.end;
+    let why = front.why;
+    if end == 0 {
+        return Fault {
             number: refusal::number(why),
-            byte: byte_of(bytes, why),
-        },
+            byte: 0,
+        };
     }
+    fault_in(bytes, &bytes[FRONT..end])
 }

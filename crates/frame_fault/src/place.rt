@@ -2,9 +2,7 @@
 use crate::route::first_malformed;
 use frame_message::FRONT;
 use frame_message::REQUEST;
-use frame_parts::Counting;
 use frame_parts::PartCounts;
-use frame_parts::count_parts;
 ghost use mathlib.Core.Path.{_≡_};
 ghost use mathlib.Core.Bool.{cond};
 ghost use Prim.Native.Nat.{_≤_, _+_};
@@ -13,8 +11,11 @@ ghost use lib.ListN.{length, getD};
 ghost use Rattle.bytes_number.specs.Lent.{was};
 ghost use Rattle.frame_message.specs.Header.{hasRoute};
 ghost use Rattle.frame_body.specs.WorkingJudging.{partsFound, CountsOf};
-ghost use Rattle.frame_fault.specs.Fault.{wholeParts, faultBytes, byteFor};
-ghost use Rattle.frame_fault.specs.WorkingFaults.{sizeLength, Why, BodyWhy};
+ghost use Rattle.refusal.specs.Answer.{andThen};
+ghost use Rattle.frame_message.specs.Reading.{partsIn, judged};
+ghost use Rattle.frame_fault.specs.Fault.{wholeParts, faultBytes, byteFor, faultNumber};
+ghost use Rattle.frame_fault.specs.WorkingAlike.{Alike};
+ghost use Rattle.frame_fault.specs.WorkingFaults.{sizeLength, Why};
 
 // The first byte of a size that takes five.
 const LONG: u8 = 255;
@@ -52,9 +53,9 @@ fn field_byte(kind: u8) -> usize
 }
 
 // The byte of a body whose parts were counted. The header's data starts behind a size of one byte.
-fn byte_in_parts(body: &[u8], counts: PartCounts, number: u32) -> usize
+fn byte_in_parts(body: &[u8], counts: PartCounts, alike: usize, number: u32) -> usize
     requires { ⌜ (length (now body) ≤ 32768) × CountsOf (now body) counts ⌝ }
-    requires { ⌜ Why (partsFound (now body)) number ⌝ }
+    requires { ⌜ Alike (now body) alike × Why (partsFound (now body)) number ⌝ }
     ensures { λ r. ⌜ r ≡ byteFor number (faultBytes (partsFound (was body))) ⌝ }
 {
     let last = counts.last;
@@ -64,7 +65,7 @@ fn byte_in_parts(body: &[u8], counts: PartCounts, number: u32) -> usize
     match number {
         6 => size,
         7 => header,
-        8 => data_at(body, first_malformed(body)),
+        8 => data_at(body, first_malformed(body, alike)),
         9 => data_at(body, topic_at(bytes_number::byte_at(body, last + 4), group)),
         10 => header + field_byte(bytes_number::byte_at(body, last + 3)),
         21 => header + 1,
@@ -74,13 +75,15 @@ fn byte_in_parts(body: &[u8], counts: PartCounts, number: u32) -> usize
     }
 }
 
-// The byte of a body that is refused with this number.
-pub(crate) fn byte_in(body: &[u8], number: u32) -> usize
-    requires { ⌜ (length (now body) ≤ 32768) × BodyWhy (now body) number ⌝ }
+// The byte of a body whose number this is; 0 for a good one.
+pub(crate) fn byte_counted(body: &[u8], counts: PartCounts, alike: usize, number: u32) -> usize
+    requires { ⌜ (length (now body) ≤ 32768) × CountsOf (now body) counts ⌝ }
+    requires { ⌜ Alike (now body) alike × (number ≡ faultNumber (andThen (partsIn 68 (now body)) judged)) ⌝ }
     ensures { λ r. ⌜ r ≡ byteFor number (faultBytes (wholeParts 68 (was body))) ⌝ }
 {
-    match count_parts(body, frame_message::MOST_PARTS) {
-        Counting::Refused(_, at) => FRONT + at,
-        Counting::Counted(counts) => byte_in_parts(body, counts, number),
+    if number == 0 {
+        0
+    } else {
+        byte_in_parts(body, counts, alike, number)
     }
 }

@@ -1,5 +1,6 @@
 -- The header: a law for each case of its tests.
-use mathlib.Core.Path.{_≡_}
+use mathlib.Core.Path.{_≡_, refl, sym, ap, _∙_}
+use native.Mathlib.Omega.{arith}
 use mathlib.Core.Bool.{true, false}
 use Prim.Native.Nat.{ℕ, _+_}
 use mathlib.Core.List.{List, [], _∷_, _++_, append-nil}
@@ -11,8 +12,12 @@ use Rattle.frame_message.specs.declared.Header.{Header}
 use Rattle.frame_message.specs.Header.{isType, areFlags, headerBytes, headerIn}
 use Rattle.frame_message.specs.Reading.{headerOrWhy}
 use Rattle.refusal.specs.declared.Refusal.the-variants.{HeaderWrong, MagicWrong, VersionWrong, TypeWrong, FlagWrong}
-use Rattle.frame_header.specs.declared.Head.the-variants.{Wrong, Fields}
-use Rattle.frame_header.specs.WorkingHead.{headAs}
+use Rattle.refusal.specs.declared.Refusal.{Refusal}
+use Rattle.refusal.specs.Answer.{Answer, refused, answered}
+use Rattle.frame_message.proofs.Headers.{header-answered, header-tested}
+use Rattle.frame_header.specs.declared.Head.the-variants as heads
+use Rattle.frame_header.specs.declared.Test.the-variants.{Wrong, Right}
+use Rattle.frame_header.specs.WorkingHead.{testAs, headAs}
 
 -- ---- the fields
 
@@ -23,33 +28,49 @@ fields-in p eu er ef es = rw (eu, er, ef, es)
 -- ---- a header that is right: 6, 20, 21, 22, then 23
 
 module _ (p : List ℕ) where
-  pub head-length : (length p ≡ 20 → ⊥) → Wrong HeaderWrong ≡ headAs (headerOrWhy p)
+  pub head-length : (length p ≡ 20 → ⊥) → Wrong HeaderWrong ≡ testAs (headerOrWhy p)
   unfolding headerOrWhy
   head-length n = rw (ne-eqb (length p) 20 n)
 
   module _ (long : length p ≡ 20) where
-    pub head-magic : (getD p 0 0 ≡ 142 → ⊥) → Wrong MagicWrong ≡ headAs (headerOrWhy p)
+    pub head-magic : (getD p 0 0 ≡ 142 → ⊥) → Wrong MagicWrong ≡ testAs (headerOrWhy p)
     unfolding headerOrWhy
     head-magic n = rw (eq-eqb (length p) 20 long, ne-eqb (getD p 0 0) 142 n)
 
     module _ (magic : getD p 0 0 ≡ 142) where
-      pub head-version : (getD p 1 0 ≡ 1 → ⊥) → Wrong VersionWrong ≡ headAs (headerOrWhy p)
+      pub head-version : (getD p 1 0 ≡ 1 → ⊥) → Wrong VersionWrong ≡ testAs (headerOrWhy p)
       unfolding headerOrWhy
       head-version n = rw (eq-eqb (length p) 20 long, eq-eqb (getD p 0 0) 142 magic, ne-eqb (getD p 1 0) 1 n)
 
       module _ (version : getD p 1 0 ≡ 1) where
-        pub head-type : isType (getD p 2 0) ≡ false → Wrong TypeWrong ≡ headAs (headerOrWhy p)
+        pub head-type : isType (getD p 2 0) ≡ false → Wrong TypeWrong ≡ testAs (headerOrWhy p)
         unfolding headerOrWhy
         head-type e = rw (eq-eqb (length p) 20 long, eq-eqb (getD p 0 0) 142 magic, eq-eqb (getD p 1 0) 1 version, e)
 
         module _ (type-known : isType (getD p 2 0) ≡ true) where
-          pub head-flag : areFlags (getD p 3 0) ≡ false → Wrong FlagWrong ≡ headAs (headerOrWhy p)
+          pub head-flag : areFlags (getD p 3 0) ≡ false → Wrong FlagWrong ≡ testAs (headerOrWhy p)
           unfolding headerOrWhy
           head-flag e = rw (eq-eqb (length p) 20 long, eq-eqb (getD p 0 0) 142 magic, eq-eqb (getD p 1 0) 1 version, type-known, e)
 
-          pub head-fields : areFlags (getD p 3 0) ≡ true → Fields (headerIn p) ≡ headAs (headerOrWhy p)
+          pub head-right : areFlags (getD p 3 0) ≡ true → Right ≡ testAs (headerOrWhy p)
           unfolding headerOrWhy
-          head-fields e = rw (eq-eqb (length p) 20 long, eq-eqb (getD p 0 0) 142 magic, eq-eqb (getD p 1 0) 1 version, type-known, e)
+          head-right e = rw (eq-eqb (length p) 20 long, eq-eqb (getD p 0 0) 142 magic, eq-eqb (getD p 1 0) 1 version, type-known, e)
+
+-- ---- what the test told
+
+pub told-wrong : (a : Answer Header) {r : Refusal} → Wrong r ≡ testAs a → heads.Wrong r ≡ headAs a
+told-wrong (refused q) {r} e = let same : r ≡ q = cc in ap heads.Wrong same
+told-wrong (answered h) e = let z : _≡_ {A = ℕ} 0 1 = cc in absurd (omega arith)
+
+pub told-right : (p : List ℕ) → Right ≡ testAs (headerOrWhy p) → headerOrWhy p ≡ answered (headerIn p)
+told-right p e = go (headerOrWhy p) refl e
+  where
+    go : (a : Answer Header) → headerOrWhy p ≡ a → Right ≡ testAs a → headerOrWhy p ≡ answered (headerIn p)
+    go (refused q) k e = let z : _≡_ {A = ℕ} 0 1 = cc in absurd (omega arith)
+    go (answered h) k e = k ∙ ap answered (header-answered p h k .same)
+
+pub right-long : (p : List ℕ) → Right ≡ testAs (headerOrWhy p) → length p ≡ 20
+right-long p e = header-tested p (header-answered p (headerIn p) (told-right p e) .passes) .long
 
 -- ---- a header written
 

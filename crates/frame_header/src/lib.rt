@@ -9,7 +9,12 @@ ghost use Rattle.bytes_number.specs.WorkingLays.{laidIfRoom, laidCount};
 ghost use Rattle.frame_message.specs.Header.{headerBytes, headerIn};
 ghost use Rattle.frame_message.specs.Frame.{partBytes};
 ghost use Rattle.frame_message.specs.Reading.{headerOrWhy};
-ghost use Rattle.frame_header.specs.WorkingHead.{headAs};
+ghost use Rattle.frame_header.specs.WorkingHead.{testAs, headAs};
+
+pub enum Test {
+    Wrong(Refusal),
+    Right,
+}
 
 pub enum Head {
     Wrong(Refusal),
@@ -31,26 +36,36 @@ fn fields(p: &[u8]) -> Header
     }
 }
 
-// The fields of a header that is right, or why it is wrong: 6, 20, 21, 22, then 23.
+// Whether a header is right, or why it is wrong: 6, 20, 21, 22, then 23.
+pub fn test_header(p: &[u8]) -> Test
+    ensures { λ r. ⌜ r ≡ testAs (headerOrWhy (was p)) ⌝ }
+{
+    if p.len() != frame_message::HEADER {
+        return Test::Wrong(Refusal::HeaderWrong);
+    }
+    if p[0] != frame_message::MAGIC {
+        return Test::Wrong(Refusal::MagicWrong);
+    }
+    if p[1] != frame_message::VERSION {
+        return Test::Wrong(Refusal::VersionWrong);
+    }
+    if !frame_header_rules::is_type(p[2]) {
+        return Test::Wrong(Refusal::TypeWrong);
+    }
+    if !frame_header_rules::are_flags(p[3]) {
+        return Test::Wrong(Refusal::FlagWrong);
+    }
+    Test::Right
+}
+
+// The fields of a header that is right, or why it is wrong.
 pub fn read_header(p: &[u8]) -> Head
     ensures { λ r. ⌜ r ≡ headAs (headerOrWhy (was p)) ⌝ }
 {
-    if p.len() != frame_message::HEADER {
-        return Head::Wrong(Refusal::HeaderWrong);
+    match test_header(p) {
+        Test::Wrong(why) => Head::Wrong(why),
+        Test::Right => Head::Fields(fields(p)),
     }
-    if p[0] != frame_message::MAGIC {
-        return Head::Wrong(Refusal::MagicWrong);
-    }
-    if p[1] != frame_message::VERSION {
-        return Head::Wrong(Refusal::VersionWrong);
-    }
-    if !frame_header_rules::is_type(p[2]) {
-        return Head::Wrong(Refusal::TypeWrong);
-    }
-    if !frame_header_rules::are_flags(p[3]) {
-        return Head::Wrong(Refusal::FlagWrong);
-    }
-    Head::Fields(fields(p))
 }
 
 // Writes a header's part to the front of out, if there is room for it, and tells how many bytes it has, or 0. The header lies in no slice: its

@@ -37,7 +37,7 @@ module _ (k : tie.After-shared-slice-known) where
   short = start .pre .0 .0
 
   abbrev why : Why (partsFound body) (start .args .number)
-  why = start .pre .1
+  why = start .pre .1 .1
 
   low : counts .last ≤ 32768
   low = last-low body bytes counts counted short
@@ -49,7 +49,8 @@ add-header : tie.Need-add-header
 add-header c = omega (arith, low c)
 
 first-malformed-requires : tie.Need-first-malformed-requires
-first-malformed-requires c κs = (counted (c .before) .found, short (c .before))
+first-malformed-requires c κs = let k = c .before in
+    ((counted k .found, short k), start k .pre .1 .0)
 
 data-at-requires : tie.Need-data-at-requires
 data-at-requires c κs = let k = c .before .before in
