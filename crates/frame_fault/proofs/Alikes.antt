@@ -18,6 +18,7 @@ use Rattle.frame_part_size.specs.declared.Size.the-variants.{Data}
 use Rattle.frame_part_size.specs.WorkingSizes.{sizeAt}
 use Rattle.frame_part_size.proofs.Sizes.{size-short}
 use Rattle.frame_parts.specs.declared.PartCounts.{PartCounts}
+use Rattle.frame_parts.specs.declared.Counting.{Counting}
 use Rattle.frame_parts.specs.declared.Counting.the-variants.{Refused, Counted}
 use Rattle.frame_parts.specs.WorkingCounting.{stopByte, countedAs, countingOf}
 use Rattle.frame_parts.proofs.Passing.{Passed, passed-none, passed-none-empty}
@@ -99,6 +100,10 @@ front-append (p ∷ ps) qs h =
 -- so many parts of 38 bytes in front of those that were counted
 abbrev pub added : ℕ → PartCounts → PartCounts
 added n c = record { count = n + c .count; empty = n + c .empty; group = 38 * n + c .group; last = 38 * n + c .last }
+
+-- however the sums are written
+pub added-as : (n : ℕ) (c : PartCounts) {s : PartCounts} {counting : Counting} → s .count ≡ n + c .count → s .empty ≡ n + c .empty → s .group ≡ 38 * n + c .group → s .last ≡ 38 * n + c .last → Counted (added n c) ≡ counting → Counted s ≡ counting
+added-as n c count empty group last e = (λ i. Counted (record { count = count i; empty = empty i; group = group i; last = last i })) ∙ e
 
 module _ (body : List ℕ) (b : Bytes body) (n : ℕ) (a : Alike body n) where
   abbrev at : ℕ

@@ -81,17 +81,18 @@ module _ (body : List ℕ) (b : Bytes body) (counts : PartCounts) (o : CountsOf 
   unfolding judged
   rest = ap (λ (a : Answer (List (List ℕ))). andThen a judged) (o .found) ∙ rw (header-answers (final [] ps) is)
 
-  module _ {kind flags routes : ℕ} (ek : kind ≡ getD body (counts .last + 3) 0) (ef : flags ≡ getD body (counts .last + 4) 0) (er : routes ≡ cond (hasRoute flags) (counts .empty) 0) where
+  -- type and flags, where they were read
+  module _ {kind flags routes i j : ℕ} (ek : kind ≡ getD body i 0) (ei : i ≡ counts .last + 3) (ef : flags ≡ getD body j 0) (ej : j ≡ counts .last + 4) (er : routes ≡ cond (hasRoute flags) (counts .empty) 0) where
     kind-is : kind ≡ h .kind
     unfolding headerIn
     kind-is =
-        let there : counts .last + 3 ≡ counts .last + 1 + 2 = omega arith in
+        let there : i ≡ counts .last + 1 + 2 = omega arith in
         ek ∙ ap (λ (m : ℕ). getD body m 0) there ∙ head-byte 2
 
     flags-are : flags ≡ h .flags
     unfolding headerIn
     flags-are =
-        let there : counts .last + 4 ≡ counts .last + 1 + 3 = omega arith in
+        let there : j ≡ counts .last + 1 + 3 = omega arith in
         ef ∙ ap (λ (m : ℕ). getD body m 0) there ∙ head-byte 3
 
     routes-are : routes ≡ cond (hasRoute (h .flags)) (counts .empty) 0

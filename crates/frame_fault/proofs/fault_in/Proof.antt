@@ -85,7 +85,7 @@ returns : tie.Need-returns
 returns c = let k = c .before .before in
     let d = stop k in
     let why : BodyWhy (body d) (c .number .result) = record { why = k .why .given .0 .0; same = c .number .ensures; refuses = refusal k } in
-    fault-counted _ (there d .same) (c .number .ensures ∙ sym (ap faultNumber (there d .reading ∙ refusal k))) (stopped-byte (body d) why (bytes d) (stopped k))
+    fault-counted _ (there d .same) (c .number .ensures ∙ sym (ap faultNumber (there d .reading ∙ refusal k))) (omega (arith, stopped-byte (body d) why (bytes d) (stopped k)))
 
 returns-2 : tie.Need-returns-2
 returns-2 c = let m = c .before in

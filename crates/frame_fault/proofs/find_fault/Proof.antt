@@ -1,7 +1,7 @@
 -- `frame_fault::find_fault` meets its contract.
 use borrow.Author.Needs.{needs}
 use native.Mathlib.Omega.{arith}
-use mathlib.Core.Path.{_≡_, refl, sym, subst⁻¹}
+use mathlib.Core.Path.{_≡_, refl, subst⁻¹}
 use Rattle.refusal.specs.Refusals.{numberOf}
 use Rattle.frame_read.specs.WorkingFront.{Opens}
 use Rattle.frame_read.proofs.Opening.{opens-behind, opens-lent, opens-short}
@@ -26,7 +26,7 @@ returns c = let t = c .before in
     let f = t .before in
     let b = f .before .before .args .bytes .now in
     let front = f .find-body .ensures in
-    fault-at b (front .refuses (omega (arith, t .if1 .taken))) (c .number .ensures) (sym (no-byte (wholeParts 68 (bodyIn b)) (numberOf (f .find-body .result .why)) (omega (arith, front .early))))
+    fault-at b (front .refuses (omega (arith, t .if1 .taken))) (c .number .ensures) (omega (arith, no-byte (wholeParts 68 (bodyIn b)) (numberOf (f .find-body .result .why)) (omega (arith, front .early))))
 
 sub-fault-in : tie.Need-sub-fault-in
 sub-fault-in c = opens-behind (open-there c)

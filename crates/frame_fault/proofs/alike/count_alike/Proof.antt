@@ -13,7 +13,7 @@ use Rattle.frame_parts.specs.WorkingCounting.{countingOf}
 use Rattle.frame_parts.proofs.Passing.{part-from, before-few}
 use Rattle.frame_body.specs.WorkingJudging.{partsFound, CountsOf}
 use Rattle.frame_body.proofs.Heading.{counting-done, last-within, group-within}
-use Rattle.frame_fault.proofs.Alikes.{added, alike-within, alike-refused, alike-counted}
+use Rattle.frame_fault.proofs.Alikes.{added, added-as, alike-within, alike-refused, alike-counted}
 use Rattle.frame_fault.proofs.Bodies.{stop-low}
 use Rattle.frame_fault.proofs.alike.count_alike.Statement.{statement}
 use Rattle.frame_fault.proofs.alike.count_alike.Tie as tie
@@ -104,7 +104,8 @@ returns : tie.Need-returns
 returns c = stopped (c .before)
 
 returns-2 : tie.Need-returns-2
-returns-2 c = all (c .before .before .before .before .before)
+returns-2 c = let k = c .before .before .before .before .before in
+    added-as (n (done k)) (k .rest .given .0 .0) (omega arith) (omega arith) (omega arith) (omega arith) (all k)
 
 pub count-alike-spec : {M : Type 1} → statement M
 count-alike-spec =

@@ -56,7 +56,7 @@ returns c = let d = c .before .before in
     let b = r .before in
     let k = b .before .before in
     early-told (c .number .ensures)
-    (early-parts (body k) (bytes k) (counts k) (start k .pre .0 .1) (start k .pre .0 .0) (start k .pre .1) (b .byte-at2 .ensures) (b .before .byte-at .ensures) (r .routes-counted .ensures) (d .parts-agree .ensures) (not-true _ (c .before .if1 .taken)))
+    (early-parts (body k) (bytes k) (counts k) (start k .pre .0 .1) (start k .pre .0 .0) (start k .pre .1) (b .byte-at2 .ensures) (omega arith) (b .before .byte-at .ensures) (omega arith) (r .routes-counted .ensures) (d .parts-agree .ensures) (not-true _ (c .before .if1 .taken)))
 
 number-requires-2 : tie.Need-number-requires-2
 number-requires-2 c κs = search needs
@@ -68,7 +68,7 @@ returns-2 c = let e = c .before .before in
     let b = r .before in
     let k = b .before .before in
     early-told (c .number2 .ensures)
-    (early-routes (body k) (bytes k) (counts k) (start k .pre .0 .1) (start k .pre .0 .0) (start k .pre .1) (b .byte-at2 .ensures) (b .before .byte-at .ensures) (r .routes-counted .ensures) (d .parts-agree .ensures) (not-false _ (e .if1 .left)) (omega (arith, c .before .if2 .taken)))
+    (early-routes (body k) (bytes k) (counts k) (start k .pre .0 .1) (start k .pre .0 .0) (start k .pre .1) (b .byte-at2 .ensures) (omega arith) (b .before .byte-at .ensures) (omega arith) (r .routes-counted .ensures) (d .parts-agree .ensures) (not-false _ (e .if1 .left)) (omega (arith, c .before .if2 .taken)))
 
 returns-3 : tie.Need-returns-3
 returns-3 c = early-none
