@@ -45,6 +45,16 @@ static unsigned long long refusal_of(const struct object *object)
     return object->dump->refusal;
 }
 
+static void put_refusal_name(const struct object *object)
+{
+    const char *name = refusal_name(object->dump->refusal);
+
+    if (name == NULL)
+        json_null();
+    else
+        json_text(name);
+}
+
 static void put_words(const struct object *object)
 {
     json_text(lampreycoil_refusal_words(object->dump->refusal));
@@ -245,6 +255,7 @@ static const struct member of_frame[] = {
     {"frame", SIZED, frame_length, NULL},
     {"behind", SINGLE, bytes_behind, NULL},
     {"refusal", REFUSED, refusal_of, NULL},
+    {"refusal_name", REFUSED, NULL, put_refusal_name},
     {"words", REFUSED, NULL, put_words},
     {"because", REFUSED, NULL, put_because},
     {"fault_byte", REFUSED, NULL, put_fault_byte},

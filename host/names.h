@@ -34,6 +34,9 @@ const struct error_name *error_by_number(uint32_t number);
 const struct type_names *type_by_number(uint32_t number);
 const struct type_names *type_by_name(const char *name);
 
+/* The header's name for a number that the reader refuses with; NULL for another. */
+const char *refusal_name(uint32_t number);
+
 /* What stands behind a word for so many of a thing: nothing for 1, and "s" for any other number. */
 const char *plural(unsigned long long count);
 

@@ -82,7 +82,7 @@ refused       1: $n1
 because       0 of the 8 bytes that tell a frame's length are there; missing: 8
 bytes         none" "$room/nothing"
 shows 'a summary of an empty file' 1 'stop          no frame: the capture is empty' --summary "$room/nothing"
-shows 'the JSON of an empty file' 1 '{"accepted":false,"input":0,"refusal":1,"words":"'"$n1"'","because":"0 of the 8 bytes that tell a frame'"'"'s length are there; missing: 8","fault_byte":null,"front":"","needed":8}' --json "$room/nothing"
+shows 'the JSON of an empty file' 1 '{"accepted":false,"input":0,"refusal":1,"refusal_name":"LAMPREYCOIL_INPUT_SHORT","words":"'"$n1"'","because":"0 of the 8 bytes that tell a frame'"'"'s length are there; missing: 8","fault_byte":null,"front":"","needed":8}' --json "$room/nothing"
 stops 'a summary of a refused frame' 1 "0 frames, 0 bytes; frame 0, from byte 0, $(nine 31)" --summary "$room/nine"
 
 # ---- a torn tail
@@ -194,11 +194,11 @@ case $four_json in
 esac
 shows 'the JSON of a frame that is named' 0 "$(placed_json 2 64 "$room/response")" --json --frame 2 "$room/four"
 shows 'the JSON of a torn tail' 1 "$(placed_json 0 0 "$room/control")
-"'{"accepted":false,"number":1,"start":29,"input":3,"refusal":1,"words":"'"$n1"'","because":"3 of the 8 bytes that tell a frame'"'"'s length are there; missing: 5","fault_byte":null,"front":"FFEE00","needed":8}
+"'{"accepted":false,"number":1,"start":29,"input":3,"refusal":1,"refusal_name":"LAMPREYCOIL_INPUT_SHORT","words":"'"$n1"'","because":"3 of the 8 bytes that tell a frame'"'"'s length are there; missing: 5","fault_byte":null,"front":"FFEE00","needed":8}
 {"stop":"torn","frames":1,"bytes":29,"refusal":1,"shown":1,"refused":0,"next":null}' --json "$room/front"
-shows 'the JSON of a named frame that is torn' 1 '{"accepted":false,"number":1,"start":29,"input":3,"refusal":1,"words":"'"$n1"'","because":"3 of the 8 bytes that tell a frame'"'"'s length are there; missing: 5","fault_byte":null,"front":"FFEE00","needed":8}' --json --frame 1 "$room/front"
+shows 'the JSON of a named frame that is torn' 1 '{"accepted":false,"number":1,"start":29,"input":3,"refusal":1,"refusal_name":"LAMPREYCOIL_INPUT_SHORT","words":"'"$n1"'","because":"3 of the 8 bytes that tell a frame'"'"'s length are there; missing: 5","fault_byte":null,"front":"FFEE00","needed":8}' --json --frame 1 "$room/front"
 shows 'the JSON of junk behind frames' 1 "$(printf '%s\n' "$four_json" | head -n 2)
-"'{"accepted":false,"number":2,"start":64,"input":16,"refusal":2,"words":"'"$n2"'","because":"77 68 61 74 in place of FF EE 00 12","fault_byte":null,"front":"7768617420697320"}
+"'{"accepted":false,"number":2,"start":64,"input":16,"refusal":2,"refusal_name":"LAMPREYCOIL_START_WRONG","words":"'"$n2"'","because":"77 68 61 74 in place of FF EE 00 12","fault_byte":null,"front":"7768617420697320"}
 {"stop":"refused","frames":2,"bytes":64,"refusal":2,"shown":2,"refused":1,"next":null}' --json "$room/junk"
 
 good=0

@@ -158,9 +158,20 @@ header_hex='8E010109FFFFFFFF00000000FFFFFFFF00000001'
 shows 'the JSON of log' 0 '{"accepted":true,"input":35,"frame":35,"behind":0,"type":1,"type_name":"request","flags":9,"flag_names":["topic","route"],"userid":4294967295,"rolemask":0,"role_names":[],"first":4294967295,"second":1,"first_name":"nodeid","second_name":"matchtag","routes":[],"delimiter":{"start":9,"length":0,"hex":""},"topic":{"start":10,"length":3,"hex":"6C6F67","text":"log"},"payload":null,"header":{"start":15,"length":20,"hex":"'$header_hex'"}}' --json "$room/log"
 shows 'the JSON of a response' 0 '{"accepted":true,"input":119,"frame":119,"behind":0,"type":2,"type_name":"response","flags":127,"flag_names":["topic","payload","noresponse","route","upstream","private","streaming"],"userid":1000,"rolemask":17,"role_names":["owner"],"first":38,"second":7,"first_name":"errnum","second_name":"matchtag","error_name":"ENOSYS","routes":[{"start":9,"length":37,"text":"'$two'"},{"start":47,"length":37,"text":"'$one'"}],"delimiter":{"start":85,"length":0,"hex":""},"topic":{"start":86,"length":8,"hex":"6B76732E22676574","text":"kvs.\"get"},"payload":{"start":96,"length":2,"hex":"6869","is_json":false,"json_byte":0,"json_because":"byte 0 of it, 68, '"$stands"'"},"header":{"start":99,"length":20,"hex":"8E01027F000003E8000000110000002600000007"}}' --json "$room/response"
 printf '\xFF\xEE\0' >"$room/short"
-shows 'the JSON of 3 bytes' 1 '{"accepted":false,"input":3,"refusal":1,"words":"'"$n1"'","because":"3 of the 8 bytes that tell a frame'"'"'s length are there; missing: 5","fault_byte":null,"front":"FFEE00","needed":8}' --json "$room/short"
+shows 'the JSON of 3 bytes' 1 '{"accepted":false,"input":3,"refusal":1,"refusal_name":"LAMPREYCOIL_INPUT_SHORT","words":"'"$n1"'","because":"3 of the 8 bytes that tell a frame'"'"'s length are there; missing: 5","fault_byte":null,"front":"FFEE00","needed":8}' --json "$room/short"
 unhex "$start 00 00 00 17 01 1B 14 8E 01 04 01 $fields" >"$room/nine"
-shows 'the JSON of a refused frame' 1 '{"accepted":false,"input":31,"refusal":9,"words":"'"$n9"'","because":"the topic does not end with a zero byte","fault_byte":9,"front":"FFEE001200000017","body":23,"header_start":11,"header_is_last_part":true,"type":4,"type_name":"event","flags":1,"flag_names":["topic"],"userid":0,"rolemask":0,"role_names":[],"first":2,"second":3,"first_name":"sequence","second_name":"unused","whole":true,"parts":[{"role":"topic","start":9,"length":1,"hex":"1B"},{"role":"header","start":11,"length":20,"hex":"8E01040100000000000000000000000200000003"}]}' --json "$room/nine"
+shows 'the JSON of a refused frame' 1 '{"accepted":false,"input":31,"refusal":9,"refusal_name":"LAMPREYCOIL_TOPIC_WRONG","words":"'"$n9"'","because":"the topic does not end with a zero byte","fault_byte":9,"front":"FFEE001200000017","body":23,"header_start":11,"header_is_last_part":true,"type":4,"type_name":"event","flags":1,"flag_names":["topic"],"userid":0,"rolemask":0,"role_names":[],"first":2,"second":3,"first_name":"sequence","second_name":"unused","whole":true,"parts":[{"role":"topic","start":9,"length":1,"hex":"1B"},{"role":"header","start":11,"length":20,"hex":"8E01040100000000000000000000000200000003"}]}' --json "$room/nine"
+
+# Number, name and byte of the header's faults.
+names_fault() { # what, type and flags with what stands in front of them, number, name, byte
+    unhex "$start 00 00 00 15 14 $2 $fields" >"$room/fault"
+    shows "number, name and byte of $1" 1 '{"accepted":false,"refusal":'"$3"',"refusal_name":"LAMPREYCOIL_'"$4"'","fault_byte":'"$5"'}' \
+        --json --fields refusal,refusal_name,fault_byte "$room/fault"
+}
+names_fault 'a wrong magic' '8F 01 08 00' 20 MAGIC_WRONG 9
+names_fault 'a wrong version' '8E 02 08 00' 21 VERSION_WRONG 10
+names_fault 'a wrong type' '8E 01 03 00' 22 TYPE_WRONG 11
+names_fault 'flag 80' '8E 01 08 80' 23 FLAG_WRONG 12
 
 # ---- options, and outputs that cannot be written
 

@@ -67,7 +67,7 @@ done
 good=0
 for words in $(grep -v '\.' <<<"$names"); do grep -qx "\.I $words" man/flux_frame.1 || good=1; done
 report "$good" 'each field is in the page'
-[ "$(wc -w <<<"$names")" -eq 54 ] && grep -qx payload.json_because <<<"$names"
+[ "$(wc -w <<<"$names")" -eq 55 ] && grep -qx payload.json_because <<<"$names"
 report $? 'all of them are told where there is none of a name'
 
 wrong 'a field that is not there' "no field is called 'topics'; there are accepted number start " dump --json --fields number,topics "$room/four"
