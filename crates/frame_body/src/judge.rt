@@ -23,9 +23,6 @@ ghost use Rattle.frame_message.specs.Reading.{partsIn, front, judged, judgedAs}
 ghost use Rattle.frame_layout.specs.WorkingPlacing.{readAs};
 ghost use Rattle.frame_body.specs.WorkingJudging.{partsFound, Found, stretchAt, pieceIf, Within, topicWrong, CountsOf, Headed, Sorted};
 
-// The size byte of a route's part.
-const ROUTE_SIZE: u8 = 37;
-
 // The data of the part that begins s, whose size is known to be right.
 fn stretch_at(s: &[u8]) -> Stretch
     requires { ⌜ 0 < length (now s) ⌝ }
@@ -77,7 +74,7 @@ fn are_routes(body: &[u8], routes: usize) -> bool
     let mut i = 0;
     let mut at = 0;
     while i < routes {
-        if body[at] != ROUTE_SIZE {
+        if body[at] != frame_message::ROUTE_SIZE {
             return false;
         }
         if !frame_forms::is_route(&body[at + 1..at + frame_message::ROUTE_PART]) {

@@ -2,6 +2,7 @@
 use frame_message::MOST_PARTS;
 use frame_message::MOST_ROUTES;
 use frame_message::ROUTE_PART;
+use frame_message::ROUTE_SIZE;
 use frame_parts::Counting;
 use frame_parts::PartCounts;
 use frame_parts::count_parts;
@@ -11,9 +12,6 @@ ghost use lib.ListN.{length};
 ghost use Rattle.bytes_number.specs.Lent.{was};
 ghost use Rattle.frame_parts.specs.WorkingCounting.{countingOf};
 ghost use Rattle.frame_fault.specs.WorkingAlike.{Alike};
-
-// The size byte of a route's part.
-pub(crate) const ROUTE_SIZE: u8 = 37;
 
 // Parts that are looked at together.
 const FOUR: usize = 4;

@@ -1,7 +1,7 @@
 // The route that is refused: the first malformed of the first 64, or the one behind them.
-use crate::alike::ROUTE_SIZE;
 use frame_message::MOST_ROUTES;
 use frame_message::ROUTE_PART;
+use frame_message::ROUTE_SIZE;
 ghost use mathlib.Core.Path.{_≡_};
 ghost use mathlib.Core.List.{[]};
 ghost use Prim.Native.Nat.{_≤_};

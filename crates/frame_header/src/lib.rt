@@ -11,6 +11,7 @@ ghost use Rattle.frame_message.specs.Frame.{partBytes};
 ghost use Rattle.frame_message.specs.Reading.{headerOrWhy};
 ghost use Rattle.frame_header.specs.WorkingHead.{testAs, headAs};
 
+// Whether a part is a header, without its fields: whoever tells a fault does not need them.
 pub enum Test {
     Wrong(Refusal),
     Right,

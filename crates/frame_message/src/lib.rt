@@ -17,6 +17,9 @@ pub const MOST_PARTS: usize = 68;
 // A route with its size byte, and a header without its size byte and with it.
 pub const ROUTE_PART: usize = 38;
 
+// The size byte of a route's part.
+pub const ROUTE_SIZE: u8 = 37;
+
 pub const HEADER: usize = 20;
 
 pub const HEADER_PART: usize = 21;
