@@ -10,8 +10,8 @@ use lib.Dec.{leb}
 use lib.ListN.{length, get_or, take, drop, set, replicate, length-drop}
 use lib.Seq.{drop-cons, drop-length, drop-drop, set_at, length-take-le}
 use Rattle.bytes_copy.proofs.Held.{copy_more}
-use Rattle.bytes_number.proofs.Truth.{and-right-fails}
-use Rattle.bytes_move.specs.WorkingMoved.{moved, movedIfRoom, zeros}
+use Rattle.bytes_number.proofs.Truth.{and_right_fails}
+use Rattle.bytes_move.specs.WorkingMoved.{moved, moved_if_room, zeros}
 
 -- ---- clearing
 
@@ -19,18 +19,18 @@ length-zeros : (i : ℕ) → length {A = ℕ} (replicate i 0) ≡ i
 length-zeros zero = refl
 length-zeros (suc i) = ap suc (length-zeros i)
 
-zeros-more : (i : ℕ) (ys : List ℕ) → replicate i 0 ++ (0 ∷ ys) ≡ replicate (suc i) 0 ++ ys
-zeros-more zero ys = refl
-zeros-more (suc i) ys = ap (λ (l : List ℕ). 0 ∷ l) (zeros-more i ys)
+zeros_more : (i : ℕ) (ys : List ℕ) → replicate i 0 ++ (0 ∷ ys) ≡ replicate (suc i) 0 ++ ys
+zeros_more zero ys = refl
+zeros_more (suc i) ys = ap (λ (l : List ℕ). 0 ∷ l) (zeros_more i ys)
 
 -- the bytes in front of i are cleared
-pub clear-more : (xs : List ℕ) (i : ℕ) → i < length xs → set (replicate i 0 ++ drop i xs) i 0 ≡ replicate (i + 1) 0 ++ drop (i + 1) xs
-clear-more xs i h =
+pub clear_more : (xs : List ℕ) (i : ℕ) → i < length xs → set (replicate i 0 ++ drop i xs) i 0 ≡ replicate (i + 1) 0 ++ drop (i + 1) xs
+clear_more xs i h =
     ap (λ (l : List ℕ). set (replicate i 0 ++ l) i 0) (drop-cons xs i 0 h) ∙ set_at (replicate i 0) (get_or xs i 0) (drop (suc i) xs) 0 i (length-zeros i)
-    ∙ zeros-more i (drop (suc i) xs) ∙ ap (λ (k : ℕ). replicate k 0 ++ drop k xs) (sym (add-one i))
+    ∙ zeros_more i (drop (suc i) xs) ∙ ap (λ (k : ℕ). replicate k 0 ++ drop k xs) (sym (add-one i))
 
-pub clear-all : (xs : List ℕ) (i : ℕ) → i ≡ length xs → replicate i 0 ++ drop i xs ≡ zeros xs
-clear-all xs i e = ap (λ (k : ℕ). replicate k 0 ++ drop k xs) e ∙ ap (λ (l : List ℕ). zeros xs ++ l) (drop-length xs) ∙ append-none (zeros xs)
+pub clear_all : (xs : List ℕ) (i : ℕ) → i ≡ length xs → replicate i 0 ++ drop i xs ≡ zeros xs
+clear_all xs i e = ap (λ (k : ℕ). replicate k 0 ++ drop k xs) e ∙ ap (λ (l : List ℕ). zeros xs ++ l) (drop-length xs) ∙ append-none (zeros xs)
   where
     append-none : (l : List ℕ) → l ++ [] ≡ l
     append-none [] = refl
@@ -39,9 +39,9 @@ clear-all xs i e = ap (λ (k : ℕ). replicate k 0 ++ drop k xs) e ∙ ap (λ (l
 -- ---- moving
 
 -- a store behind a list's front
-set-behind : (p q : List ℕ) (j v : ℕ) → set (p ++ q) (length p + j) v ≡ p ++ set q j v
-set-behind [] q j v = ap (λ (k : ℕ). set q k v) (omega arith)
-set-behind (x ∷ p) q j v = ap (λ (k : ℕ). set (x ∷ (p ++ q)) k v) (suc-add (length p) j) ∙ ap (λ (l : List ℕ). x ∷ l) (set-behind p q j v)
+set_behind : (p q : List ℕ) (j v : ℕ) → set (p ++ q) (length p + j) v ≡ p ++ set q j v
+set_behind [] q j v = ap (λ (k : ℕ). set q k v) (omega arith)
+set_behind (x ∷ p) q j v = ap (λ (k : ℕ). set (x ∷ (p ++ q)) k v) (suc-add (length p) j) ∙ ap (λ (l : List ℕ). x ∷ l) (set_behind p q j v)
 
 -- the first j bytes of src stand at a place of the buffer
 abbrev pub partly : List ℕ → ℕ → ℕ → List ℕ → List ℕ
@@ -59,24 +59,24 @@ pub partly_more : (src : List ℕ) (to j : ℕ) (buffer : List ℕ) → j < leng
 partly_more src to j buffer hs hb =
     let long : length (take to buffer) ≡ to = length-take-le to buffer (omega arith) in
     ap (λ (k : ℕ). set (partly src to j buffer) (k + j) (get_or src j 0)) (sym long)
-    ∙ set-behind (take to buffer) (take j src ++ drop j (drop to buffer)) j (get_or src j 0)
+    ∙ set_behind (take to buffer) (take j src ++ drop j (drop to buffer)) j (get_or src j 0)
     ∙ ap (λ (l : List ℕ). take to buffer ++ l) (copy_more src (drop to buffer) j hs (omega (arith, length-drop to buffer)))
 
-pub partly-all : (from to n : ℕ) (buffer : List ℕ) → partly (drop from buffer) to n buffer ≡ moved from to n buffer
-partly-all from to n buffer =
+pub partly_all : (from to n : ℕ) (buffer : List ℕ) → partly (drop from buffer) to n buffer ≡ moved from to n buffer
+partly_all from to n buffer =
     ap (λ (l : List ℕ). take to buffer ++ (take n (drop from buffer) ++ l)) (drop-drop n to buffer) ∙ sym (append_assoc (take to buffer) (take n (drop from buffer)) (drop (to + n) buffer))
 
 -- ---- by the tests in front of it
 
 module _ (from to n : ℕ) (buffer : List ℕ) where
-  pub moved-room : n ≤ 32768 → from + n ≤ length buffer → to + n ≤ length buffer → movedIfRoom from to n buffer ≡ moved from to n buffer
-  moved-room few f t = rw (le-leb n 32768 few, le-leb (from + n) (length buffer) f, le-leb (to + n) (length buffer) t)
+  pub moved_room : n ≤ 32768 → from + n ≤ length buffer → to + n ≤ length buffer → moved_if_room from to n buffer ≡ moved from to n buffer
+  moved_room few f t = rw (le-leb n 32768 few, le-leb (from + n) (length buffer) f, le-leb (to + n) (length buffer) t)
 
-  pub moved-many : 32768 < n → movedIfRoom from to n buffer ≡ buffer
+  pub moved-many : 32768 < n → moved_if_room from to n buffer ≡ buffer
   moved-many h = rw (lt-leb n 32768 h)
 
-  pub moved-from : length buffer < from + n → movedIfRoom from to n buffer ≡ buffer
-  moved-from h = rw (lt-leb (from + n) (length buffer) h, and-right-fails (leb n 32768) refl)
+  pub moved_from : length buffer < from + n → moved_if_room from to n buffer ≡ buffer
+  moved_from h = rw (lt-leb (from + n) (length buffer) h, and_right_fails (leb n 32768) refl)
 
-  pub moved_to : length buffer < to + n → movedIfRoom from to n buffer ≡ buffer
-  moved_to h = rw (lt-leb (to + n) (length buffer) h, and-right-fails (leb (from + n) (length buffer)) refl, and-right-fails (leb n 32768) refl)
+  pub moved_to : length buffer < to + n → moved_if_room from to n buffer ≡ buffer
+  moved_to h = rw (lt-leb (to + n) (length buffer) h, and_right_fails (leb (from + n) (length buffer)) refl, and_right_fails (leb n 32768) refl)

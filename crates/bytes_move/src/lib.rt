@@ -1,7 +1,6 @@
 // Bytes moved within a lent buffer, and a buffer cleared.
 ghost use Rattle.std.specs.Prelude.{◌≡◌, ◌+◌, ◌≤◌, length};
-ghost use Rattle.bytes_number.specs.Lent.{was};
-ghost use Rattle.bytes_move.specs.WorkingMoved.{moved, movedIfRoom, zeros};
+ghost use Rattle.bytes_move.specs.WorkingMoved.{moved, moved_if_room, zeros};
 
 // How many bytes are moved at the most: as many as a body has.
 const MOST: usize = 32768;
@@ -10,7 +9,7 @@ const MOST: usize = 32768;
 // two loops.
 fn move_block(buffer: &mut [u8], from: usize, to: usize, n: usize)
     requires { (n ≤ 32768) × (from + n ≤ length buffer.old) × (to + n ≤ length buffer.old) }
-    ensures { buffer.new ≡ moved from to n (was buffer) }
+    ensures { buffer.new ≡ moved from to n buffer.old }
 {
     let mut held = [0u8; MOST];
     let mut i = 0;
@@ -27,7 +26,7 @@ fn move_block(buffer: &mut [u8], from: usize, to: usize, n: usize)
 
 // Moves n bytes from one place of a buffer to another, if they are at most 32,768 and both places lie in the buffer.
 pub fn move_within(buffer: &mut [u8], from: usize, to: usize, n: usize)
-    ensures { buffer.new ≡ movedIfRoom from to n (was buffer) }
+    ensures { buffer.new ≡ moved_if_room from to n buffer.old }
 {
     let len = buffer.len();
     if n <= MOST {
@@ -44,7 +43,7 @@ pub fn move_within(buffer: &mut [u8], from: usize, to: usize, n: usize)
 
 // Clears a buffer.
 pub fn clear(buffer: &mut [u8])
-    ensures { buffer.new ≡ zeros (was buffer) }
+    ensures { buffer.new ≡ zeros buffer.old }
 {
     let mut i = 0;
     while i < buffer.len() {

@@ -9,14 +9,14 @@ use lib.Seq.{get_or-drop}
 use Rattle.bytes_number.specs.Number.{number, four, Bytes}
 
 -- a list whose every place holds a byte, as the rule for a slice of bytes has it
-pub bytes-of : (xs : List ℕ) → ((i : ℕ) → get_or xs i 0 < 256) → Bytes xs
-bytes-of [] h = tt
-bytes-of (x ∷ xs) h = (h 0, bytes-of xs (λ i. h (suc i)))
+pub bytes_of_lem : (xs : List ℕ) → ((i : ℕ) → get_or xs i 0 < 256) → Bytes xs
+bytes_of_lem [] h = tt
+bytes_of_lem (x ∷ xs) h = (h 0, bytes_of_lem xs (λ i. h (suc i)))
 
-pub bytes-at : (xs : List ℕ) (i : ℕ) → Bytes xs → get_or xs i 0 < 256
-bytes-at [] i b = omega arith
-bytes-at (x ∷ xs) zero b = b.0
-bytes-at (x ∷ xs) (suc i) b = bytes-at xs i b.1
+pub bytes_at : (xs : List ℕ) (i : ℕ) → Bytes xs → get_or xs i 0 < 256
+bytes_at [] i b = omega arith
+bytes_at (x ∷ xs) zero b = b.0
+bytes_at (x ∷ xs) (suc i) b = bytes_at xs i b.1
 
 pub bytes_take : (n : ℕ) (xs : List ℕ) → Bytes xs → Bytes (take n xs)
 bytes_take zero xs b = tt
@@ -29,11 +29,11 @@ bytes_drop (suc n) [] b = tt
 bytes_drop (suc n) (x ∷ xs) b = bytes_drop n xs b.1
 
 pub number_lt : (xs : List ℕ) → Bytes xs → number xs < 4294967296
-number_lt xs b = omega (arith, bytes-at xs 0 b, bytes-at xs 1 b, bytes-at xs 2 b, bytes-at xs 3 b)
+number_lt xs b = omega (arith, bytes_at xs 0 b, bytes_at xs 1 b, bytes_at xs 2 b, bytes_at xs 3 b)
 
 -- a number from its digits to the base 256
-from-digits : (n q₁ q₂ q₃ r₀ r₁ r₂ : ℕ) → q₁ * 256 + r₀ ≡ n → q₂ * 256 + r₁ ≡ q₁ → q₃ * 256 + r₂ ≡ q₂ → q₃ * 16777216 + r₂ * 65536 + r₁ * 256 + r₀ ≡ n
-from-digits n q₁ q₂ q₃ r₀ r₁ r₂ e₀ e₁ e₂ = omega arith
+from_digits : (n q₁ q₂ q₃ r₀ r₁ r₂ : ℕ) → q₁ * 256 + r₀ ≡ n → q₂ * 256 + r₁ ≡ q₁ → q₃ * 256 + r₂ ≡ q₂ → q₃ * 16777216 + r₂ * 65536 + r₁ * 256 + r₀ ≡ n
+from_digits n q₁ q₂ q₃ r₀ r₁ r₂ e₀ e₁ e₂ = omega arith
 
 -- the four bytes of a number that fits them are that number
 pub number-four : (n : ℕ) (rest : List ℕ) → n < 4294967296 → number (four n ++ rest) ≡ n
@@ -42,7 +42,7 @@ number-four n rest h =
     let fourth : n / 65536 / 256 ≡ n / 16777216 = div-div-eq-div-mul n 65536 256 in
     let top : n / 16777216 % 256 ≡ n / 16777216 = omega arith in
     rw top
-    (from-digits n (n / 256) (n / 65536) (n / 16777216) (n % 256) (n / 256 % 256) (n / 65536 % 256) (div-add-mod' n 256)
+    (from_digits n (n / 256) (n / 65536) (n / 16777216) (n % 256) (n / 256 % 256) (n / 65536 % 256) (div-add-mod' n 256)
     (rw third at (div-add-mod' (n / 256) 256))
     (rw fourth at (div-add-mod' (n / 65536) 256)))
 

@@ -10,9 +10,9 @@ abbrev pub four : ℕ → List ℕ
 four n = (n / 16777216 % 256) ∷ (n / 65536 % 256) ∷ (n / 256 % 256) ∷ (n % 256) ∷ []
 
 -- a row of numbers: "four big-endian numbers" (paper 01), one after another
-abbrev pub rowBytes : List ℕ → List ℕ
-rowBytes [] = []
-rowBytes (n ∷ ns) = four n ++ rowBytes ns
+abbrev pub row_bytes : List ℕ → List ℕ
+row_bytes [] = []
+row_bytes (n ∷ ns) = four n ++ row_bytes ns
 
 -- and the number with the index i in such a row
 abbrev pub number_in : List ℕ → ℕ → ℕ

@@ -8,9 +8,9 @@ pub record Lays (xs lent left : List ℕ) (count : ℕ) : Type 0 where
   pub bytes : left ≡ laid xs lent
 
 -- the same where xs fits, and out as it was where it does not
-abbrev pub laidIfRoom : List ℕ → List ℕ → List ℕ
-laidIfRoom xs out = cond (leb (length xs) (length out)) (laid xs out) out
+abbrev pub laid_if_room : List ℕ → List ℕ → List ℕ
+laid_if_room xs out = cond (leb (length xs) (length out)) (laid xs out) out
 
 -- how many bytes are then written: all of xs, or none
-abbrev pub laidCount : List ℕ → List ℕ → ℕ
-laidCount xs out = cond (leb (length xs) (length out)) (length xs) 0
+abbrev pub laid_count : List ℕ → List ℕ → ℕ
+laid_count xs out = cond (leb (length xs) (length out)) (length xs) 0

@@ -1,8 +1,7 @@
 // Bytes: numbers of four bytes, read and written. Every public function is total.
 ghost use Rattle.std.specs.Prelude.{◌≡◌, ◌∷◌, [], get_or, drop};
-ghost use Rattle.bytes_number.specs.Lent.{was};
-ghost use Rattle.bytes_number.specs.Number.{number, four, rowBytes};
-ghost use Rattle.bytes_number.specs.WorkingLays.{laidIfRoom};
+ghost use Rattle.bytes_number.specs.Number.{number, four, row_bytes};
+ghost use Rattle.bytes_number.specs.WorkingLays.{laid_if_room};
 
 // A byte as a wider number. A call of its own, so that a byte read from a slice carries its range along.
 pub fn wide(x: u8) -> u32
@@ -20,14 +19,14 @@ pub fn number_of(a: u8, b: u8, c: u8, d: u8) -> u32
 
 // The byte at a place; 0 behind the end.
 pub fn byte_at(bytes: &[u8], at: usize) -> u8
-    ensures { result ≡ get_or (was bytes) at 0 }
+    ensures { result ≡ get_or bytes.now at 0 }
 {
     if at < bytes.len() { bytes[at] } else { 0 }
 }
 
 // The number that the bytes at a place are, of which fewer than four may be left.
 fn number_at_end(bytes: &[u8], at: usize) -> u32
-    ensures { result ≡ number (drop at (was bytes)) }
+    ensures { result ≡ number (drop at bytes.now) }
 {
     if at > bytes.len() {
         return 0;
@@ -43,7 +42,7 @@ fn number_at_end(bytes: &[u8], at: usize) -> u32
 
 // The number that the four bytes at a place are; bytes behind the end count as 0.
 pub fn number_at(bytes: &[u8], at: usize) -> u32
-    ensures { result ≡ number (drop at (was bytes)) }
+    ensures { result ≡ number (drop at bytes.now) }
 {
     if 4 <= bytes.len() {
         if at <= bytes.len() - 4 {
@@ -55,7 +54,7 @@ pub fn number_at(bytes: &[u8], at: usize) -> u32
 
 // Writes the lowest four bytes of n to the front of out, if there is room for them.
 pub fn put_number(out: &mut [u8], n: usize)
-    ensures { out.new ≡ laidIfRoom (four n) (was out) }
+    ensures { out.new ≡ laid_if_room (four n) out.old }
 {
     if 4 <= out.len() {
         out[0] = (n / 16777216 % 256) as u8;
@@ -67,7 +66,7 @@ pub fn put_number(out: &mut [u8], n: usize)
 
 // Writes a row of numbers to the front of out, four bytes each, if there is room for all of them.
 pub fn put_row(out: &mut [u8], row: &[usize])
-    ensures { out.new ≡ laidIfRoom (rowBytes (was row)) (was out) }
+    ensures { out.new ≡ laid_if_room (row_bytes row.now) out.old }
 {
     if 4 * row.len() <= out.len() {
         let mut at = 0;

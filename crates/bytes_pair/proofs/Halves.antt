@@ -11,20 +11,20 @@ high m n = omega arith
 low : (m n : ℕ) → (m % 4294967296 * 4294967296 + n % 4294967296) % 4294967296 ≡ n % 4294967296
 low m n = omega arith
 
-byte-3 : (k : ℕ) → k % 4294967296 / 16777216 % 256 ≡ k / 16777216 % 256
-byte-3 k = omega arith
+byte_3 : (k : ℕ) → k % 4294967296 / 16777216 % 256 ≡ k / 16777216 % 256
+byte_3 k = omega arith
 
-byte-2 : (k : ℕ) → k % 4294967296 / 65536 % 256 ≡ k / 65536 % 256
-byte-2 k = omega arith
+byte_2 : (k : ℕ) → k % 4294967296 / 65536 % 256 ≡ k / 65536 % 256
+byte_2 k = omega arith
 
-byte-1 : (k : ℕ) → k % 4294967296 / 256 % 256 ≡ k / 256 % 256
-byte-1 k = omega arith
+byte_1 : (k : ℕ) → k % 4294967296 / 256 % 256 ≡ k / 256 % 256
+byte_1 k = omega arith
 
-byte-0 : (k : ℕ) → k % 4294967296 % 256 ≡ k % 256
-byte-0 k = omega arith
+byte_0 : (k : ℕ) → k % 4294967296 % 256 ≡ k % 256
+byte_0 k = omega arith
 
 four_same : (k : ℕ) → four (k % 4294967296) ≡ four k
-four_same k = rw (byte-3 k, byte-2 k, byte-1 k, byte-0 k)
+four_same k = rw (byte_3 k, byte_2 k, byte_1 k, byte_0 k)
 
 pub pair_of : (w m n : ℕ) → w ≡ m % 4294967296 * 4294967296 + n % 4294967296 → four (w / 4294967296) ++ four w ≡ four m ++ four n
 pair_of w m n e =

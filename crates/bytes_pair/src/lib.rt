@@ -1,12 +1,11 @@
 // Two numbers of four bytes as one of eight, which is one store: for rows that are long, or many.
 ghost use Rattle.std.specs.Prelude.{◌≡◌, ◌++◌, ◌+◌, ◌*◌, ◌/◌, ◌%◌};
-ghost use Rattle.bytes_number.specs.Lent.{was};
 ghost use Rattle.bytes_number.specs.Number.{four};
-ghost use Rattle.bytes_number.specs.WorkingLays.{laidIfRoom};
+ghost use Rattle.bytes_number.specs.WorkingLays.{laid_if_room};
 
 // Writes the eight bytes of w to the front of out, if there is room for them.
 fn put_eight(out: &mut [u8], w: usize)
-    ensures { out.new ≡ laidIfRoom (four (w / 4294967296) ++ four w) (was out) }
+    ensures { out.new ≡ laid_if_room (four (w / 4294967296) ++ four w) out.old }
 {
     let high = w / 4294967296;
     let held = [
@@ -31,7 +30,7 @@ fn joined(m: usize, n: usize) -> usize
 
 // Writes the lowest four bytes of m, and then those of n, if there is room for all eight.
 pub fn put_pair(out: &mut [u8], m: usize, n: usize)
-    ensures { out.new ≡ laidIfRoom (four m ++ four n) (was out) }
+    ensures { out.new ≡ laid_if_room (four m ++ four n) out.old }
 {
     put_eight(out, joined(m, n));
 }

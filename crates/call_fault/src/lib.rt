@@ -1,5 +1,4 @@
 // The call that tells what is wrong with a frame. It returns what the read call returns, and lists number and byte in a lent slice.
-ghost use Rattle.bytes_number.specs.Lent.{was};
 ghost use Rattle.call_specs.specs.FaultCalls.{ReadsFault};
 
 use refusal::Refusal;
@@ -9,7 +8,7 @@ const FAULT_RECORD: usize = 8;
 
 // Lists the number of the refusal and the byte at fault, 0 and 0 for a good frame.
 pub fn read_fault(bytes: &[u8], row: &mut [u8]) -> u32
-    ensures { ReadsFault (was bytes) (was row) result row.new }
+    ensures { ReadsFault bytes.now row.old result row.new }
 {
     if row.len() < FAULT_RECORD {
         return refusal::number(Refusal::OutputShort);

@@ -1,7 +1,6 @@
 // The calls that read and write a frame. Each returns 0 or the refusal's number, and lists its answer as a row of four-byte numbers in a lent slice.
-ghost use Rattle.bytes_number.specs.Lent.{was};
-ghost use Rattle.call_specs.specs.Calls.{Reads, headerOf, Writes};
-ghost use Rattle.frame_message.specs.Writing.{givenMessage};
+ghost use Rattle.call_specs.specs.Calls.{Reads, header_of, Writes};
+ghost use Rattle.frame_message.specs.Writing.{given_message};
 
 use frame_layout::Reading;
 use frame_message::{Header, Written};
@@ -14,7 +13,7 @@ const COUNT_RECORD: usize = 4;
 
 // Reads the frame at the front of bytes, and lists where its parts lie.
 pub fn read(bytes: &[u8], row: &mut [u8]) -> u32
-    ensures { Reads (was bytes) (was row) result row.new }
+    ensures { Reads bytes.now row.old result row.new }
 {
     if row.len() < READ_RECORD {
         return refusal::number(Refusal::OutputShort);
@@ -42,7 +41,7 @@ pub fn write(
     out: &mut [u8],
     row: &mut [u8],
 ) -> u32
-    ensures { Writes (givenMessage (headerOf kind flags userid rolemask first second) (was routes) (was topic) (was payload)) (was out) (was row) result out.new row.new }
+    ensures { Writes (given_message (header_of kind flags userid rolemask first second) routes.now topic.now payload.now) out.old row.old result out.new row.new }
 {
     if row.len() < COUNT_RECORD {
         return refusal::number(Refusal::OutputShort);

@@ -1,7 +1,6 @@
 // The call that says whether a payload is JSON. It returns 0, or 26 where the payload nests too deep, and lists answer and byte in a lent slice.
 ghost use Rattle.std.specs.Prelude.{◌≡◌};
-ghost use Rattle.bytes_number.specs.Lent.{was};
-ghost use Rattle.call_specs.specs.JsonCalls.{toldByte, ChecksJson};
+ghost use Rattle.call_specs.specs.JsonCalls.{told_byte, ChecksJson};
 
 use json_scan::Verdict;
 use refusal::Refusal;
@@ -11,14 +10,14 @@ const JSON_RECORD: usize = 8;
 
 // A byte as it stands in the record.
 fn told(byte: usize) -> usize
-    ensures { result ≡ toldByte byte }
+    ensures { result ≡ told_byte byte }
 {
     if byte > 4294967295 { 4294967295 } else { byte }
 }
 
 // Lists 1 and 0 for a yes, 2 and the byte for a no, 0 and the opening byte for a level too many.
 pub fn check_json(payload: &[u8], row: &mut [u8]) -> u32
-    ensures { ChecksJson (was payload) (was row) result row.new }
+    ensures { ChecksJson payload.now row.old result row.new }
 {
     if row.len() < JSON_RECORD {
         return refusal::number(Refusal::OutputShort);

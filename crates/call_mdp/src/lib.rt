@@ -1,10 +1,9 @@
 // The calls that read and write a Majordomo command. Each returns 0 or the refusal's number, and lists its answer as a row of four-byte numbers in a lent
 // slice.
 ghost use Rattle.std.specs.Prelude.{◌≡◌};
-ghost use Rattle.bytes_number.specs.Lent.{was};
-ghost use Rattle.bytes_number.specs.Number.{rowBytes};
-ghost use Rattle.bytes_number.specs.WorkingLays.{laidIfRoom};
-ghost use Rattle.call_specs.specs.CommandCalls.{commandRow, ReadsCommand, WritesCommand};
+ghost use Rattle.bytes_number.specs.Number.{row_bytes};
+ghost use Rattle.bytes_number.specs.WorkingLays.{laid_if_room};
+ghost use Rattle.call_specs.specs.CommandCalls.{command_row, ReadsCommand, WritesCommand};
 ghost use Rattle.mdp_command.specs.CommandWriting.{given_of};
 
 use frame_message::Written;
@@ -18,7 +17,7 @@ const COUNT_RECORD: usize = 4;
 
 // Lists where a command lies, if there is room for all of it.
 fn put_places(row: &mut [u8], f: CommandPlaces)
-    ensures { row.new ≡ laidIfRoom (rowBytes (commandRow f)) (was row) }
+    ensures { row.new ≡ laid_if_room (row_bytes (command_row f)) row.old }
 {
     let name = f.name;
     let body = f.body;
@@ -37,7 +36,7 @@ fn put_places(row: &mut [u8], f: CommandPlaces)
 
 // Reads the command that the bytes are, and lists where its parts lie.
 pub fn read_command(bytes: &[u8], row: &mut [u8]) -> u32
-    ensures { ReadsCommand (was bytes) (was row) result row.new }
+    ensures { ReadsCommand bytes.now row.old result row.new }
 {
     if row.len() < COMMAND_RECORD {
         return refusal::number(Refusal::OutputShort);
@@ -61,7 +60,7 @@ pub fn write_command(
     out: &mut [u8],
     row: &mut [u8],
 ) -> u32
-    ensures { WritesCommand (given_of sender code (was name) (was address) (was body)) (was out) (was row) result out.new row.new }
+    ensures { WritesCommand (given_of sender code name.now address.now body.now) out.old row.old result out.new row.new }
 {
     if row.len() < COUNT_RECORD {
         return refusal::number(Refusal::OutputShort);

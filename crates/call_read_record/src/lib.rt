@@ -1,16 +1,15 @@
 // The record that a C program gets of a read: where the message lies, as a row of numbers, four bytes each.
 ghost use Rattle.std.specs.Prelude.{◌≡◌};
-ghost use Rattle.bytes_number.specs.Lent.{was};
-ghost use Rattle.bytes_number.specs.Number.{rowBytes};
-ghost use Rattle.bytes_number.specs.WorkingLays.{laidIfRoom};
-ghost use Rattle.call_read_record.specs.Rows.{readRow};
+ghost use Rattle.bytes_number.specs.Number.{row_bytes};
+ghost use Rattle.bytes_number.specs.WorkingLays.{laid_if_room};
+ghost use Rattle.call_read_record.specs.Rows.{read_row};
 
 use frame_layout::Layout;
 
 // Writes a row of numbers to the front of out, four bytes each, if there is room for all of them. Two numbers are one store of eight bytes, which a long
 // row gains by.
 fn put_pairs(out: &mut [u8], row: &[usize])
-    ensures { out.new ≡ laidIfRoom (rowBytes (was row)) (was out) }
+    ensures { out.new ≡ laid_if_room (row_bytes row.now) out.old }
 {
     if 4 * row.len() <= out.len() {
         let mut at = 0;
@@ -28,7 +27,7 @@ fn put_pairs(out: &mut [u8], row: &[usize])
 
 // Lists where a message lies, if there is room for all of it.
 pub fn put_frame(row: &mut [u8], f: Layout)
-    ensures { row.new ≡ laidIfRoom (rowBytes (readRow f)) (was row) }
+    ensures { row.new ≡ laid_if_room (row_bytes (read_row f)) row.old }
 {
     let h = f.header;
     let topic = f.topic;

@@ -12,11 +12,11 @@ use Rattle.frame_message.specs.Reading.{reading_of}
 use Rattle.frame_layout.specs.declared.Layout.{Layout}
 use Rattle.frame_layout.specs.declared.Reading.TheVariants.{Refused, Accepted}
 use Rattle.frame_layout.specs.Layout.{layout_of}
-use Rattle.frame_layout.specs.WorkingPlacing.{readAs}
-use Rattle.frame_body.proofs.Readings.{refused-read, accepted-read}
-use Rattle.call_read_record.specs.Rows.{readRow}
+use Rattle.frame_layout.specs.WorkingPlacing.{read_as}
+use Rattle.frame_body.proofs.Readings.{refused_read, accepted_read}
+use Rattle.call_read_record.specs.Rows.{read_row}
 use Rattle.refusal.proofs.Answers.{passed, both}
-use Rattle.call_specs.specs.Calls.{returned, readCall}
+use Rattle.call_specs.specs.Calls.{returned, read_call}
 use Rattle.call_specs.proofs.Telling.{done}
 
 -- a read that returns 0 has room for its record, and a message
@@ -24,12 +24,12 @@ pub record ReadDone (b : List ℕ) (room : ℕ) : Type 0 where
   pub message : Message
   pub enough : 52 ≤ room
   pub read : reading_of b ≡ answered message
-  pub lists : readCall b room ≡ answered (readRow (layout_of message))
+  pub lists : read_call b room ≡ answered (read_row (layout_of message))
 
-pub read_done : (b : List ℕ) (room : ℕ) → 0 ≡ returned (readCall b room) → ReadDone b room
-unfolding readCall
+pub read_done : (b : List ℕ) (room : ℕ) → 0 ≡ returned (read_call b room) → ReadDone b room
+unfolding read_call
 read_done b room e =
-    let d = done (readCall b room) e in
+    let d = done (read_call b room) e in
     let p = passed (ltb room 52) OutputShort _ d.value d.is in
     let two = both (reading_of b) _ d.value p.rest in
     record {
@@ -41,19 +41,19 @@ read_done b room e =
 
 module _ (b : List ℕ) (room : ℕ) where
   -- with room for its record, a read answers where the message lies
-  pub read-on : (m : Message) → 52 ≤ room → reading_of b ≡ answered m → readCall b room ≡ answered (readRow (layout_of m))
-  unfolding readCall
-  read-on m h e = rw (le-ltb room 52 h, e)
+  pub read_on : (m : Message) → 52 ≤ room → reading_of b ≡ answered m → read_call b room ≡ answered (read_row (layout_of m))
+  unfolding read_call
+  read_on m h e = rw (le-ltb room 52 h, e)
 
-  pub read_short : room < 52 → readCall b room ≡ refused OutputShort
-  unfolding readCall
+  pub read_short : room < 52 → read_call b room ≡ refused OutputShort
+  unfolding read_call
   read_short h = rw (lt-ltb room 52 h)
 
   module _ (h : 52 ≤ room) where
-    pub read-refused : (r : Refusal) → Refused r ≡ readAs (reading_of b) → readCall b room ≡ refused r
-    unfolding readCall
-    read-refused r e = rw (le-ltb room 52 h, refused-read (reading_of b) e)
+    pub read_refused : (r : Refusal) → Refused r ≡ read_as (reading_of b) → read_call b room ≡ refused r
+    unfolding read_call
+    read_refused r e = rw (le-ltb room 52 h, refused_read (reading_of b) e)
 
-    pub read-accepted : (f : Layout) → Accepted f ≡ readAs (reading_of b) → readCall b room ≡ answered (readRow f)
-    read-accepted f e = let r = accepted-read (reading_of b) e in
-        read-on r.message h r.is ∙ ap (λ (g : Layout). answered (readRow g)) (sym r.places)
+    pub read_accepted : (f : Layout) → Accepted f ≡ read_as (reading_of b) → read_call b room ≡ answered (read_row f)
+    read_accepted f e = let r = accepted_read (reading_of b) e in
+        read_on r.message h r.is ∙ ap (λ (g : Layout). answered (read_row g)) (sym r.places)

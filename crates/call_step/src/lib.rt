@@ -1,8 +1,7 @@
 // The calls that take a message along: one broker's step, and a whole walk. Each returns 0 or the refusal's number, and lists what came of it as a row of
 // four-byte numbers in a lent slice.
 ghost use Rattle.std.specs.Prelude.{◌≡◌};
-ghost use Rattle.bytes_number.specs.Lent.{was};
-ghost use Rattle.call_step_record.specs.Steps.{frameLength};
+ghost use Rattle.call_step_record.specs.Steps.{frame_length};
 
 pub mod steps;
 pub mod walks;
@@ -12,7 +11,7 @@ const NO_USER: u32 = 4294967295;
 
 // How long the frame at the front of a buffer is, by its first eight bytes.
 fn frame_length(buffer: &[u8]) -> usize
-    ensures { result ≡ frameLength (was buffer) }
+    ensures { result ≡ frame_length buffer.now }
 {
     frame_message::FRONT + bytes_number::number_at(buffer, 4) as usize
 }

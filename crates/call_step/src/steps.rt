@@ -1,7 +1,6 @@
 // One broker's step.
-ghost use Rattle.bytes_number.specs.Lent.{was};
 ghost use Rattle.step_routing.specs.Routed.{tables_of};
-ghost use Rattle.call_specs.specs.Calls.{hostBroker, Steps};
+ghost use Rattle.call_specs.specs.Calls.{host_broker, Steps};
 
 use crate::{NO_USER, frame_length};
 use refusal::Refusal;
@@ -19,7 +18,7 @@ pub fn step(
     buffer: &mut [u8],
     row: &mut [u8],
 ) -> u32
-    ensures { Steps (tables_of (was tree) (was services) (was identities)) (hostBroker rank) (was buffer) (was row) result buffer.new row.new }
+    ensures { Steps (tables_of tree.now services.now identities.now) (host_broker rank) buffer.old row.old result buffer.new row.new }
 {
     if row.len() < STEP_RECORD {
         return refusal::number(Refusal::OutputShort);

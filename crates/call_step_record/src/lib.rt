@@ -1,14 +1,14 @@
 // A step's and a walk's answer as the row of numbers that a C program gets.
 ghost use Rattle.std.specs.Prelude.{◌≡◌};
-ghost use Rattle.call_step_record.specs.Steps.{stepRow};
-ghost use Rattle.call_step_record.specs.WorkingRows.{refusalIn, walkRow};
+ghost use Rattle.call_step_record.specs.Steps.{step_row};
+ghost use Rattle.call_step_record.specs.WorkingRows.{refusal_in, walk_row};
 
 use step_routing::Stepped;
 use walk::Walked;
 
 // The number of a step's refusal, or 0.
 pub fn refusal_in(s: Stepped) -> u32
-    ensures { result ≡ refusalIn s }
+    ensures { result ≡ refusal_in s }
 {
     match s {
         Stepped::Refused(r) => refusal::number(r),
@@ -22,7 +22,7 @@ pub fn refusal_in(s: Stepped) -> u32
 
 // A step as four numbers: the answer, its record or rank, its error, and the length that the frame now has. A refusal has none of them.
 pub fn step_row(s: Stepped, size: usize) -> [usize; 4]
-    ensures { result ≡ stepRow s size }
+    ensures { result ≡ step_row s size }
 {
     match s {
         Stepped::Refused(_) => [0, 0, 0, 0],
@@ -36,7 +36,7 @@ pub fn step_row(s: Stepped, size: usize) -> [usize; 4]
 
 // A walk as six numbers: the last step's four, the rank at which it rests, and the links crossed.
 pub fn walk_row(w: Walked, size: usize) -> [usize; 6]
-    ensures { result ≡ walkRow w size }
+    ensures { result ≡ walk_row w size }
 {
     let step = w.step;
     let four = step_row(step, size);

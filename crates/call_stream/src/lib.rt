@@ -1,5 +1,4 @@
 // The call that lists the frames of a stream. It returns 0 or the refusal's number, and lists its answer as a row of four-byte numbers in a lent slice.
-ghost use Rattle.bytes_number.specs.Lent.{was};
 ghost use Rattle.call_specs.specs.Calls.{ReadsStream};
 
 use refusal::Refusal;
@@ -9,7 +8,7 @@ const STREAM_RECORD: usize = 12;
 
 // Lists each whole frame of bytes, and in the record how many they are, what stopped it and where.
 pub fn read_stream(bytes: &[u8], list: &mut [u8], row: &mut [u8]) -> u32
-    ensures { ReadsStream (was bytes) (was list) (was row) result list.new row.new }
+    ensures { ReadsStream bytes.now list.old row.old result list.new row.new }
 {
     if row.len() < STREAM_RECORD {
         return refusal::number(Refusal::OutputShort);

@@ -1,6 +1,5 @@
 // The calls that check the floor's tables. Each returns 0 or the refusal's number.
 ghost use Rattle.std.specs.Prelude.{◌≡◌};
-ghost use Rattle.bytes_number.specs.Lent.{was};
 ghost use Rattle.table_tree_check.specs.Working.{told};
 ghost use Rattle.table_services.specs.Services;
 ghost use Rattle.table_identities.specs.Identities;
@@ -14,7 +13,7 @@ const COUNT_RECORD: usize = 4;
 
 // Checks a tree, writes one depth byte a rank to the front of depths, and lists how many they are.
 pub fn check_tree(tree: &[u8], depths: &mut [u8], row: &mut [u8]) -> u32
-    ensures { ChecksTree (was tree) (was depths) (was row) result depths.new row.new }
+    ensures { ChecksTree tree.now depths.old row.old result depths.new row.new }
 {
     if row.len() < COUNT_RECORD {
         return refusal::number(Refusal::OutputShort);
@@ -40,14 +39,14 @@ fn verdict(checked: Checked) -> u32
 
 // Checks the services of a tree.
 pub fn check_services(tree: &[u8], services: &[u8]) -> u32
-    ensures { result ≡ returned (Services.servicesCheck (was tree) (was services)) }
+    ensures { result ≡ returned (Services.services_check tree.now services.now) }
 {
     verdict(table_services_check::check_services(tree, services))
 }
 
 // Checks the identities of a tree's ranks.
 pub fn check_identities(tree: &[u8], identities: &[u8]) -> u32
-    ensures { result ≡ returned (Identities.identitiesCheck (was tree) (was identities)) }
+    ensures { result ≡ returned (Identities.identities_check tree.now identities.now) }
 {
     verdict(table_identities_check::check_identities(tree, identities))
 }

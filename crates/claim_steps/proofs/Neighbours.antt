@@ -7,29 +7,29 @@ use native.Mathlib.Omega.{arith}
 use borrow.Author.Tests.{eqb-true, eqb-false}
 use lib.Dec.{eqb}
 use Rattle.bytes_number.proofs.Truth.{outcome, clash}
-use Rattle.table_tree.specs.Tree.{ranksIn, parentOf}
-use Rattle.table_tree_hops.specs.Towards.{isNeighbour}
-use Rattle.table_tree_hops.proofs.Towards.{parent-neighbour, child-neighbour, other-neighbour}
+use Rattle.table_tree.specs.Tree.{ranks_in, parent_of}
+use Rattle.table_tree_hops.specs.Towards.{is_neighbour}
+use Rattle.table_tree_hops.proofs.Towards.{parent_neighbour, child_neighbour, other_neighbour}
 use Rattle.step_routing.specs.declared.Broker.{Broker}
 use Rattle.step_routing.specs.Routed.{Tables}
 use Rattle.claim_steps.specs.Rules.{Neighbour}
 
-module _ (t : Tables) (b : Broker) (in_tree : b.rank < ranksIn t.tree) (rank : ℕ) (within : rank < ranksIn t.tree) where
-  pub neighbour-passes : Neighbour t b rank → isNeighbour t.tree b.rank rank ≡ true
-  neighbour-passes (Neighbour.parent e) = parent-neighbour t.tree b.rank rank in_tree within (omega arith)
-  neighbour-passes (Neighbour.child e) = child-neighbour t.tree b.rank rank in_tree within (omega arith)
+module _ (t : Tables) (b : Broker) (in_tree : b.rank < ranks_in t.tree) (rank : ℕ) (within : rank < ranks_in t.tree) where
+  pub neighbour_passes : Neighbour t b rank → is_neighbour t.tree b.rank rank ≡ true
+  neighbour_passes (Neighbour.parent e) = parent_neighbour t.tree b.rank rank in_tree within (omega arith)
+  neighbour_passes (Neighbour.child e) = child_neighbour t.tree b.rank rank in_tree within (omega arith)
 
-  pub passes-neighbour : isNeighbour t.tree b.rank rank ≡ true → Neighbour t b rank
-  passes-neighbour p =
+  pub passes_neighbour : is_neighbour t.tree b.rank rank ≡ true → Neighbour t b rank
+  passes_neighbour p =
       ⊎_elim
-      (λ e. Neighbour.parent (omega (arith, eqb-true (parentOf t.tree b.rank) rank e)))
+      (λ e. Neighbour.parent (omega (arith, eqb-true (parent_of t.tree b.rank) rank e)))
       (λ n.
-      let rest = other-neighbour t.tree b.rank rank in_tree within (eqb-false (parentOf t.tree b.rank) rank n) in
-      Neighbour.child (omega (arith, eqb-true (parentOf t.tree rank) b.rank (sym rest ∙ p))))
-      (outcome (eqb (parentOf t.tree b.rank) rank))
+      let rest = other_neighbour t.tree b.rank rank in_tree within (eqb-false (parent_of t.tree b.rank) rank n) in
+      Neighbour.child (omega (arith, eqb-true (parent_of t.tree rank) b.rank (sym rest ∙ p))))
+      (outcome (eqb (parent_of t.tree b.rank) rank))
 
-  pub neighbour-fails : (Neighbour t b rank → ⊥) → isNeighbour t.tree b.rank rank ≡ false
-  neighbour-fails none = ⊎_elim (λ p. absurd (none (passes-neighbour p))) (λ f. f) (outcome (isNeighbour t.tree b.rank rank))
+  pub neighbour_fails : (Neighbour t b rank → ⊥) → is_neighbour t.tree b.rank rank ≡ false
+  neighbour_fails none = ⊎_elim (λ p. absurd (none (passes_neighbour p))) (λ f. f) (outcome (is_neighbour t.tree b.rank rank))
 
-  pub fails-neighbour : isNeighbour t.tree b.rank rank ≡ false → Neighbour t b rank → ⊥
-  fails-neighbour f n = clash (isNeighbour t.tree b.rank rank) (neighbour-passes n) f
+  pub fails_neighbour : is_neighbour t.tree b.rank rank ≡ false → Neighbour t b rank → ⊥
+  fails_neighbour f n = clash (is_neighbour t.tree b.rank rank) (neighbour_passes n) f

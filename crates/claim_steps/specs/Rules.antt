@@ -6,17 +6,17 @@ use Rattle.frame_message.specs.declared.Header.{Header}
 use Rattle.refusal.specs.declared.Refusal.{Refusal}
 use Rattle.refusal.specs.declared.Refusal.TheVariants.{ForwardLong, NotRouted, NoNeighbour}
 use Rattle.refusal.specs.Answer.{Answer, refused, answered}
-use Rattle.frame_message.specs.Header.{noResponse, isUpstream, isStreaming}
+use Rattle.frame_message.specs.Header.{no_response, is_upstream, is_streaming}
 use Rattle.frame_message.specs.Message.{Message}
 use Rattle.frame_message.specs.Frame.{body_of, frame_of}
 use Rattle.frame_message.specs.Writing.{writing}
-use Rattle.table_tree.specs.Tree.{ranksIn, parentOf}
+use Rattle.table_tree.specs.Tree.{ranks_in, parent_of}
 use Rattle.table_tree_hops.specs.Towards.{towards}
-use Rattle.table_services.specs.Services.{servicesIn, serviceAt, rankIn, nameIn}
-use Rattle.table_services_find.specs.Lookup.{serviceOf}
-use Rattle.table_identities.specs.Identities.{identityAt, sameIdentity}
+use Rattle.table_services.specs.Services.{services_in, service_at, rank_in, name_in}
+use Rattle.table_services_find.specs.Lookup.{service_of}
+use Rattle.table_identities.specs.Identities.{identity_at, same_identity}
 use Rattle.step_routing.specs.declared.Broker.{Broker}
-use Rattle.step_routing.specs.Requests.{anyRank}
+use Rattle.step_routing.specs.Requests.{any_rank}
 use Rattle.step_routing.specs.Routed.{Tables, ValidTables, Outcome, delivered, forwarded, replied, silenced, home, routed}
 
 -- ---- for whom the rules hold
@@ -24,7 +24,7 @@ use Rattle.step_routing.specs.Routed.{Tables, ValidTables, Outcome, delivered, f
 -- the tables are valid, and the broker's rank is one of the tree: no 17
 pub record Right (t : Tables) (b : Broker) : Type 0 where
   pub tables : ValidTables t
-  pub rank : b.rank < ranksIn t.tree
+  pub rank : b.rank < ranks_in t.tree
 
 -- "A valid request or response is a frame of type 1 or 2 to which no number in the reader's order applies": a message of that type that can be written
 pub record Valid (type : ℕ) (m : Message) : Type 0 where
@@ -33,32 +33,32 @@ pub record Valid (type : ℕ) (m : Message) : Type 0 where
 
 -- "a neighbour (parent or child)", of a rank of the tree
 pub data Neighbour (t : Tables) (b : Broker) (rank : ℕ) : Type 0 where
-  parent : parentOf t.tree b.rank ≡ rank → Neighbour t b rank
-  child : parentOf t.tree rank ≡ b.rank → Neighbour t b rank
+  parent : parent_of t.tree b.rank ≡ rank → Neighbour t b rank
+  child : parent_of t.tree rank ≡ b.rank → Neighbour t b rank
 
 -- ---- which request it is
 
 -- "nodeid 4294967295"
 abbrev pub ForAny : Message → Type 0
-ForAny m = m.header.first ≡ anyRank
+ForAny m = m.header.first ≡ any_rank
 
 -- "other nodeid, upstream clear"
 pub record ForRank (m : Message) : Type 0 where
-  pub other : m.header.first ≡ anyRank → ⊥
-  pub clear : isUpstream m.header.flags ≡ false
+  pub other : m.header.first ≡ any_rank → ⊥
+  pub clear : is_upstream m.header.flags ≡ false
 
 -- "other nodeid, upstream set"
 pub record Upstream (m : Message) : Type 0 where
-  pub other : m.header.first ≡ anyRank → ⊥
-  pub set : isUpstream m.header.flags ≡ true
+  pub other : m.header.first ≡ any_rank → ⊥
+  pub set : is_upstream m.header.flags ≡ true
 
 -- ---- who registers its service
 
 -- "this rank registers the service": the record with this number, "counted from 0", has this rank and the whole service for its name
 pub record Registers (t : Tables) (b : Broker) (m : Message) (number : ℕ) : Type 0 where
-  pub within : number < servicesIn t.services
-  pub rank : rankIn (serviceAt t.services number) ≡ b.rank
-  pub name : nameIn (serviceAt t.services number) ≡ serviceOf m.topic
+  pub within : number < services_in t.services
+  pub rank : rank_in (service_at t.services number) ≡ b.rank
+  pub name : name_in (service_at t.services number) ≡ service_of m.topic
 
 -- no record does
 abbrev pub Unregistered : Tables → Broker → Message → Type 0
@@ -87,9 +87,9 @@ pub data GoesUp (t : Tables) (b : Broker) (m : Message) : Type 0 where
 -- to which broker a request is to be forwarded
 pub data GoesTo (t : Tables) (b : Broker) (m : Message) (next : ℕ) : Type 0 where
   -- "else forward to the parent"
-  up : GoesUp t b m → (b.rank ≡ 0 → ⊥) → next ≡ parentOf t.tree b.rank → GoesTo t b m next
+  up : GoesUp t b m → (b.rank ≡ 0 → ⊥) → next ≡ parent_of t.tree b.rank → GoesTo t b m next
   -- "Otherwise forward to the next broker on the tree path.": that `towards` is this broker is the claim `EveryWay` (claim_tables/specs/Ways.antt)
-  ahead : ForRank m → m.header.first < ranksIn t.tree → (m.header.first ≡ b.rank → ⊥) → next ≡ towards t.tree b.rank m.header.first → GoesTo t b m next
+  ahead : ForRank m → m.header.first < ranks_in t.tree → (m.header.first ≡ b.rank → ⊥) → next ≡ towards t.tree b.rank m.header.first → GoesTo t b m next
 
 -- when no service is there
 pub data NoService (t : Tables) (b : Broker) (m : Message) : Type 0 where
@@ -101,7 +101,7 @@ pub data NoService (t : Tables) (b : Broker) (m : Message) : Type 0 where
 -- when no rank is there: "other nodeid, upstream clear: a rank not in the tree gives error 113 at once"
 pub record Unreachable (t : Tables) (m : Message) : Type 0 where
   pub named : ForRank m
-  pub outside : ranksIn t.tree ≤ m.header.first
+  pub outside : ranks_in t.tree ≤ m.header.first
 
 -- ---- delivery, 38 and 113
 
@@ -113,8 +113,8 @@ pub data ErrorDue (a : Answer Outcome) (errnum : ℕ) : Type 0 where
 pub record Served (t : Tables) (b : Broker) (m : Message) (a : Answer Outcome) : Type 0 where
   -- "1 delivered, with the record's number, counted from 0"
   pub delivery : (number : ℕ) → (a ≡ answered (delivered number)) ↔ (Tries b m × Registers t b m number)
-  pub error-38 : ErrorDue a 38 ↔ NoService t b m
-  pub error-113 : ErrorDue a 113 ↔ Unreachable t m
+  pub error_38 : ErrorDue a 38 ↔ NoService t b m
+  pub error_113 : ErrorDue a 113 ↔ Unreachable t m
   pub no_other : (errnum : ℕ) → ErrorDue a errnum → (errnum ≡ 38) ⊎ (errnum ≡ 113)
   -- "5 home" is for responses
   pub not_home : a ≡ answered home → ⊥
@@ -139,7 +139,7 @@ pub data TooLarge (m : Message) : Type 0 where
 
 pub record Forwards (t : Tables) (b : Broker) (m : Message) (a : Answer Outcome) : Type 0 where
   -- "2 forward, with the rank"
-  pub forward : (next : ℕ) (new : Message) → (a ≡ answered (forwarded next new)) ↔ (GoesTo t b m next × Fits m × Gains (identityAt t.identities b.rank) m new)
+  pub forward : (next : ℕ) (new : Message) → (a ≡ answered (forwarded next new)) ↔ (GoesTo t b m next × Fits m × Gains (identity_at t.identities b.rank) m new)
   pub too_large : (a ≡ refused ForwardLong) ↔ (((next : ℕ) × GoesTo t b m next) × TooLarge m)
   -- and no other refusal
   pub refusal : (r : Refusal) → a ≡ refused r → r ≡ ForwardLong
@@ -147,7 +147,7 @@ pub record Forwards (t : Tables) (b : Broker) (m : Message) (a : Answer Outcome)
   pub grows : (next : ℕ) (new : Message) → a ≡ answered (forwarded next new) → length (frame_of new) ≡ length (frame_of m) + 38
   pub valid : (next : ℕ) (new : Message) → a ≡ answered (forwarded next new) → Valid 1 new
   -- the next broker is one of the tree, and a neighbour
-  pub neighbour : (next : ℕ) (new : Message) → a ≡ answered (forwarded next new) → (next < ranksIn t.tree) × Neighbour t b next
+  pub neighbour : (next : ℕ) (new : Message) → a ≡ answered (forwarded next new) → (next < ranks_in t.tree) × Neighbour t b next
 
 -- ---- the error reply and noresponse
 
@@ -161,7 +161,7 @@ pub record IsReply (b : Broker) (m : Message) (errnum : ℕ) (reply : Message) :
   pub error : reply.header.first ≡ errnum
   pub userid : reply.header.userid ≡ b.userid
   pub rolemask : reply.header.rolemask ≡ b.rolemask
-  pub flags : reply.header.flags ≡ cond (isStreaming m.header.flags) 0x49 0x09
+  pub flags : reply.header.flags ≡ cond (is_streaming m.header.flags) 0x49 0x09
   pub payload : reply.payload ≡ []
 
 pub record Replies (b : Broker) (m : Message) (a : Answer Outcome) : Type 0 where
@@ -171,23 +171,23 @@ pub record Replies (b : Broker) (m : Message) (a : Answer Outcome) : Type 0 wher
 
 -- "4 silenced (an error was due, noresponse set)": a reply where noresponse is clear, silence where it is set
 pub record Heard (m : Message) (a : Answer Outcome) : Type 0 where
-  pub reply : (errnum : ℕ) (reply : Message) → a ≡ answered (replied errnum reply) → noResponse m.header.flags ≡ false
-  pub silence : (errnum : ℕ) → a ≡ answered (silenced errnum) → noResponse m.header.flags ≡ true
+  pub reply : (errnum : ℕ) (reply : Message) → a ≡ answered (replied errnum reply) → no_response m.header.flags ≡ false
+  pub silence : (errnum : ℕ) → a ≡ answered (silenced errnum) → no_response m.header.flags ≡ true
 
 -- ---- responses
 
 -- the top route is the identity of the broker of a rank
 pub record Names (t : Tables) (m : Message) (rank : ℕ) : Type 0 where
-  pub within : rank < ranksIn t.tree
+  pub within : rank < ranks_in t.tree
   pub top : List ℕ
   pub below : List (List ℕ)
   pub routes : m.routes ≡ top ∷ below
-  pub same : sameIdentity (identityAt t.identities rank) top ≡ true
+  pub same : same_identity (identity_at t.identities rank) top ≡ true
 
 -- "if there are no routes, or the top route is no broker's identity, the response is home"
 pub data AtHome (t : Tables) (m : Message) : Type 0 where
-  no-routes : m.routes ≡ [] → AtHome t m
-  no-broker : ((rank : ℕ) → Names t m rank → ⊥) → AtHome t m
+  no_routes : m.routes ≡ [] → AtHome t m
+  no_broker : ((rank : ℕ) → Names t m rank → ⊥) → AtHome t m
 
 -- "remove it": the top route, and all else stays
 pub record Loses (m new : Message) : Type 0 where
@@ -202,14 +202,14 @@ pub record GoesBack (t : Tables) (b : Broker) (m : Message) (a : Answer Outcome)
   -- "If it names a neighbour (parent or child), remove it and forward there."
   pub forward : (next : ℕ) (new : Message) → (a ≡ answered (forwarded next new)) ↔ (Names t m next × Neighbour t b next × Loses m new)
   -- 19: "a response's top route is a broker that is no neighbour, itself included"
-  pub no-neighbour : (a ≡ refused NoNeighbour) ↔ ((rank : ℕ) × Names t m rank × (Neighbour t b rank → ⊥))
+  pub no_neighbour : (a ≡ refused NoNeighbour) ↔ ((rank : ℕ) × Names t m rank × (Neighbour t b rank → ⊥))
   pub itself : Names t m b.rank → a ≡ refused NoNeighbour
   pub refusal : (r : Refusal) → a ≡ refused r → r ≡ NoNeighbour
   pub shrinks : (next : ℕ) (new : Message) → a ≡ answered (forwarded next new) → length (frame_of new) + 38 ≡ length (frame_of m)
   pub valid : (next : ℕ) (new : Message) → a ≡ answered (forwarded next new) → Valid 2 new
   -- a response is not delivered, and no error comes of it
-  pub not-delivered : (number : ℕ) → a ≡ answered (delivered number) → ⊥
-  pub no-error : (errnum : ℕ) → ErrorDue a errnum → ⊥
+  pub not_delivered : (number : ℕ) → a ≡ answered (delivered number) → ⊥
+  pub no_error : (errnum : ℕ) → ErrorDue a errnum → ⊥
 
 -- ---- 18
 
@@ -278,4 +278,4 @@ silently (answered home) = answered home
 
 -- noresponse makes silence of a reply, and changes nothing else: of any tables and any message
 abbrev pub OnlySilence : Tables → Broker → Type 0
-OnlySilence t b = (m : Message) → noResponse m.header.flags ≡ false → routed t b (hushed m) ≡ silently (routed t b m)
+OnlySilence t b = (m : Message) → no_response m.header.flags ≡ false → routed t b (hushed m) ≡ silently (routed t b m)

@@ -9,7 +9,7 @@ use Rattle.step_routing.specs.Messages.{Owner}
 use Rattle.step_routing.specs.Routed.{Tables, Outcome}
 use Rattle.claim_steps.specs.Rules.{Right, RequestRules, GoesBack, Unrouted}
 use Rattle.step_pass.specs.Step.{room_for}
-use Rattle.call_specs.specs.Calls.{brokerAs, stepRecord, Tells, Steps}
+use Rattle.call_specs.specs.Calls.{broker_as, step_record, Tells, Steps}
 
 -- what came of a step call on a buffer that held the message m: an answer that meets the rules, of a request, of a response, and 18 of an event or a
 -- control message; and the call tells it, and leaves the buffer by it, unless a request that goes on has no room: 11
@@ -23,6 +23,6 @@ pub record ByTheRules (t : Tables) (b : Broker) (m : Message) (buffer row : List
 -- of every broker of valid tables, whosever its error replies are, every buffer that a message is read from, and every record with room
 abbrev pub StepsByTheRules : Tables → Owner → ℕ → List ℕ → Type 0
 StepsByTheRules t owner rank buffer =
-    Right t (brokerAs owner rank) → (m : Message) → reading_of buffer ≡ answered m →
-    (row : List ℕ) (r : ℕ) (left listed : List ℕ) → stepRecord ≤ length row → Steps t (brokerAs owner rank) buffer row r left listed →
-    ByTheRules t (brokerAs owner rank) m buffer row r left listed
+    Right t (broker_as owner rank) → (m : Message) → reading_of buffer ≡ answered m →
+    (row : List ℕ) (r : ℕ) (left listed : List ℕ) → step_record ≤ length row → Steps t (broker_as owner rank) buffer row r left listed →
+    ByTheRules t (broker_as owner rank) m buffer row r left listed

@@ -8,43 +8,43 @@ use native.Mathlib.Omega.{arith}
 use borrow.Author.Tests.{ltb-true, leb-true}
 use lib.Dec.{ltb, leb, lit<}
 use lib.ListN.{length, drop, replicate, length-append, length-replicate}
-use Rattle.bytes_number.specs.Number.{Bytes, rowBytes}
-use Rattle.bytes_number.proofs.Truth.{and_left, and_right, outcome, true-false}
-use Rattle.frame_forms.specs.Forms.{isRoute, isTopic}
+use Rattle.bytes_number.specs.Number.{Bytes, row_bytes}
+use Rattle.bytes_number.proofs.Truth.{and_left, and_right, outcome, true_false}
+use Rattle.frame_forms.specs.Forms.{is_route, is_topic}
 use Rattle.refusal.specs.Answer.{Answer, refused, answered}
-use Rattle.frame_message.specs.Header.{noResponse, partsFit, fieldsGood, headerBytes}
+use Rattle.frame_message.specs.Header.{no_response, parts_fit, fields_good, header_bytes}
 use Rattle.frame_message.specs.Message.{Message}
 use Rattle.frame_message.specs.Working.{FieldsFit}
 use Rattle.frame_message.specs.Frame.{parts_of, body_of, frame_of}
 use Rattle.frame_message.specs.Reading.{final}
-use Rattle.frame_message.specs.Writing.{partsGivenFit, routesGood, writing}
+use Rattle.frame_message.specs.Writing.{parts_given_fit, routes_good, writing}
 use Rattle.frame_message.proofs.Messages.{written}
 use Rattle.frame_message.proofs.RoundTrip.{read_back}
-use Rattle.table_records.specs.Below.{all_below, noneTwice}
-use Rattle.table_records.specs.Bytes.{sameBytes}
-use Rattle.table_tree.specs.Tree.{ranksIn}
-use Rattle.table_identities.specs.Identities.{sameIdentity, identitiesGood}
-use Rattle.walk_path.specs.Path.{End, delivers, fails, pathOf}
-use Rattle.walk_path.specs.Walks.{floorTree, floorServices, Told, toldOf, Row, walk, table, byPath}
-use Rattle.walk_path.proofs.Walks.{walks-are-right}
+use Rattle.table_records.specs.Below.{all_below, none_twice}
+use Rattle.table_records.specs.Bytes.{same_bytes}
+use Rattle.table_tree.specs.Tree.{ranks_in}
+use Rattle.table_identities.specs.Identities.{same_identity, identities_good}
+use Rattle.walk_path.specs.Path.{End, delivers, fails, path_of}
+use Rattle.walk_path.specs.Walks.{floor_tree, floor_services, Told, told_of, Row, walk, table, by_path}
+use Rattle.walk_path.proofs.Walks.{walks_are_right}
 use Rattle.step_routing.specs.Messages.{Owner}
 use Rattle.step_routing.specs.Routed.{Tables, ValidTables}
 use Rattle.step_routing.specs.declared.Stepped.{Stepped}
-use Rattle.frame_message.proofs.Frames.{frame-long}
-use Rattle.call_step_record.specs.Steps.{stepRow, frameLength}
-use Rattle.call_specs.specs.Calls.{walkRecord}
-use Rattle.claim_walks.specs.Demand3.{Enters, StepsOver, Goes, answerAt}
-use Rattle.claim_walks.specs.Walks.{floorIdentities, floor, requestOf, entering, answer_of, EndsAs, RowEnds, EachRow, WalksOfTheTable}
-use Rattle.claim_walks.proofs.Demand3.{demand-three}
+use Rattle.frame_message.proofs.Frames.{frame_long}
+use Rattle.call_step_record.specs.Steps.{step_row, frame_length}
+use Rattle.call_specs.specs.Calls.{walk_record}
+use Rattle.claim_walks.specs.Demand3.{Enters, StepsOver, Goes, answer_at}
+use Rattle.claim_walks.specs.Walks.{floor_identities, floor, request_of, entering, answer_of, EndsAs, RowEnds, EachRow, WalksOfTheTable}
+use Rattle.claim_walks.proofs.Demand3.{demand_three}
 
 -- ---- the tables are valid
 
-identities-right : identitiesGood floorTree floorIdentities ≡ true
-unfolding identitiesGood ranksIn all_below noneTwice sameIdentity sameBytes isRoute
-identities-right = refl
+identities_right : identities_good floor_tree floor_identities ≡ true
+unfolding identities_good ranks_in all_below none_twice same_identity same_bytes is_route
+identities_right = refl
 
-floor-valid : ValidTables floor
-floor-valid = record { tree = walks-are-right.tree; services = walks-are-right.services; identities = identities-right }
+floor_valid : ValidTables floor
+floor_valid = record { tree = walks_are_right.tree; services = walks_are_right.services; identities = identities_right }
 
 -- ---- the premises of demand 3
 
@@ -53,28 +53,28 @@ all_bytes [] = true
 all_bytes (x ∷ xs) = ltb x 256 && all_bytes xs
 
 -- bytes with zeros behind them are bytes
-bytes-padded : (xs : List ℕ) (n : ℕ) → all_bytes xs ≡ true → Bytes (xs ++ replicate n 0)
-bytes-padded [] zero e = tt
-bytes-padded [] (suc n) e = (omega arith, bytes-padded [] n e)
-bytes-padded (x ∷ xs) n e = (ltb-true x 256 (and_left (ltb x 256) (all_bytes xs) e), bytes-padded xs n (and_right (ltb x 256) (all_bytes xs) e))
+bytes_padded : (xs : List ℕ) (n : ℕ) → all_bytes xs ≡ true → Bytes (xs ++ replicate n 0)
+bytes_padded [] zero e = tt
+bytes_padded [] (suc n) e = (omega arith, bytes_padded [] n e)
+bytes_padded (x ∷ xs) n e = (ltb-true x 256 (and_left (ltb x 256) (all_bytes xs) e), bytes_padded xs n (and_right (ltb x 256) (all_bytes xs) e))
 
-abbrev isAnswered : {A : Type 0} → Answer A → Bool
-isAnswered (refused r) = false
-isAnswered (answered x) = true
+abbrev is_answered : {A : Type 0} → Answer A → Bool
+is_answered (refused r) = false
+is_answered (answered x) = true
 
-answer-of : {A : Type 0} (a : Answer A) → isAnswered a ≡ true → (x : A) × (a ≡ answered x)
-answer-of (refused r) e = absurd (true-false (sym e))
-answer-of (answered x) e = (x, refl)
+answer_of_lem : {A : Type 0} (a : Answer A) → is_answered a ≡ true → (x : A) × (a ≡ answered x)
+answer_of_lem (refused r) e = absurd (true_false (sym e))
+answer_of_lem (answered x) e = (x, refl)
 
 -- the test of a request m at its entry: a rank of the tree, and a frame that the writer makes, not too long, of bytes
 unfoldable fits : Tables → ℕ → Message → Bool
 fits t entry m =
-    ltb entry (ranksIn t.tree)
-    && (ltb m.header.first 4294967296 && (isAnswered (writing m) && (leb (length (body_of m)) 31552 && all_bytes (frame_of m))))
+    ltb entry (ranks_in t.tree)
+    && (ltb m.header.first 4294967296 && (is_answered (writing m) && (leb (length (body_of m)) 31552 && all_bytes (frame_of m))))
 
 -- what it says
 record Fits (t : Tables) (entry : ℕ) (m : Message) : Type 0 where
-  inside : entry < ranksIn t.tree
+  inside : entry < ranks_in t.tree
   nodeid : m.header.first < 4294967296
   writes : writing m ≡ answered (frame_of m)
   short : length (body_of m) ≤ 31552
@@ -83,17 +83,17 @@ record Fits (t : Tables) (entry : ℕ) (m : Message) : Type 0 where
 fitting : (t : Tables) (entry : ℕ) (m : Message) → fits t entry m ≡ true → Fits t entry m
 unfolding fits
 fitting t entry m e₁ =
-    let inside = ltb entry (ranksIn t.tree) in
+    let inside = ltb entry (ranks_in t.tree) in
     let nodeid = ltb m.header.first 4294967296 in
-    let writes = isAnswered (writing m) in
+    let writes = is_answered (writing m) in
     let short = leb (length (body_of m)) 31552 in
     let bytes = all_bytes (frame_of m) in
     let e₂ = and_right inside (nodeid && (writes && (short && bytes))) e₁ in
     let e₃ = and_right nodeid (writes && (short && bytes)) e₂ in
     let e₄ = and_right writes (short && bytes) e₃ in
-    let frame = answer-of (writing m) (and_left writes (short && bytes) e₃) in
+    let frame = answer_of_lem (writing m) (and_left writes (short && bytes) e₃) in
     record {
-      inside = ltb-true entry (ranksIn t.tree) (and_left inside (nodeid && (writes && (short && bytes))) e₁);
+      inside = ltb-true entry (ranks_in t.tree) (and_left inside (nodeid && (writes && (short && bytes))) e₁);
       nodeid = ltb-true m.header.first 4294967296 (and_left nodeid (writes && (short && bytes)) e₂);
       writes = frame.1 ∙ ap answered (sym (written m frame.0 frame.1).same);
       short = leb-true (length (body_of m)) 31552 (and_left short bytes e₄);
@@ -104,13 +104,13 @@ fitting t entry m e₁ =
 no_top : {A : Type 0} (routes : List (List ℕ)) → routes ≡ [] → (top : List ℕ) (below : List (List ℕ)) → routes ≡ top ∷ below → A
 no_top routes none top below some = let e = ap length (sym none ∙ some) in absurd (omega arith)
 
-entering-room : (room : ℕ) (m : Message) → length (frame_of m) ≤ room → length (entering room m) ≡ room
-entering-room room m h = length-append (frame_of m) (replicate (room - length (frame_of m)) 0) ∙ omega (arith, length-replicate {A = ℕ} (room - length (frame_of m)) 0)
+entering_room : (room : ℕ) (m : Message) → length (frame_of m) ≤ room → length (entering room m) ≡ room
+entering_room room m h = length-append (frame_of m) (replicate (room - length (frame_of m)) 0) ∙ omega (arith, length-replicate {A = ℕ} (room - length (frame_of m)) 0)
 
 enters : (t : Tables) → ValidTables t → (room : ℕ) → 32776 ≤ room → (entry : ℕ) (m : Message) →
     Fits t entry m → FieldsFit m.header → m.header.kind ≡ 1 → m.routes ≡ [] → Enters t entry (entering room m) m
 enters t valid room enough entry m f numbers kind none =
-    let held = entering-room room m (omega (arith, frame-long m, f.short)) in
+    let held = entering_room room m (omega (arith, frame_long m, f.short)) in
     record {
       tables = valid;
       inside = f.inside;
@@ -140,42 +140,42 @@ ends_as t owner entry buffer m brokers ended left premises starts goes answers r
           let w = goes.walk row r after listed room plays in
           record {
             returns = w.returns;
-            lists = w.lists ∙ (λ i. rowBytes (stepRow (answers i) (frameLength (sym w.leaves i)) ++ (rests i ∷ crossed i ∷ [])) ++ drop walkRecord row);
+            lists = w.lists ∙ (λ i. row_bytes (step_row (answers i) (frame_length (sym w.leaves i)) ++ (rests i ∷ crossed i ∷ [])) ++ drop walk_record row);
             leaves = w.leaves;
           };
     }
 
 -- ---- the rows
 
-abbrev toldIn : Row → Told
-toldIn (walk entry nodeid flags topic told rank links) = told
+abbrev told_in : Row → Told
+told_in (walk entry nodeid flags topic told rank links) = told
 
-abbrev rankIn : Row → ℕ
-rankIn (walk entry nodeid flags topic told rank links) = rank
+abbrev rank_in : Row → ℕ
+rank_in (walk entry nodeid flags topic told rank links) = rank
 
-abbrev linksIn : Row → ℕ
-linksIn (walk entry nodeid flags topic told rank links) = links
+abbrev links_in : Row → ℕ
+links_in (walk entry nodeid flags topic told rank links) = links
 
 -- what the path's table tells of an end is demand 3's answer
-told-answer : (end : End) (flags : ℕ) → answerAt end (noResponse flags) ≡ answer_of (toldOf flags end)
-told-answer (delivers number) flags = refl
-told-answer (fails errnum) flags = ⊎_elim (λ q. rw q) (λ l. rw l) (outcome (noResponse flags))
+told_answer : (end : End) (flags : ℕ) → answer_at end (no_response flags) ≡ answer_of (told_of flags end)
+told_answer (delivers number) flags = refl
+told_answer (fails errnum) flags = ⊎_elim (λ q. rw q) (λ l. rw l) (outcome (no_response flags))
 
 -- the test of a row
 meets : Row → Bool
-meets (walk entry nodeid flags topic told rank links) = fits floor entry (requestOf nodeid flags topic)
+meets (walk entry nodeid flags topic told rank links) = fits floor entry (request_of nodeid flags topic)
 
-row_ends : (owner : Owner) (room : ℕ) → 32776 ≤ room → (row : Row) → meets row ≡ true → byPath row ≡ row → RowEnds owner room row
+row_ends : (owner : Owner) (room : ℕ) → 32776 ≤ room → (row : Row) → meets row ≡ true → by_path row ≡ row → RowEnds owner room row
 unfolding meets RowEnds
 row_ends owner room enough (walk entry nodeid flags topic told rank links) test same =
-    let m = requestOf nodeid flags topic in
+    let m = request_of nodeid flags topic in
     let f = fitting floor entry m test in
     let numbers : FieldsFit m.header = record { userid = lit< tt; rolemask = lit< tt; first = f.nodeid; second = lit< tt } in
-    let premises = enters floor floor-valid room enough entry m f numbers refl refl in
-    let path = pathOf floorTree floorServices entry m.header m.topic in
-    let both = demand-three floor owner entry (entering room m) [] (bytes-padded (frame_of m) (room - length (frame_of m)) f.bytes) tt m premises in
-    ends_as floor owner entry (entering room m) m path.brokers (answerAt path.end (noResponse flags)) _ premises both.entered both.there
-    (told-answer path.end flags ∙ ap (λ (row : Row). answer_of (toldIn row)) same) (ap rankIn same) (ap linksIn same)
+    let premises = enters floor floor_valid room enough entry m f numbers refl refl in
+    let path = path_of floor_tree floor_services entry m.header m.topic in
+    let both = demand_three floor owner entry (entering room m) [] (bytes_padded (frame_of m) (room - length (frame_of m)) f.bytes) tt m premises in
+    ends_as floor owner entry (entering room m) m path.brokers (answer_at path.end (no_response flags)) _ premises both.entered both.there
+    (told_answer path.end flags ∙ ap (λ (row : Row). answer_of (told_in row)) same) (ap rank_in same) (ap links_in same)
 
 abbrev all_rows : List Row → Bool
 all_rows [] = true
@@ -190,7 +190,7 @@ tail_of [] = []
 tail_of (row ∷ rows) = rows
 
 -- rows that pass the test, and that are what their paths come to
-rows_end : (owner : Owner) (room : ℕ) → 32776 ≤ room → (rows : List Row) → all_rows rows ≡ true → map byPath rows ≡ rows → EachRow (RowEnds owner room) rows
+rows_end : (owner : Owner) (room : ℕ) → 32776 ≤ room → (rows : List Row) → all_rows rows ≡ true → map by_path rows ≡ rows → EachRow (RowEnds owner room) rows
 unfolding EachRow head_of tail_of
 rows_end owner room enough [] tests same = tt
 rows_end owner room enough (row ∷ rows) tests same = (
@@ -199,8 +199,8 @@ rows_end owner room enough (row ∷ rows) tests same = (
 )
 
 table_meets : all_rows table ≡ true
-unfolding meets fits writing partsFit partsGivenFit routesGood isTopic fieldsGood headerBytes parts_of body_of frame_of ranksIn
+unfolding meets fits writing parts_fit parts_given_fit routes_good is_topic fields_good header_bytes parts_of body_of frame_of ranks_in
 table_meets = refl
 
-pub walks-of-the-table : (owner : Owner) → WalksOfTheTable owner
-walks-of-the-table owner room enough = rows_end owner room enough table table_meets walks-are-right.rows
+pub walks_of_the_table : (owner : Owner) → WalksOfTheTable owner
+walks_of_the_table owner room enough = rows_end owner room enough table table_meets walks_are_right.rows

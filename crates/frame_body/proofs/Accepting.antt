@@ -11,267 +11,267 @@ use Rattle.bytes_number.specs.Number.{Bytes}
 use Rattle.frame_message.specs.declared.Header.{Header}
 use Rattle.refusal.specs.Answer.{answered}
 use Rattle.frame_forms.specs.Count.{one}
-use Rattle.frame_message.specs.Header.{hasTopic, hasPayload, hasRoute, fieldsGood}
-use Rattle.frame_message.proofs.Headers.{header-answers}
+use Rattle.frame_message.specs.Header.{has_topic, has_payload, has_route, fields_good}
+use Rattle.frame_message.proofs.Headers.{header_answers}
 use Rattle.frame_message.specs.Message.{Message}
-use Rattle.frame_message.specs.Frame.{sizeBytes, partBytes, joined, partIf, routing, topicPart, body_of, frame_of, parts_of}
+use Rattle.frame_message.specs.Frame.{size_bytes, part_bytes, joined, part_if, routing, topic_part, body_of, frame_of, parts_of}
 use Rattle.frame_message.specs.Writing.{is_empty}
-use Rattle.frame_message.specs.Reading.{front, final, beforeEmpty, routesIn, isTopicPart, messageIn, judgedAs, judged}
-use Rattle.bytes_number.proofs.Truth.{and-not}
-use Rattle.frame_message.proofs.Lists.{bytes-part}
-use Rattle.frame_message.proofs.Forms.{topic-parted}
+use Rattle.frame_message.specs.Reading.{front, final, before_empty, routes_in, is_topic_part, message_in, judged_as, judged}
+use Rattle.bytes_number.proofs.Truth.{and_not}
+use Rattle.frame_message.proofs.Lists.{bytes_part}
+use Rattle.frame_message.proofs.Forms.{topic_parted}
 use Rattle.frame_message.proofs.Parts.{split, joined-append}
 use Rattle.frame_message.proofs.Messages.{held}
-use Rattle.frame_message.proofs.Places.{kept-group}
+use Rattle.frame_message.proofs.Places.{kept_group}
 use Rattle.frame_layout.specs.declared.Piece.{Piece}
 use Rattle.frame_parts.specs.declared.PartCounts.{PartCounts}
-use Rattle.frame_layout.specs.WorkingPlacing.{firstRoute, placedIn}
+use Rattle.frame_layout.specs.WorkingPlacing.{first_route, placed_in}
 use Rattle.frame_layout.proofs.Placing.{place_in}
-use Rattle.frame_layout.specs.Layout.{dataAt, layout_of}
-use Rattle.frame_body.specs.WorkingJudging.{partsFound, Found, piece_at, pieceIf, Within, topicWrong, Placeable, placedAs, groupIn, Sorted}
-use Rattle.frame_body.proofs.Cursors.{At, at-found, at-parts, at_some, at_next, at-data, at-if}
-use Rattle.frame_body.proofs.Sorting.{judged-message, found, topicData, payloadData, behindTopic, topic-at}
+use Rattle.frame_layout.specs.Layout.{data_at, layout_of}
+use Rattle.frame_body.specs.WorkingJudging.{parts_found, Found, piece_at, piece_if, Within, topic_wrong, Placeable, placed_as, group_in, Sorted}
+use Rattle.frame_body.proofs.Cursors.{At, at_found, at_parts, at_some, at_next, at_data, at_if}
+use Rattle.frame_body.proofs.Sorting.{judged_message, found, topic_data, payload_data, behind_topic, topic_at_lem}
 
 -- ---- the places by the pieces
 
-pub placed-in : (size : ℕ) (h : Header) (routes : ℕ) (topic payload : Piece) → Placeable size h topic payload → placedIn size h routes topic payload ≡ placedAs size h routes topic payload
-placed-in size h routes topic payload p =
+pub placed_in_lem : (size : ℕ) (h : Header) (routes : ℕ) (topic payload : Piece) → Placeable size h topic payload → placed_in size h routes topic payload ≡ placed_as size h routes topic payload
+placed_in_lem size h routes topic payload p =
     λ i. record {
       taken = place_in true size p.short i;
       header = h;
       routes = routes;
-      route = firstRoute routes;
-      topic = record { start = place_in (hasTopic h.flags) topic.at (omega (arith, p.topic-in, p.short)) i; len = topic.len - one (hasTopic h.flags) };
-      payload = record { start = place_in (hasPayload h.flags) payload.at (omega (arith, p.payload-in, p.short)) i; len = payload.len };
+      route = first_route routes;
+      topic = record { start = place_in (has_topic h.flags) topic.at (omega (arith, p.topic_in, p.short)) i; len = topic.len - one (has_topic h.flags) };
+      payload = record { start = place_in (has_payload h.flags) payload.at (omega (arith, p.payload_in, p.short)) i; len = payload.len };
     }
 
 -- ---- a part that is there if its flag is set
 
-part-some : (flag : Bool) (q : List ℕ) (qs : List (List ℕ)) → 0 < length qs → 0 < length (partIf flag q ++ qs)
-part-some true q qs h = omega arith
-part-some false q qs h = h
+part_some : (flag : Bool) (q : List ℕ) (qs : List (List ℕ)) → 0 < length qs → 0 < length (part_if flag q ++ qs)
+part_some true q qs h = omega arith
+part_some false q qs h = h
 
-part-few : (flag : Bool) (q : List ℕ) (qs : List (List ℕ)) → length (partIf flag q ++ qs) ≤ suc (length qs)
-part-few true q qs = omega arith
-part-few false q qs = omega arith
+part_few : (flag : Bool) (q : List ℕ) (qs : List (List ℕ)) → length (part_if flag q ++ qs) ≤ suc (length qs)
+part_few true q qs = omega arith
+part_few false q qs = omega arith
 
-some-there : (body : List ℕ) (at : ℕ) (ps : List (List ℕ)) → At body at ps → 0 < length ps → 0 < length (drop at body)
-some-there body at [] a h = absurd (omega arith)
-some-there body at (p ∷ ps) a h = at_some body at p ps a
+some_there : (body : List ℕ) (at : ℕ) (ps : List (List ℕ)) → At body at ps → 0 < length ps → 0 < length (drop at body)
+some_there body at [] a h = absurd (omega arith)
+some_there body at (p ∷ ps) a h = at_some body at p ps a
 
 module _ (body : List ℕ) (at : ℕ) (flag : Bool) (q : List ℕ) (qs : List (List ℕ)) where
   abbrev piece : Piece
-  piece = pieceIf flag at (partIf flag q ++ qs)
+  piece = piece_if flag at (part_if flag q ++ qs)
 
-  piece-set : flag ≡ true → piece ≡ piece_at at q
-  piece-set e = rw e
+  piece_set : flag ≡ true → piece ≡ piece_at at q
+  piece_set e = rw e
 
-  piece-next : piece.next ≡ at + length (joined (partIf flag q))
-  piece-next = go flag
+  piece_next : piece.next ≡ at + length (joined (part_if flag q))
+  piece_next = go flag
     where
-      go : (t : Bool) → (pieceIf t at (partIf t q ++ qs)).next ≡ at + length (joined (partIf t q))
-      go true = omega (arith, ap length (append-nil (partBytes q)))
+      go : (t : Bool) → (piece_if t at (part_if t q ++ qs)).next ≡ at + length (joined (part_if t q))
+      go true = omega (arith, ap length (append-nil (part_bytes q)))
       go false = omega arith
 
   -- 9, of the bytes that lie there
-  piece-tested : At body at (partIf flag q ++ qs) → (flag && not (isTopicPart (take (piece.next - piece.at) (drop piece.at body)))) ≡ (flag && not (isTopicPart q))
-  piece-tested a = go flag a
+  piece_tested : At body at (part_if flag q ++ qs) → (flag && not (is_topic_part (take (piece.next - piece.at) (drop piece.at body)))) ≡ (flag && not (is_topic_part q))
+  piece_tested a = go flag a
     where
-      go : (t : Bool) → At body at (partIf t q ++ qs) → (t && not (isTopicPart (take ((pieceIf t at (partIf t q ++ qs)).next - (pieceIf t at (partIf t q ++ qs)).at) (drop (pieceIf t at (partIf t q ++ qs)).at body)))) ≡ (t && not (isTopicPart q))
-      go true a = rw (at-data body at q qs a)
+      go : (t : Bool) → At body at (part_if t q ++ qs) → (t && not (is_topic_part (take ((piece_if t at (part_if t q ++ qs)).next - (piece_if t at (part_if t q ++ qs)).at) (drop (piece_if t at (part_if t q ++ qs)).at body)))) ≡ (t && not (is_topic_part q))
+      go true a = rw (at_data body at q qs a)
       go false a = refl
 
-  piece-within : At body at (partIf flag q ++ qs) → piece.at ≤ length body
-  piece-within a = go flag a
+  piece_within : At body at (part_if flag q ++ qs) → piece.at ≤ length body
+  piece_within a = go flag a
     where
-      go : (t : Bool) → At body at (partIf t q ++ qs) → (pieceIf t at (partIf t q ++ qs)).at ≤ length body
-      go true a = omega (arith, (at_next body at q qs a).within, length-append (sizeBytes (length q)) q)
+      go : (t : Bool) → At body at (part_if t q ++ qs) → (piece_if t at (part_if t q ++ qs)).at ≤ length body
+      go true a = omega (arith, (at_next body at q qs a).within, length-append (size_bytes (length q)) q)
       go false a = omega arith
 
   -- where its data starts, and how long it is
-  piece-start : (n : ℕ) (p : List ℕ) → n ≡ at → (flag ≡ true → p ≡ q) → cond flag (8 + piece.at) 0 ≡ cond flag (8 + n + length (sizeBytes (length p))) 0
-  piece-start n p e same = go flag same
+  piece_start : (n : ℕ) (p : List ℕ) → n ≡ at → (flag ≡ true → p ≡ q) → cond flag (8 + piece.at) 0 ≡ cond flag (8 + n + length (size_bytes (length p))) 0
+  piece_start n p e same = go flag same
     where
-      go : (t : Bool) → (t ≡ true → p ≡ q) → cond t (8 + (pieceIf t at (partIf t q ++ qs)).at) 0 ≡ cond t (8 + n + length (sizeBytes (length p))) 0
+      go : (t : Bool) → (t ≡ true → p ≡ q) → cond t (8 + (piece_if t at (part_if t q ++ qs)).at) 0 ≡ cond t (8 + n + length (size_bytes (length p))) 0
       go true same = rw (same refl) (omega arith)
       go false same = refl
 
-  piece-topic : piece.len - one flag ≡ length (cond flag (front q) [])
-  piece-topic = go flag
+  piece_topic : piece.len - one flag ≡ length (cond flag (front q) [])
+  piece_topic = go flag
     where
-      go : (t : Bool) → (pieceIf t at (partIf t q ++ qs)).len - one t ≡ length (cond t (front q) [])
+      go : (t : Bool) → (piece_if t at (part_if t q ++ qs)).len - one t ≡ length (cond t (front q) [])
       go true = sym (length-take-le (length q - 1) q (omega arith))
       go false = refl
 
-  piece-length : piece.len ≡ length (cond flag q [])
-  piece-length = go flag
+  piece_length : piece.len ≡ length (cond flag q [])
+  piece_length = go flag
     where
-      go : (t : Bool) → (pieceIf t at (partIf t q ++ qs)).len ≡ length (cond t q [])
+      go : (t : Bool) → (piece_if t at (part_if t q ++ qs)).len ≡ length (cond t q [])
       go true = refl
       go false = refl
 
-empty-count : {A : Type 0} (xs : List A) → is_empty xs ≡ eqb (length xs) 0
-empty-count [] = refl
-empty-count (x ∷ xs) = sym (eqb-suc-zero (length xs))
+empty_count : {A : Type 0} (xs : List A) → is_empty xs ≡ eqb (length xs) 0
+empty_count [] = refl
+empty_count (x ∷ xs) = sym (eqb-suc-zero (length xs))
 
-part_same : (flag : Bool) (p q : List ℕ) → (flag ≡ true → p ≡ q) → partIf flag p ≡ partIf flag q
+part_same : (flag : Bool) (p q : List ℕ) → (flag ≡ true → p ≡ q) → part_if flag p ≡ part_if flag q
 part_same true p q e = rw (e refl)
 part_same false p q e = refl
 
 -- a topic that is shown without its zero byte, with it again
-topic-again : (flag : Bool) (q : List ℕ) → (flag && not (isTopicPart q)) ≡ false → flag ≡ true → cond flag (front q) [] ++ (0 ∷ []) ≡ q
-topic-again flag q e set = rw set (topic-parted q (and-not flag (isTopicPart q) e set))
+topic_again : (flag : Bool) (q : List ℕ) → (flag && not (is_topic_part q)) ≡ false → flag ≡ true → cond flag (front q) [] ++ (0 ∷ []) ≡ q
+topic_again flag q e set = rw set (topic_parted q (and_not flag (is_topic_part q) e set))
 
 -- ---- the pieces of the body
 
-module _ (body : List ℕ) (counts : PartCounts) (h : Header) (routes : ℕ) (s : Sorted body counts h routes) (b : Bytes body) (at : ℕ) (place : at ≡ length (joined (groupIn h (front (partsFound body))))) where
+module _ (body : List ℕ) (counts : PartCounts) (h : Header) (routes : ℕ) (s : Sorted body counts h routes) (b : Bytes body) (at : ℕ) (place : at ≡ length (joined (group_in h (front (parts_found body))))) where
   abbrev rest : List (List ℕ)
-  rest = behindTopic body counts h routes s b
+  rest = behind_topic body counts h routes s b
 
-  abbrev topicIs : List ℕ
-  topicIs = topicData body counts h routes s b
+  abbrev topic_is : List ℕ
+  topic_is = topic_data body counts h routes s b
 
-  abbrev payloadIs : List ℕ
-  payloadIs = payloadData body counts h routes s b
+  abbrev payload_is : List ℕ
+  payload_is = payload_data body counts h routes s b
 
-  rest-few : length rest ≤ 2
-  rest-few = part-few (hasPayload h.flags) payloadIs (final [] (partsFound body) ∷ [])
+  rest_few : length rest ≤ 2
+  rest_few = part_few (has_payload h.flags) payload_is (final [] (parts_found body) ∷ [])
 
-  abbrev fromTopic : List (List ℕ)
-  fromTopic = partIf (hasTopic h.flags) topicIs ++ rest
+  abbrev from_topic : List (List ℕ)
+  from_topic = part_if (has_topic h.flags) topic_is ++ rest
 
-  here : At body at fromTopic
-  here = topic-at body counts h routes s b at place
+  here : At body at from_topic
+  here = topic_at_lem body counts h routes s b at place
 
-  few : length fromTopic ≤ 68
-  few = omega (arith, part-few (hasTopic h.flags) topicIs rest, rest-few)
+  few : length from_topic ≤ 68
+  few = omega (arith, part_few (has_topic h.flags) topic_is rest, rest_few)
 
-  pub topic-in : at ≤ length body
-  topic-in = here.within
+  pub topic_in : at ≤ length body
+  topic_in = here.within
 
-  pub topic-found : Found (drop at body)
-  topic-found = at-found body at fromTopic here s.head.short few
+  pub topic_found : Found (drop at body)
+  topic_found = at_found body at from_topic here s.head.short few
 
-  pub topic-some : 0 < length (drop at body)
-  topic-some = some-there body at fromTopic here (part-some (hasTopic h.flags) topicIs rest (part-some (hasPayload h.flags) payloadIs (final [] (partsFound body) ∷ []) (omega arith)))
+  pub topic_some : 0 < length (drop at body)
+  topic_some = some_there body at from_topic here (part_some (has_topic h.flags) topic_is rest (part_some (has_payload h.flags) payload_is (final [] (parts_found body) ∷ []) (omega arith)))
 
-  module _ (topic : Piece) (et : topic ≡ pieceIf (hasTopic h.flags) at (partsFound (drop at body))) where
-    topic-is : topic ≡ pieceIf (hasTopic h.flags) at fromTopic
-    topic-is = et ∙ ap (pieceIf (hasTopic h.flags) at) (at-parts body at fromTopic here s.head.short few)
+  module _ (topic : Piece) (et : topic ≡ piece_if (has_topic h.flags) at (parts_found (drop at body))) where
+    topic_is_lem : topic ≡ piece_if (has_topic h.flags) at from_topic
+    topic_is_lem = et ∙ ap (piece_if (has_topic h.flags) at) (at_parts body at from_topic here s.head.short few)
 
-    topic-set : hasTopic h.flags ≡ true → topic ≡ piece_at at topicIs
-    topic-set e = topic-is ∙ piece-set body at (hasTopic h.flags) topicIs rest e
+    topic_set : has_topic h.flags ≡ true → topic ≡ piece_at at topic_is
+    topic_set e = topic_is_lem ∙ piece_set body at (has_topic h.flags) topic_is rest e
 
-    next-is : topic.next ≡ at + length (joined (partIf (hasTopic h.flags) topicIs))
-    next-is = ap (λ (p : Piece). p.next) topic-is ∙ piece-next body at (hasTopic h.flags) topicIs rest
+    next_is : topic.next ≡ at + length (joined (part_if (has_topic h.flags) topic_is))
+    next_is = ap (λ (p : Piece). p.next) topic_is_lem ∙ piece_next body at (has_topic h.flags) topic_is rest
 
     behind : At body topic.next rest
-    behind = subst (λ (n : ℕ). At body n rest) (sym next-is) (at-if body at (hasTopic h.flags) topicIs rest here)
+    behind = subst (λ (n : ℕ). At body n rest) (sym next_is) (at_if body at (has_topic h.flags) topic_is rest here)
 
-    pub topic-within : Within h.flags topic (length body)
-    topic-within =
+    pub topic_within : Within h.flags topic (length body)
+    topic_within =
         record {
-          starts = λ e. rw (topic-set e) (omega (arith, length-append (sizeBytes (length topicIs)) topicIs));
+          starts = λ e. rw (topic_set e) (omega (arith, length-append (size_bytes (length topic_is)) topic_is));
           ends = λ e. behind.within;
         }
 
-    pub topic-tested : topicWrong h.flags topic body ≡ (hasTopic h.flags && not (isTopicPart topicIs))
-    topic-tested = rw topic-is (piece-tested body at (hasTopic h.flags) topicIs rest here)
+    pub topic_tested : topic_wrong h.flags topic body ≡ (has_topic h.flags && not (is_topic_part topic_is))
+    topic_tested = rw topic_is_lem (piece_tested body at (has_topic h.flags) topic_is rest here)
 
-    pub payload-in : topic.next ≤ length body
-    payload-in = behind.within
+    pub payload_in : topic.next ≤ length body
+    payload_in = behind.within
 
-    pub payload-found : Found (drop topic.next body)
-    payload-found = at-found body topic.next rest behind s.head.short (omega (arith, rest-few))
+    pub payload_found : Found (drop topic.next body)
+    payload_found = at_found body topic.next rest behind s.head.short (omega (arith, rest_few))
 
-    pub payload-some : 0 < length (drop topic.next body)
-    payload-some = some-there body topic.next rest behind (part-some (hasPayload h.flags) payloadIs (final [] (partsFound body) ∷ []) (omega arith))
+    pub payload_some : 0 < length (drop topic.next body)
+    payload_some = some_there body topic.next rest behind (part_some (has_payload h.flags) payload_is (final [] (parts_found body) ∷ []) (omega arith))
 
-    module _ (payload : Piece) (ep : payload ≡ pieceIf (hasPayload h.flags) topic.next (partsFound (drop topic.next body))) (good : (hasTopic h.flags && not (isTopicPart topicIs)) ≡ false) where
-      payload-is : payload ≡ pieceIf (hasPayload h.flags) topic.next rest
-      payload-is = ep ∙ ap (pieceIf (hasPayload h.flags) topic.next) (at-parts body topic.next rest behind s.head.short (omega (arith, rest-few)))
+    module _ (payload : Piece) (ep : payload ≡ piece_if (has_payload h.flags) topic.next (parts_found (drop topic.next body))) (good : (has_topic h.flags && not (is_topic_part topic_is)) ≡ false) where
+      payload_is_lem : payload ≡ piece_if (has_payload h.flags) topic.next rest
+      payload_is_lem = ep ∙ ap (piece_if (has_payload h.flags) topic.next) (at_parts body topic.next rest behind s.head.short (omega (arith, rest_few)))
 
-      topic-long : (flag : Bool) → (flag && not (isTopicPart topicIs)) ≡ false → one flag ≤ (pieceIf flag at (partIf flag topicIs ++ rest)).len
-      topic-long true e = some-length topicIs (and-not true (isTopicPart topicIs) e refl)
+      topic_long : (flag : Bool) → (flag && not (is_topic_part topic_is)) ≡ false → one flag ≤ (piece_if flag at (part_if flag topic_is ++ rest)).len
+      topic_long true e = some-length topic_is (and_not true (is_topic_part topic_is) e refl)
         where
-          some-length : (p : List ℕ) → isTopicPart p ≡ true → 1 ≤ length p
-          some-length p t = omega (arith, ap length (topic-parted p t), length-append (front p) (0 ∷ []))
-      topic-long false e = omega arith
+          some-length : (p : List ℕ) → is_topic_part p ≡ true → 1 ≤ length p
+          some-length p t = omega (arith, ap length (topic_parted p t), length-append (front p) (0 ∷ []))
+      topic_long false e = omega arith
 
       pub placeable : Placeable (length body) h topic payload
       placeable =
           record {
             short = s.head.short;
-            topic-in = rw topic-is (piece-within body at (hasTopic h.flags) topicIs rest here);
-            topic-some = rw topic-is (topic-long (hasTopic h.flags) good);
-            payload-in = rw payload-is (piece-within body topic.next (hasPayload h.flags) payloadIs (final [] (partsFound body) ∷ []) behind);
+            topic_in = rw topic_is_lem (piece_within body at (has_topic h.flags) topic_is rest here);
+            topic_some = rw topic_is_lem (topic_long (has_topic h.flags) good);
+            payload_in = rw payload_is_lem (piece_within body topic.next (has_payload h.flags) payload_is (final [] (parts_found body) ∷ []) behind);
           }
 
       abbrev m : Message
-      m = messageIn h (front (partsFound body))
+      m = message_in h (front (parts_found body))
 
-      routing-long : length (joined (routing m)) ≡ at
-      unfolding messageIn routesIn
-      routing-long =
-          ap (λ (qs : List (List ℕ)). length (joined qs)) (kept-group (hasRoute h.flags) (beforeEmpty (front (partsFound body)))) ∙ sym place
+      routing_long : length (joined (routing m)) ≡ at
+      unfolding message_in routes_in
+      routing_long =
+          ap (λ (qs : List (List ℕ)). length (joined qs)) (kept_group (has_route h.flags) (before_empty (front (parts_found body)))) ∙ sym place
 
-      topic-part-is : topicPart m ≡ partIf (hasTopic h.flags) topicIs
-      unfolding messageIn
-      topic-part-is = part_same (hasTopic h.flags) _ topicIs (topic-again (hasTopic h.flags) topicIs good)
+      topic_part_is : topic_part m ≡ part_if (has_topic h.flags) topic_is
+      unfolding message_in
+      topic_part_is = part_same (has_topic h.flags) _ topic_is (topic_again (has_topic h.flags) topic_is good)
 
-      topic-long-at : length (joined (routing m ++ topicPart m)) ≡ topic.next
-      topic-long-at = omega (arith, ap length (joined-append (routing m) (topicPart m)), length-append (joined (routing m)) (joined (topicPart m)), routing-long, ap (λ (qs : List (List ℕ)). length (joined qs)) topic-part-is, next-is)
+      topic_long_at : length (joined (routing m ++ topic_part m)) ≡ topic.next
+      topic_long_at = omega (arith, ap length (joined-append (routing m) (topic_part m)), length-append (joined (routing m)) (joined (topic_part m)), routing_long, ap (λ (qs : List (List ℕ)). length (joined qs)) topic_part_is, next_is)
 
-      module _ (fields : fieldsGood h ≡ true) where
-        pub answer-is : judgedAs h (front (partsFound body)) ≡ answered m
-        answer-is = judged-message h (front (partsFound body)) s.agree s.good good fields
+      module _ (fields : fields_good h ≡ true) where
+        pub answer_is : judged_as h (front (parts_found body)) ≡ answered m
+        answer_is = judged_message h (front (parts_found body)) s.agree s.good good fields
 
-        judged-is : judged (partsFound body) ≡ answered m
+        judged_is : judged (parts_found body) ≡ answered m
         unfolding judged
-        judged-is = rw (header-answers _ s.head.headed, ← s.head.same) answer-is
+        judged_is = rw (header_answers _ s.head.headed, ← s.head.same) answer_is
 
-        frame-long : 8 + length body ≡ length (frame_of m)
+        frame_long : 8 + length body ≡ length (frame_of m)
         unfolding frame_of body_of
-        frame-long =
-            let parts = split 68 body (partsFound body) b s.head.over.found in
-            let same : joined (parts_of m) ≡ body = ap joined (held (partsFound body) m (bytes-part (partsFound body) _ parts.bytes) judged-is).same ∙ sym parts.same in
+        frame_long =
+            let parts = split 68 body (parts_found body) b s.head.over.found in
+            let same : joined (parts_of m) ≡ body = ap joined (held (parts_found body) m (bytes_part (parts_found body) _ parts.bytes) judged_is).same ∙ sym parts.same in
             omega (arith, ap length same)
 
         abbrev head : List (List ℕ)
-        head = final [] (partsFound body) ∷ []
+        head = final [] (parts_found body) ∷ []
 
-        route-is : firstRoute routes ≡ cond (is_empty m.routes) 0 9
-        unfolding messageIn
-        route-is = ap firstRoute s.count ∙ ap (λ (t : Bool). cond t 0 9) (sym (empty-count (routesIn h (front (partsFound body)))))
+        route_is : first_route routes ≡ cond (is_empty m.routes) 0 9
+        unfolding message_in
+        route_is = ap first_route s.count ∙ ap (λ (t : Bool). cond t 0 9) (sym (empty_count (routes_in h (front (parts_found body)))))
 
-        topic-starts : cond (hasTopic h.flags) (8 + topic.at) 0 ≡ cond (hasTopic h.flags) (dataAt (routing m) (m.topic ++ (0 ∷ []))) 0
-        unfolding messageIn
-        topic-starts =
-            ap (λ (p : Piece). cond (hasTopic h.flags) (8 + p.at) 0) topic-is
-            ∙ piece-start body at (hasTopic h.flags) topicIs rest (length (joined (routing m))) _ routing-long (topic-again (hasTopic h.flags) topicIs good)
+        topic_starts : cond (has_topic h.flags) (8 + topic.at) 0 ≡ cond (has_topic h.flags) (data_at (routing m) (m.topic ++ (0 ∷ []))) 0
+        unfolding message_in
+        topic_starts =
+            ap (λ (p : Piece). cond (has_topic h.flags) (8 + p.at) 0) topic_is_lem
+            ∙ piece_start body at (has_topic h.flags) topic_is rest (length (joined (routing m))) _ routing_long (topic_again (has_topic h.flags) topic_is good)
 
-        topic-lasts : topic.len - one (hasTopic h.flags) ≡ length m.topic
-        unfolding messageIn
-        topic-lasts = ap (λ (p : Piece). p.len - one (hasTopic h.flags)) topic-is ∙ piece-topic body at (hasTopic h.flags) topicIs rest
+        topic_lasts : topic.len - one (has_topic h.flags) ≡ length m.topic
+        unfolding message_in
+        topic_lasts = ap (λ (p : Piece). p.len - one (has_topic h.flags)) topic_is_lem ∙ piece_topic body at (has_topic h.flags) topic_is rest
 
-        payload-starts : cond (hasPayload h.flags) (8 + payload.at) 0 ≡ cond (hasPayload h.flags) (dataAt (routing m ++ topicPart m) m.payload) 0
-        unfolding messageIn
-        payload-starts =
-            ap (λ (p : Piece). cond (hasPayload h.flags) (8 + p.at) 0) payload-is
-            ∙ piece-start body topic.next (hasPayload h.flags) payloadIs head (length (joined (routing m ++ topicPart m))) (cond (hasPayload h.flags) payloadIs []) topic-long-at (λ e. rw e)
+        payload_starts : cond (has_payload h.flags) (8 + payload.at) 0 ≡ cond (has_payload h.flags) (data_at (routing m ++ topic_part m) m.payload) 0
+        unfolding message_in
+        payload_starts =
+            ap (λ (p : Piece). cond (has_payload h.flags) (8 + p.at) 0) payload_is_lem
+            ∙ piece_start body topic.next (has_payload h.flags) payload_is head (length (joined (routing m ++ topic_part m))) (cond (has_payload h.flags) payload_is []) topic_long_at (λ e. rw e)
 
-        payload-lasts : payload.len ≡ length m.payload
-        unfolding messageIn
-        payload-lasts = ap (λ (p : Piece). p.len) payload-is ∙ piece-length body topic.next (hasPayload h.flags) payloadIs head
+        payload_lasts : payload.len ≡ length m.payload
+        unfolding message_in
+        payload_lasts = ap (λ (p : Piece). p.len) payload_is_lem ∙ piece_length body topic.next (has_payload h.flags) payload_is head
 
-        pub placed-is : placedAs (length body) h routes topic payload ≡ layout_of m
-        unfolding layout_of messageIn
-        placed-is =
+        pub placed_is : placed_as (length body) h routes topic payload ≡ layout_of m
+        unfolding layout_of message_in
+        placed_is =
             λ i. record {
-              taken = frame-long i;
+              taken = frame_long i;
               header = h;
               routes = s.count i;
-              route = route-is i;
-              topic = record { start = topic-starts i; len = topic-lasts i };
-              payload = record { start = payload-starts i; len = payload-lasts i };
+              route = route_is i;
+              topic = record { start = topic_starts i; len = topic_lasts i };
+              payload = record { start = payload_starts i; len = payload_lasts i };
             }

@@ -8,14 +8,14 @@ use Rattle.frame_message.specs.Message.{Message}
 use Rattle.frame_layout.specs.declared.Layout.{Layout}
 use Rattle.frame_layout.specs.declared.Reading.TheVariants.{Refused, Accepted}
 use Rattle.frame_layout.specs.Layout.{layout_of}
-use Rattle.frame_layout.specs.WorkingPlacing.{readAs}
+use Rattle.frame_layout.specs.WorkingPlacing.{read_as}
 
 never : {r : Refusal} {f : Layout} → Refused r ≡ Accepted f → ⊥
 never e = let z : ◌≡◌ {A = ℕ} 0 1 = cc in omega arith
 
-pub refused-read : (a : Answer Message) {r : Refusal} → Refused r ≡ readAs a → a ≡ refused r
-refused-read (refused q) e = cc
-refused-read (answered m) e = absurd (never e)
+pub refused_read : (a : Answer Message) {r : Refusal} → Refused r ≡ read_as a → a ≡ refused r
+refused_read (refused q) e = cc
+refused_read (answered m) e = absurd (never e)
 
 -- a message was read, and these are its places
 pub record Read (a : Answer Message) (f : Layout) : Type 0 where
@@ -23,6 +23,6 @@ pub record Read (a : Answer Message) (f : Layout) : Type 0 where
   pub is : a ≡ answered message
   pub places : f ≡ layout_of message
 
-pub accepted-read : (a : Answer Message) {f : Layout} → Accepted f ≡ readAs a → Read a f
-accepted-read (refused q) e = absurd (never (sym e))
-accepted-read (answered m) e = record { message = m; is = refl; places = cc }
+pub accepted_read : (a : Answer Message) {f : Layout} → Accepted f ≡ read_as a → Read a f
+accepted_read (refused q) e = absurd (never (sym e))
+accepted_read (answered m) e = record { message = m; is = refl; places = cc }

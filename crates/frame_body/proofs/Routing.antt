@@ -8,18 +8,18 @@ use mathlib.Core.List.{List, [], ◌∷◌, ◌++◌}
 use native.Mathlib.Omega.{arith}
 use lib.ListN.{length, get_or, take, drop, length-append, length-drop}
 use lib.Seq.{get_or-drop, drop-cons, drop-drop, drop_at, take_at}
-use Rattle.frame_message.specs.Frame.{partBytes, joined}
-use Rattle.frame_forms.specs.Forms.{isRoute}
-use Rattle.frame_message.specs.Writing.{allRoutes}
-use Rattle.frame_message.proofs.Parts.{part-short}
-use Rattle.frame_forms.proofs.Routes.{route-length}
-use Rattle.frame_parts.proofs.Passing.{part-has-size}
+use Rattle.frame_message.specs.Frame.{part_bytes, joined}
+use Rattle.frame_forms.specs.Forms.{is_route}
+use Rattle.frame_message.specs.Writing.{all_routes}
+use Rattle.frame_message.proofs.Parts.{part_short}
+use Rattle.frame_forms.proofs.Routes.{route_length_lem}
+use Rattle.frame_parts.proofs.Passing.{part_has_size}
 use Rattle.frame_body.proofs.Stretches.{first_byte}
 
 -- i of the first so many parts ps are routes, and the next begins at a place of the body
 pub record Routed (body : List ℕ) (ps : List (List ℕ)) (routes i at : ℕ) : Type 0 where
   pub left : drop at body ≡ joined (drop i ps)
-  pub same : allRoutes (take routes ps) ≡ allRoutes (take (routes - i) (drop i ps))
+  pub same : all_routes (take routes ps) ≡ all_routes (take (routes - i) (drop i ps))
   pub most : i ≤ routes
   pub within : at ≤ length body
 
@@ -29,8 +29,8 @@ routed-none body ps routes e =
     record { left = e; same = rw all; most = omega arith; within = omega arith }
 
 module _ (body : List ℕ) (ps : List (List ℕ)) (routes i at : ℕ) (r : Routed body ps routes i at) where
-  pub routed-all : routes ≤ i → true ≡ allRoutes (take routes ps)
-  routed-all h =
+  pub routed_all : routes ≤ i → true ≡ all_routes (take routes ps)
+  routed_all h =
       let none : routes - i ≡ 0 = omega arith in
       rw (r.same, none)
 
@@ -45,54 +45,54 @@ module _ (body : List ℕ) (ps : List (List ℕ)) (routes i at : ℕ) (r : Route
     unfolding q others
     next = drop-cons ps i [] (omega arith)
 
-    here : drop at body ≡ partBytes q ++ joined others
+    here : drop at body ≡ part_bytes q ++ joined others
     here = r.left ∙ ap joined next
 
-    byte : get_or body at 0 ≡ get_or (partBytes q ++ joined others) 0 0
+    byte : get_or body at 0 ≡ get_or (part_bytes q ++ joined others) 0 0
     byte = ap (λ (k : ℕ). get_or body k 0) (sym (add-zero at)) ∙ sym (get_or-drop at body 0 0) ∙ ap (λ (s : List ℕ). get_or s 0 0) here
 
-    tested : allRoutes (take routes ps) ≡ (isRoute q && allRoutes (take (routes - suc i) others))
+    tested : all_routes (take routes ps) ≡ (is_route q && all_routes (take (routes - suc i) others))
     tested =
         let one : routes - i ≡ suc (routes - suc i) = omega arith in
         rw (r.same, one, next)
 
-    pub routed-there : at < length body
-    routed-there = omega (arith, part-has-size q, length-append (partBytes q) (joined others), ap length here, length-drop at body)
+    pub routed_there : at < length body
+    routed_there = omega (arith, part_has_size q, length-append (part_bytes q) (joined others), ap length here, length-drop at body)
 
-    not-route : isRoute q ≡ false → false ≡ allRoutes (take routes ps)
-    not-route e = rw (tested, e)
+    not_route : is_route q ≡ false → false ≡ all_routes (take routes ps)
+    not_route e = rw (tested, e)
 
     -- a part that is not 37 bytes long
-    pub routed-long : (get_or body at 0 ≡ 37 → ⊥) → false ≡ allRoutes (take routes ps)
-    routed-long n = not-route (route-length q (λ e. n (byte ∙ (first_byte q (joined others)).1 e)))
+    pub routed_long : (get_or body at 0 ≡ 37 → ⊥) → false ≡ all_routes (take routes ps)
+    routed_long n = not_route (route_length_lem q (λ e. n (byte ∙ (first_byte q (joined others)).1 e)))
 
     module _ (size : get_or body at 0 ≡ 37) where
       long : length q ≡ 37
       long = (first_byte q (joined others)).0 (sym byte ∙ size)
 
       behind : drop (at + 1) body ≡ q ++ joined others
-      behind = sym (drop-drop 1 at body) ∙ rw (here, part-short q (omega (arith, long)))
+      behind = sym (drop-drop 1 at body) ∙ rw (here, part_short q (omega (arith, long)))
 
       -- it lies behind its size byte
-      routed-part : take (at + 38 - (at + 1)) (drop (at + 1) body) ≡ q
-      routed-part =
+      routed_part : take (at + 38 - (at + 1)) (drop (at + 1) body) ≡ q
+      routed_part =
           let n : at + 38 - (at + 1) ≡ 37 = omega arith in
           rw (n, behind) (take_at q (joined others) 37 long)
 
-      pub routed-fits : at + 38 ≤ length body
-      routed-fits = omega (arith, long, ap length behind, length-drop (at + 1) body, length-append q (joined others), routed-there)
+      pub routed_fits : at + 38 ≤ length body
+      routed_fits = omega (arith, long, ap length behind, length-drop (at + 1) body, length-append q (joined others), routed_there)
 
-      pub routed-wrong : isRoute (take (at + 38 - (at + 1)) (drop (at + 1) body)) ≡ false → false ≡ allRoutes (take routes ps)
-      routed-wrong e = not-route (ap isRoute (sym routed-part) ∙ e)
+      pub routed_wrong : is_route (take (at + 38 - (at + 1)) (drop (at + 1) body)) ≡ false → false ≡ all_routes (take routes ps)
+      routed_wrong e = not_route (ap is_route (sym routed_part) ∙ e)
 
-      pub routed-more : isRoute (take (at + 38 - (at + 1)) (drop (at + 1) body)) ≡ true → Routed body ps routes (i + 1) (at + 38)
+      pub routed_more : is_route (take (at + 38 - (at + 1)) (drop (at + 1) body)) ≡ true → Routed body ps routes (i + 1) (at + 38)
       unfolding others
-      routed-more e =
+      routed_more e =
           let there : at + 38 ≡ at + 1 + 37 = omega arith in
-          let good : isRoute q ≡ true = ap isRoute (sym routed-part) ∙ e in
+          let good : is_route q ≡ true = ap is_route (sym routed_part) ∙ e in
           record {
             left = rw (there, ← drop-drop 37 (at + 1) body, behind, add-one) (drop_at q (joined others) 37 long);
             same = tested ∙ rw (good, add-one);
             most = omega arith;
-            within = routed-fits;
+            within = routed_fits;
           }

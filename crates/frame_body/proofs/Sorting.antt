@@ -10,94 +10,94 @@ use Rattle.bytes_number.specs.Number.{Bytes}
 use Rattle.frame_message.specs.declared.Header.{Header}
 use Rattle.refusal.specs.declared.Refusal.TheVariants.{PartsDisagree, RouteWrong, TopicWrong, FieldWrong}
 use Rattle.refusal.specs.Answer.{refused, answered}
-use Rattle.frame_message.specs.Header.{hasTopic, hasPayload, hasRoute, partsFit, fieldsGood}
-use Rattle.frame_message.specs.Frame.{partBytes, joined, partIf}
-use Rattle.frame_message.specs.Writing.{routesGood}
+use Rattle.frame_message.specs.Header.{has_topic, has_payload, has_route, parts_fit, fields_good}
+use Rattle.frame_message.specs.Frame.{part_bytes, joined, part_if}
+use Rattle.frame_message.specs.Writing.{routes_good}
 use Rattle.frame_forms.specs.Count.{one}
-use Rattle.frame_message.specs.Reading.{front, final, routesIn, topicPlace, payloadPlace, partsAgree, isTopicPart, messageIn, judgedAs}
+use Rattle.frame_message.specs.Reading.{front, final, routes_in, topic_place, payload_place, parts_agree, is_topic_part, message_in, judged_as}
 use Rattle.bytes_number.proofs.Truth.{and_right}
 use Rattle.frame_message.proofs.Lists.{Each, front-final}
-use Rattle.frame_message.proofs.Headers.{header-tested}
-use Rattle.frame_message.proofs.Parts.{split, part-short}
+use Rattle.frame_message.proofs.Headers.{header_tested}
+use Rattle.frame_message.proofs.Parts.{split, part_short}
 use Rattle.frame_parts.specs.declared.PartCounts.{PartCounts}
-use Rattle.frame_message.proofs.Places.{before-all}
-use Rattle.frame_body.specs.WorkingJudging.{partsFound, groupIn, Sorted}
-use Rattle.frame_body.proofs.Cursors.{At, at-behind}
+use Rattle.frame_message.proofs.Places.{before_all}
+use Rattle.frame_body.specs.WorkingJudging.{parts_found, group_in, Sorted}
+use Rattle.frame_body.proofs.Cursors.{At, at_behind}
 
 -- ---- 7 to 10, one test after the other
 
 module _ (h : Header) (ps : List (List ℕ)) where
-  pub judged-parts : partsAgree h ps ≡ false → judgedAs h ps ≡ refused PartsDisagree
-  unfolding judgedAs
-  judged-parts e = rw e
+  pub judged_parts : parts_agree h ps ≡ false → judged_as h ps ≡ refused PartsDisagree
+  unfolding judged_as
+  judged_parts e = rw e
 
-  module _ (agree : partsAgree h ps ≡ true) where
-    pub judged-routes : routesGood (routesIn h ps) ≡ false → judgedAs h ps ≡ refused RouteWrong
-    unfolding judgedAs
-    judged-routes e = rw (agree, e)
+  module _ (agree : parts_agree h ps ≡ true) where
+    pub judged_routes : routes_good (routes_in h ps) ≡ false → judged_as h ps ≡ refused RouteWrong
+    unfolding judged_as
+    judged_routes e = rw (agree, e)
 
-    module _ (good : routesGood (routesIn h ps) ≡ true) where
-      pub judged-topic : (hasTopic h.flags && not (isTopicPart (get_or ps (topicPlace h ps) []))) ≡ true → judgedAs h ps ≡ refused TopicWrong
-      unfolding judgedAs
-      judged-topic e = rw (agree, good, e)
+    module _ (good : routes_good (routes_in h ps) ≡ true) where
+      pub judged_topic : (has_topic h.flags && not (is_topic_part (get_or ps (topic_place h ps) []))) ≡ true → judged_as h ps ≡ refused TopicWrong
+      unfolding judged_as
+      judged_topic e = rw (agree, good, e)
 
-      module _ (topic : (hasTopic h.flags && not (isTopicPart (get_or ps (topicPlace h ps) []))) ≡ false) where
-        pub judged-field : fieldsGood h ≡ false → judgedAs h ps ≡ refused FieldWrong
-        unfolding judgedAs
-        judged-field e = rw (agree, good, topic, e)
+      module _ (topic : (has_topic h.flags && not (is_topic_part (get_or ps (topic_place h ps) []))) ≡ false) where
+        pub judged_field : fields_good h ≡ false → judged_as h ps ≡ refused FieldWrong
+        unfolding judged_as
+        judged_field e = rw (agree, good, topic, e)
 
-        pub judged-message : fieldsGood h ≡ true → judgedAs h ps ≡ answered (messageIn h ps)
-        unfolding judgedAs
-        judged-message e = rw (agree, good, topic, e)
+        pub judged_message : fields_good h ≡ true → judged_as h ps ≡ answered (message_in h ps)
+        unfolding judged_as
+        judged_message e = rw (agree, good, topic, e)
 
 -- ---- routes
 
-pub routes-joined : (rs : List (List ℕ)) → Each (λ r. length r ≡ 37) rs → length (joined rs) ≡ 38 * length rs
-routes-joined [] h = refl
-routes-joined (r ∷ rs) h =
-    let size : length (partBytes r) ≡ 38 = ap length (part-short r (omega (arith, h.0))) ∙ ap suc h.0 in
-    omega (arith, length-append (partBytes r) (joined rs), size, routes-joined rs h.1)
+pub routes_joined : (rs : List (List ℕ)) → Each (λ r. length r ≡ 37) rs → length (joined rs) ≡ 38 * length rs
+routes_joined [] h = refl
+routes_joined (r ∷ rs) h =
+    let size : length (part_bytes r) ≡ 38 = ap length (part_short r (omega (arith, h.0))) ∙ ap suc h.0 in
+    omega (arith, length-append (part_bytes r) (joined rs), size, routes_joined rs h.1)
 
 -- ---- the parts
 
 module _ (body : List ℕ) (counts : PartCounts) (h : Header) (routes : ℕ) (s : Sorted body counts h routes) (b : Bytes body) where
   abbrev pub found : List (List ℕ)
-  found = partsFound body
+  found = parts_found body
 
   abbrev pub fore : List (List ℕ)
   fore = front found
 
-  abbrev pub topicData : List ℕ
-  topicData = get_or fore (topicPlace h fore) []
+  abbrev pub topic_data : List ℕ
+  topic_data = get_or fore (topic_place h fore) []
 
-  abbrev pub payloadData : List ℕ
-  payloadData = get_or fore (payloadPlace h fore) []
+  abbrev pub payload_data : List ℕ
+  payload_data = get_or fore (payload_place h fore) []
 
   -- the parts behind the topic
-  abbrev pub behindTopic : List (List ℕ)
-  behindTopic = partIf (hasPayload h.flags) payloadData ++ (final [] found ∷ [])
+  abbrev pub behind_topic : List (List ℕ)
+  behind_topic = part_if (has_payload h.flags) payload_data ++ (final [] found ∷ [])
 
-  pub some-parts : 0 < length found
-  some-parts = go found (header-tested _ s.head.headed).long
+  pub some_parts : 0 < length found
+  some_parts = go found (header_tested _ s.head.headed).long
     where
       go : (ps : List (List ℕ)) → length (final [] ps) ≡ 20 → 0 < length ps
       go [] e = absurd (omega arith)
       go (p ∷ ps) e = omega arith
 
-  fore-parts : groupIn h fore ++ (partIf (hasTopic h.flags) topicData ++ partIf (hasPayload h.flags) payloadData) ≡ fore
-  unfolding partsAgree payloadPlace topicPlace routesIn
-  fore-parts =
-      before-all (hasRoute h.flags) (hasTopic h.flags) (hasPayload h.flags) fore (topicPlace h fore) refl
-      (eqb-true (length fore) (payloadPlace h fore + one (hasPayload h.flags)) (and_right (partsFit h) _ s.agree))
+  fore_parts_lem : group_in h fore ++ (part_if (has_topic h.flags) topic_data ++ part_if (has_payload h.flags) payload_data) ≡ fore
+  unfolding parts_agree payload_place topic_place routes_in
+  fore_parts_lem =
+      before_all (has_route h.flags) (has_topic h.flags) (has_payload h.flags) fore (topic_place h fore) refl
+      (eqb-true (length fore) (payload_place h fore + one (has_payload h.flags)) (and_right (parts_fit h) _ s.agree))
 
-  all-parts : found ≡ groupIn h fore ++ (partIf (hasTopic h.flags) topicData ++ behindTopic)
-  all-parts =
-      sym (front-final [] found some-parts) ∙ ap (λ (ps : List (List ℕ)). ps ++ (final [] found ∷ [])) (sym fore-parts)
+  all_parts : found ≡ group_in h fore ++ (part_if (has_topic h.flags) topic_data ++ behind_topic)
+  all_parts =
+      sym (front-final [] found some_parts) ∙ ap (λ (ps : List (List ℕ)). ps ++ (final [] found ∷ [])) (sym fore_parts_lem)
       ∙ simp append_assoc
 
-  pub body-parts : body ≡ joined found
-  body-parts = (split 68 body found b s.head.over.found).same
+  pub body_parts : body ≡ joined found
+  body_parts = (split 68 body found b s.head.over.found).same
 
   -- where the topic begins, if there is one
-  pub topic-at : (at : ℕ) → at ≡ length (joined (groupIn h fore)) → At body at (partIf (hasTopic h.flags) topicData ++ behindTopic)
-  topic-at at e = rw e (at-behind body (groupIn h fore) (partIf (hasTopic h.flags) topicData ++ behindTopic) (body-parts ∙ ap joined all-parts))
+  pub topic_at_lem : (at : ℕ) → at ≡ length (joined (group_in h fore)) → At body at (part_if (has_topic h.flags) topic_data ++ behind_topic)
+  topic_at_lem at e = rw e (at_behind body (group_in h fore) (part_if (has_topic h.flags) topic_data ++ behind_topic) (body_parts ∙ ap joined all_parts))

@@ -9,46 +9,46 @@ use lib.Dec.{ltb}
 use lib.ListN.{length, get_or, take, drop, length-append, length-drop}
 use Rattle.bytes_number.specs.Number.{number, four, Bytes}
 use Rattle.bytes_number.proofs.Numbers.{number-four, bytes_drop}
-use Rattle.frame_message.specs.Frame.{sizeBytes, partBytes, joined}
+use Rattle.frame_message.specs.Frame.{size_bytes, part_bytes, joined}
 use Rattle.frame_message.proofs.Lists.{Each}
-use Rattle.frame_message.proofs.Parts.{Sized, split, part-short, part-long}
+use Rattle.frame_message.proofs.Parts.{Sized, split, part_short, part_long}
 use Rattle.frame_layout.specs.declared.Stretch.{Stretch}
 use Rattle.frame_layout.specs.declared.Piece.{Piece}
-use Rattle.frame_parts.proofs.Passing.{part-from}
-use Rattle.frame_body.specs.WorkingJudging.{partsFound, Found, stretchAt, piece_at}
+use Rattle.frame_parts.proofs.Passing.{part_from}
+use Rattle.frame_body.specs.WorkingJudging.{parts_found, Found, stretch_at, piece_at}
 
 -- ---- a part at the front of bytes
 
 module _ (q rest : List ℕ) where
-  front-short : length q < 255 → partBytes q ++ rest ≡ length q ∷ (q ++ rest)
-  front-short h = rw (part-short q h)
+  front_short : length q < 255 → part_bytes q ++ rest ≡ length q ∷ (q ++ rest)
+  front_short h = rw (part_short q h)
 
-  front_long : 255 ≤ length q → partBytes q ++ rest ≡ 255 ∷ (four (length q) ++ (q ++ rest))
-  front_long h = rw (part-long q h) (ap (λ (t : List ℕ). 255 ∷ t) (append_assoc (four (length q)) q rest))
+  front_long : 255 ≤ length q → part_bytes q ++ rest ≡ 255 ∷ (four (length q) ++ (q ++ rest))
+  front_long h = rw (part_long q h) (ap (λ (t : List ℕ). 255 ∷ t) (append_assoc (four (length q)) q rest))
 
   -- the byte in front is the size, or 255
-  pub first_byte : (get_or (partBytes q ++ rest) 0 0 ≡ 37 → length q ≡ 37) × (length q ≡ 37 → get_or (partBytes q ++ rest) 0 0 ≡ 37)
+  pub first_byte : (get_or (part_bytes q ++ rest) 0 0 ≡ 37 → length q ≡ 37) × (length q ≡ 37 → get_or (part_bytes q ++ rest) 0 0 ≡ 37)
   first_byte = go (ltb (length q) 255) refl
     where
-      go : (t : Bool) → ltb (length q) 255 ≡ t → (get_or (partBytes q ++ rest) 0 0 ≡ 37 → length q ≡ 37) × (length q ≡ 37 → get_or (partBytes q ++ rest) 0 0 ≡ 37)
-      go true t = rw (front-short (ltb-true _ _ t)) ((λ e. e), (λ e. e))
+      go : (t : Bool) → ltb (length q) 255 ≡ t → (get_or (part_bytes q ++ rest) 0 0 ≡ 37 → length q ≡ 37) × (length q ≡ 37 → get_or (part_bytes q ++ rest) 0 0 ≡ 37)
+      go true t = rw (front_short (ltb-true _ _ t)) ((λ e. e), (λ e. e))
       go false t = rw (front_long (ltb-false _ _ t)) ((λ (e : ◌≡◌ {A = ℕ} 255 37). absurd (omega arith)), (λ (e : length q ≡ 37). absurd (omega (arith, ltb-false (length q) 255 t))))
 
-  pub stretch-part : Sized q → stretchAt (partBytes q ++ rest) ≡ record { start = length (sizeBytes (length q)); len = length q }
-  stretch-part sized = go (ltb (length q) 255) refl
+  pub stretch_part : Sized q → stretch_at (part_bytes q ++ rest) ≡ record { start = length (size_bytes (length q)); len = length q }
+  stretch_part sized = go (ltb (length q) 255) refl
     where
-      go : (t : Bool) → ltb (length q) 255 ≡ t → stretchAt (partBytes q ++ rest) ≡ record { start = length (sizeBytes (length q)); len = length q }
-      go true t = rw (front-short (ltb-true _ _ t), t)
+      go : (t : Bool) → ltb (length q) 255 ≡ t → stretch_at (part_bytes q ++ rest) ≡ record { start = length (size_bytes (length q)); len = length q }
+      go true t = rw (front_short (ltb-true _ _ t), t)
       go false t = rw (front_long (ltb-false _ _ t), t, number-four (length q) (q ++ rest) sized)
 
 -- ---- by the bytes of the size
 
 module _ (s : List ℕ) where
-  pub stretch-short : get_or s 0 0 < 255 → stretchAt s ≡ record { start = 1; len = get_or s 0 0 }
-  stretch-short h = rw (lt-ltb (get_or s 0 0) 255 h)
+  pub stretch_short : get_or s 0 0 < 255 → stretch_at s ≡ record { start = 1; len = get_or s 0 0 }
+  stretch_short h = rw (lt-ltb (get_or s 0 0) 255 h)
 
-  pub stretch-long : 255 ≤ get_or s 0 0 → stretchAt s ≡ record { start = 5; len = number (drop 1 s) }
-  stretch-long h = rw (le-ltb (get_or s 0 0) 255 h)
+  pub stretch_long : 255 ≤ get_or s 0 0 → stretch_at s ≡ record { start = 5; len = number (drop 1 s) }
+  stretch_long h = rw (le-ltb (get_or s 0 0) 255 h)
 
 -- ---- bytes whose parts were found
 
@@ -56,14 +56,14 @@ module _ (s : List ℕ) where
 pub record PartBegins (s : List ℕ) : Type 0 where
   pub part : List ℕ
   pub others : List (List ℕ)
-  pub found : partsFound s ≡ part ∷ others
-  pub same : s ≡ partBytes part ++ joined others
+  pub found : parts_found s ≡ part ∷ others
+  pub same : s ≡ part_bytes part ++ joined others
   pub sized : Sized part
 
 pub begins : (s : List ℕ) → Bytes s → Found s → 0 < length s → PartBegins s
-begins s b f h = go (partsFound s) (split 68 s (partsFound s) b f).same (split 68 s (partsFound s) b f).sized refl
+begins s b f h = go (parts_found s) (split 68 s (parts_found s) b f).same (split 68 s (parts_found s) b f).sized refl
   where
-    go : (ps : List (List ℕ)) → s ≡ joined ps → Each Sized ps → partsFound s ≡ ps → PartBegins s
+    go : (ps : List (List ℕ)) → s ≡ joined ps → Each Sized ps → parts_found s ≡ ps → PartBegins s
     go [] e z k = absurd (omega (arith, ap length e))
     go (q ∷ qs) e z k = record { part = q; others = qs; found = k; same = e; sized = z.0 }
 
@@ -73,21 +73,21 @@ module _ (body : List ℕ) (at : ℕ) (b : Bytes body) (f : Found (drop at body)
   abbrev here : PartBegins (drop at body)
   here = begins (drop at body) (bytes_drop at body b) f h
 
-  lent : take (length body - at) (drop at body) ≡ partBytes here.part ++ joined here.others
-  lent = part-from body at ∙ here.same
+  lent : take (length body - at) (drop at body) ≡ part_bytes here.part ++ joined here.others
+  lent = part_from body at ∙ here.same
 
-  module _ (s : Stretch) (e : s ≡ stretchAt (take (length body - at) (drop at body))) where
-    found_at : s ≡ record { start = length (sizeBytes (length here.part)); len = length here.part }
-    found_at = e ∙ ap stretchAt lent ∙ stretch-part here.part (joined here.others) here.sized
+  module _ (s : Stretch) (e : s ≡ stretch_at (take (length body - at) (drop at body))) where
+    found_at : s ≡ record { start = length (size_bytes (length here.part)); len = length here.part }
+    found_at = e ∙ ap stretch_at lent ∙ stretch_part here.part (joined here.others) here.sized
 
-    pub piece-fits : at + s.start + s.len ≤ length body
-    piece-fits =
-        let part = length-append (sizeBytes (length here.part)) here.part in
-        let whole = length-append (partBytes here.part) (joined here.others) in
+    pub piece_fits : at + s.start + s.len ≤ length body
+    piece_fits =
+        let part = length-append (size_bytes (length here.part)) here.part in
+        let whole = length-append (part_bytes here.part) (joined here.others) in
         omega (arith, ap (λ (t : Stretch). t.start) found_at, ap (λ (t : Stretch). t.len) found_at, part, whole, ap length here.same, length-drop at body)
 
-    pub piece-there : ◌≡◌ {A = Piece} (record { at = at + s.start; len = s.len; next = at + s.start + s.len }) (piece_at at (get_or (partsFound (drop at body)) 0 []))
-    piece-there =
+    pub piece_there : ◌≡◌ {A = Piece} (record { at = at + s.start; len = s.len; next = at + s.start + s.len }) (piece_at at (get_or (parts_found (drop at body)) 0 []))
+    piece_there =
         let part = here.part in
-        let next : at + length (sizeBytes (length part)) + length part ≡ at + length (partBytes part) = omega (arith, length-append (sizeBytes (length part)) part) in
+        let next : at + length (size_bytes (length part)) + length part ≡ at + length (part_bytes part) = omega (arith, length-append (size_bytes (length part)) part) in
         rw (found_at, here.found, next)

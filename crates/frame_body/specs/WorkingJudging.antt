@@ -4,95 +4,95 @@ use Rattle.bytes_number.specs.Number.{number}
 use Rattle.frame_message.specs.declared.Header.{Header}
 use Rattle.refusal.specs.Answer.{answered}
 use Rattle.frame_forms.specs.Count.{one}
-use Rattle.frame_message.specs.Header.{hasTopic, hasPayload, hasRoute, headerIn}
-use Rattle.frame_message.specs.Working.{isHeader}
-use Rattle.frame_message.specs.Frame.{sizeBytes, partBytes, joined, groupIf}
-use Rattle.frame_message.specs.Writing.{routesGood}
-use Rattle.frame_message.specs.Reading.{parts_in, front, final, beforeEmpty, routesIn, partsAgree, isTopicPart}
+use Rattle.frame_message.specs.Header.{has_topic, has_payload, has_route, header_in}
+use Rattle.frame_message.specs.Working.{is_header}
+use Rattle.frame_message.specs.Frame.{size_bytes, part_bytes, joined, group_if}
+use Rattle.frame_message.specs.Writing.{routes_good}
+use Rattle.frame_message.specs.Reading.{parts_in, front, final, before_empty, routes_in, parts_agree, is_topic_part}
 use Rattle.frame_layout.specs.declared.Stretch.{Stretch}
 use Rattle.frame_layout.specs.declared.Layout.{Layout}
-use Rattle.frame_layout.specs.Layout.{stretchIf}
+use Rattle.frame_layout.specs.Layout.{stretch_if}
 use Rattle.frame_parts.specs.declared.PartCounts.{PartCounts}
-use Rattle.frame_parts.specs.WorkingCounting.{partsOrNone}
-use Rattle.frame_layout.specs.WorkingPlacing.{firstRoute}
+use Rattle.frame_parts.specs.WorkingCounting.{parts_or_none}
+use Rattle.frame_layout.specs.WorkingPlacing.{first_route}
 use Rattle.frame_layout.specs.declared.Piece.{Piece}
 
 -- the parts of bytes that are known to have some, and that they are known to
-unfoldable pub partsFound : List ℕ → List (List ℕ)
-partsFound b = partsOrNone (parts_in 68 b)
+unfoldable pub parts_found : List ℕ → List (List ℕ)
+parts_found b = parts_or_none (parts_in 68 b)
 
 abbrev pub Found : List ℕ → Type 0
-Found b = parts_in 68 b ≡ answered (partsFound b)
+Found b = parts_in 68 b ≡ answered (parts_found b)
 
 -- ---- a part whose size is right
 
 -- its data, by the bytes of its size
-abbrev pub stretchAt : List ℕ → Stretch
-stretchAt s = cond (ltb (get_or s 0 0) 255) (record { start = 1; len = get_or s 0 0 }) (record { start = 5; len = number (drop 1 s) })
+abbrev pub stretch_at : List ℕ → Stretch
+stretch_at s = cond (ltb (get_or s 0 0) 255) (record { start = 1; len = get_or s 0 0 }) (record { start = 5; len = number (drop 1 s) })
 
 -- the part p at a place of the body
 abbrev pub piece_at : ℕ → List ℕ → Piece
-piece_at place p = record { at = place + length (sizeBytes (length p)); len = length p; next = place + length (partBytes p) }
+piece_at place p = record { at = place + length (size_bytes (length p)); len = length p; next = place + length (part_bytes p) }
 
 -- the first of the parts at a place, if there is to be one
-abbrev pub pieceIf : Bool → ℕ → List (List ℕ) → Piece
-pieceIf flag place ps = cond flag (piece_at place (get_or ps 0 [])) (record { at = 0; len = 0; next = place })
+abbrev pub piece_if : Bool → ℕ → List (List ℕ) → Piece
+piece_if flag place ps = cond flag (piece_at place (get_or ps 0 [])) (record { at = 0; len = 0; next = place })
 
 -- a topic's piece lies within the body
 pub record Within (flags : ℕ) (topic : Piece) (size : ℕ) : Type 0 where
-  pub starts : hasTopic flags ≡ true → topic.at ≤ topic.next
-  pub ends : hasTopic flags ≡ true → topic.next ≤ size
+  pub starts : has_topic flags ≡ true → topic.at ≤ topic.next
+  pub ends : has_topic flags ≡ true → topic.next ≤ size
 
 -- 9, of the bytes in that piece
-abbrev pub topicWrong : ℕ → Piece → List ℕ → Bool
-topicWrong flags topic body = hasTopic flags && not (isTopicPart (take (topic.next - topic.at) (drop topic.at body)))
+abbrev pub topic_wrong : ℕ → Piece → List ℕ → Bool
+topic_wrong flags topic body = has_topic flags && not (is_topic_part (take (topic.next - topic.at) (drop topic.at body)))
 
 -- the answer from the pieces, counted from the frame's front
 pub record Placeable (size : ℕ) (h : Header) (topic payload : Piece) : Type 0 where
   pub short : size ≤ 32768
-  pub topic-in : topic.at ≤ size
-  pub topic-some : one (hasTopic h.flags) ≤ topic.len
-  pub payload-in : payload.at ≤ size
+  pub topic_in : topic.at ≤ size
+  pub topic_some : one (has_topic h.flags) ≤ topic.len
+  pub payload_in : payload.at ≤ size
 
-abbrev pub placedAs : ℕ → Header → ℕ → Piece → Piece → Layout
-placedAs size h routes topic payload =
+abbrev pub placed_as : ℕ → Header → ℕ → Piece → Piece → Layout
+placed_as size h routes topic payload =
     record {
       taken = 8 + size;
       header = h;
       routes = routes;
-      route = firstRoute routes;
-      topic = stretchIf (hasTopic h.flags) (8 + topic.at) (topic.len - one (hasTopic h.flags));
-      payload = stretchIf (hasPayload h.flags) (8 + payload.at) payload.len;
+      route = first_route routes;
+      topic = stretch_if (has_topic h.flags) (8 + topic.at) (topic.len - one (has_topic h.flags));
+      payload = stretch_if (has_payload h.flags) (8 + payload.at) payload.len;
     }
 
 -- 7, in numbers: the routes and their delimiter, topic and payload where they are flagged, and the header
-abbrev pub partsWanted : ℕ → ℕ → ℕ
-partsWanted flags routes = routes + one (hasRoute flags) + one (hasTopic flags) + one (hasPayload flags) + 1
+abbrev pub parts_wanted : ℕ → ℕ → ℕ
+parts_wanted flags routes = routes + one (has_route flags) + one (has_topic flags) + one (has_payload flags) + 1
 
 -- the parts in front of the topic, of those in front of the header
-abbrev pub groupIn : Header → List (List ℕ) → List (List ℕ)
-groupIn h ps = groupIf (hasRoute h.flags) (beforeEmpty ps)
+abbrev pub group_in : Header → List (List ℕ) → List (List ℕ)
+group_in h ps = group_if (has_route h.flags) (before_empty ps)
 
 -- ---- the state of the judging
 
 -- the parts are counted, and it is known where the first empty one and the last begin
 pub record CountsOf (body : List ℕ) (counts : PartCounts) : Type 0 where
   pub found : Found body
-  pub count : counts.count ≡ length (partsFound body)
-  pub empty : counts.empty ≡ length (beforeEmpty (partsFound body))
-  pub group : counts.group ≡ length (joined (beforeEmpty (partsFound body)))
-  pub last : counts.last ≡ length (joined (front (partsFound body)))
+  pub count : counts.count ≡ length (parts_found body)
+  pub empty : counts.empty ≡ length (before_empty (parts_found body))
+  pub group : counts.group ≡ length (joined (before_empty (parts_found body)))
+  pub last : counts.last ≡ length (joined (front (parts_found body)))
 
 -- the same, and the last part is a header with the fields h
 pub record Headed (body : List ℕ) (counts : PartCounts) (h : Header) : Type 0 where
   pub over : CountsOf body counts
   pub short : length body ≤ 32768
-  pub headed : isHeader (final [] (partsFound body)) ≡ true
-  pub same : h ≡ headerIn (final [] (partsFound body))
+  pub headed : is_header (final [] (parts_found body)) ≡ true
+  pub same : h ≡ header_in (final [] (parts_found body))
 
 -- the same, and the parts are those that the header asks for, and the first so many are routes
 pub record Sorted (body : List ℕ) (counts : PartCounts) (h : Header) (routes : ℕ) : Type 0 where
   pub head : Headed body counts h
-  pub agree : partsAgree h (front (partsFound body)) ≡ true
-  pub count : routes ≡ length (routesIn h (front (partsFound body)))
-  pub good : routesGood (routesIn h (front (partsFound body))) ≡ true
+  pub agree : parts_agree h (front (parts_found body)) ≡ true
+  pub count : routes ≡ length (routes_in h (front (parts_found body)))
+  pub good : routes_good (routes_in h (front (parts_found body))) ≡ true

@@ -1,7 +1,7 @@
 // 7: whether the parts of a body are those that the header's type and flags ask for.
 ghost use Rattle.std.specs.Prelude.{◌≡◌, ◌&&◌, cond, ◌≤◌, eqb};
-ghost use Rattle.frame_message.specs.Header.{partsFit};
-ghost use Rattle.frame_body.specs.WorkingJudging.{partsWanted};
+ghost use Rattle.frame_message.specs.Header.{parts_fit};
+ghost use Rattle.frame_body.specs.WorkingJudging.{parts_wanted};
 
 use frame_message::Header;
 
@@ -16,7 +16,7 @@ pub(crate) fn if_set(flag: bool, n: usize) -> usize
 // the header.
 fn parts_wanted(flags: u8, routes: usize) -> usize
     requires { routes ≤ 68 }
-    ensures { result ≡ partsWanted flags routes }
+    ensures { result ≡ parts_wanted flags routes }
 {
     let delimiter = if_set(frame_flags::has_route(flags), 1);
     let topic = if_set(frame_flags::has_topic(flags), 1);
@@ -27,7 +27,7 @@ fn parts_wanted(flags: u8, routes: usize) -> usize
 // Whether the flags fit the type, and there are as many parts as they ask for.
 pub(crate) fn parts_agree(h: Header, count: usize, routes: usize) -> bool
     requires { routes ≤ 68 }
-    ensures { result ≡ (partsFit h && eqb count (partsWanted h.flags routes)) }
+    ensures { result ≡ (parts_fit h && eqb count (parts_wanted h.flags routes)) }
 {
     if frame_header_rules::parts_fit(h) {
         count == parts_wanted(h.flags, routes)

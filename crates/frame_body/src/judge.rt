@@ -1,11 +1,10 @@
 // What the parts of a body are: the header first, then 7 to 10 in the paper's order.
 ghost use Rattle.std.specs.Prelude.{◌≡◌, true, ◌<◌, ◌≤◌, length, take, drop};
-ghost use Rattle.bytes_number.specs.Lent.{was};
 ghost use Rattle.refusal.specs.Answer.{and_then};
-ghost use Rattle.frame_message.specs.Writing.{allRoutes};
-ghost use Rattle.frame_message.specs.Reading.{parts_in, front, judged, judgedAs};
-ghost use Rattle.frame_layout.specs.WorkingPlacing.{readAs};
-ghost use Rattle.frame_body.specs.WorkingJudging.{partsFound, Found, stretchAt, pieceIf, Within, topicWrong, CountsOf, Headed, Sorted};
+ghost use Rattle.frame_message.specs.Writing.{all_routes};
+ghost use Rattle.frame_message.specs.Reading.{parts_in, front, judged, judged_as};
+ghost use Rattle.frame_layout.specs.WorkingPlacing.{read_as};
+ghost use Rattle.frame_body.specs.WorkingJudging.{parts_found, Found, stretch_at, piece_if, Within, topic_wrong, CountsOf, Headed, Sorted};
 
 use crate::agree::{if_set, parts_agree};
 use frame_header::{Head, read_header};
@@ -17,7 +16,7 @@ use refusal::Refusal;
 // The data of the part that begins s, whose size is known to be right.
 fn stretch_at(s: &[u8]) -> Stretch
     requires { 0 < length s.now }
-    ensures { result ≡ stretchAt (was s) }
+    ensures { result ≡ stretch_at s.now }
 {
     let short = bytes_number::wide(s[0]) as usize;
     if short < 255 {
@@ -37,7 +36,7 @@ fn piece_if(body: &[u8], flag: bool, at: usize) -> Piece
     requires at_in_bounds { (at ≤ length body.now) × (length body.now ≤ 32768) }
     requires found { Found (drop at body.now) }
     requires nonzero { flag ≡ true → 0 < length (drop at body.now) }
-    ensures { result ≡ pieceIf flag at (partsFound (drop at (was body))) }
+    ensures { result ≡ piece_if flag at (parts_found (drop at body.now)) }
 {
     if flag {
         let part = stretch_at(&body[at..]);
@@ -59,8 +58,8 @@ fn piece_if(body: &[u8], flag: bool, at: usize) -> Piece
 // Whether the first so many parts are routes. Those in front of a part that is looked at have 38 bytes each.
 fn are_routes(body: &[u8], routes: usize) -> bool
     requires found { Found body.now }
-    requires body_len_bound { (length body.now ≤ 32768) × (routes ≤ length (partsFound body.now)) }
-    ensures { result ≡ allRoutes (take routes (partsFound (was body))) }
+    requires body_len_bound { (length body.now ≤ 32768) × (routes ≤ length (parts_found body.now)) }
+    ensures { result ≡ all_routes (take routes (parts_found body.now)) }
 {
     let mut i = 0;
     let mut at = 0;
@@ -80,7 +79,7 @@ fn are_routes(body: &[u8], routes: usize) -> bool
 // 9: whether there is to be a topic, and the part is none.
 fn topic_wrong(body: &[u8], flags: u8, topic: Piece) -> bool
     requires { Within flags topic (length body.now) }
-    ensures { result ≡ topicWrong flags topic (was body) }
+    ensures { result ≡ topic_wrong flags topic body.now }
 {
     let from = topic.at;
     let to = topic.next;
@@ -95,7 +94,7 @@ fn topic_wrong(body: &[u8], flags: u8, topic: Piece) -> bool
 // delimiter, or at the front where there is none.
 fn judge_rest(body: &[u8], counts: PartCounts, h: Header, routes: usize) -> Reading
     requires { Sorted body.now counts h routes }
-    ensures { result ≡ readAs (judgedAs h (front (partsFound (was body)))) }
+    ensures { result ≡ read_as (judged_as h (front (parts_found body.now))) }
 {
     let at = if_set(frame_flags::has_route(h.flags), counts.group + 1);
     let topic = piece_if(body, frame_flags::has_topic(h.flags), at);
@@ -115,7 +114,7 @@ fn judge_rest(body: &[u8], counts: PartCounts, h: Header, routes: usize) -> Read
 // 7 and 8: whether the parts are those that type and flags ask for, and then the routes, which are the parts in front of the delimiter.
 fn judge_parts(body: &[u8], counts: PartCounts, h: Header) -> Reading
     requires { Headed body.now counts h }
-    ensures { result ≡ readAs (judgedAs h (front (partsFound (was body)))) }
+    ensures { result ≡ read_as (judged_as h (front (parts_found body.now))) }
 {
     let routes = if_set(frame_flags::has_route(h.flags), counts.empty);
     let agree = parts_agree(h, counts.count, routes);
@@ -135,7 +134,7 @@ fn judge_parts(body: &[u8], counts: PartCounts, h: Header) -> Reading
 // 6 and 20 to 23, and then the rest: the header is the last of the parts that were counted.
 fn judge_counted(body: &[u8], counts: PartCounts) -> Reading
     requires { (length body.now ≤ 32768) × CountsOf body.now counts }
-    ensures { result ≡ readAs (and_then (parts_in 68 (was body)) judged) }
+    ensures { result ≡ read_as (and_then (parts_in 68 body.now) judged) }
 {
     let last = counts.last;
     if body.len() - last != frame_message::HEADER_PART {
@@ -151,7 +150,7 @@ fn judge_counted(body: &[u8], counts: PartCounts) -> Reading
 // Reads a body: its parts, the header, which is the last of them, and the rest.
 pub(crate) fn judge(body: &[u8]) -> Reading
     requires { length body.now ≤ 32768 }
-    ensures { result ≡ readAs (and_then (parts_in 68 (was body)) judged) }
+    ensures { result ≡ read_as (and_then (parts_in 68 body.now) judged) }
 {
     match count_parts(body, frame_message::MOST_PARTS) {
         Counting::Refused(r, _) => Reading::Refused(r),

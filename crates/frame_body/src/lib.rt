@@ -1,10 +1,9 @@
 // A body: what its parts are and where they lie, or why it holds no message. It copies nothing.
 ghost use Rattle.std.specs.Prelude.{◌≡◌, ◌&&◌, eqb, leb};
-ghost use Rattle.bytes_number.specs.Lent.{was};
-ghost use Rattle.frame_message.specs.Header.{partsFit};
-ghost use Rattle.frame_layout.specs.WorkingPlacing.{readAs};
-ghost use Rattle.frame_body.specs.WorkingBody.{bodyReading};
-ghost use Rattle.frame_body.specs.WorkingJudging.{partsWanted};
+ghost use Rattle.frame_message.specs.Header.{parts_fit};
+ghost use Rattle.frame_layout.specs.WorkingPlacing.{read_as};
+ghost use Rattle.frame_body.specs.WorkingBody.{body_reading};
+ghost use Rattle.frame_body.specs.WorkingJudging.{parts_wanted};
 
 use frame_layout::Reading;
 use frame_message::Header;
@@ -16,7 +15,7 @@ mod judge;
 
 // 7, for whoever counted the parts: whether there are as many as type and flags ask for, with so many routes. More than 68 are never asked for.
 pub fn parts_agree(h: Header, count: usize, routes: usize) -> bool
-    ensures { result ≡ (leb routes 68 && (partsFit h && eqb count (partsWanted h.flags routes))) }
+    ensures { result ≡ (leb routes 68 && (parts_fit h && eqb count (parts_wanted h.flags routes))) }
 {
     if frame_message::MOST_PARTS < routes {
         return false;
@@ -26,7 +25,7 @@ pub fn parts_agree(h: Header, count: usize, routes: usize) -> bool
 
 // Reads the body of a frame. One that is too long is not looked at.
 pub fn read_body(body: &[u8]) -> Reading
-    ensures { result ≡ readAs (bodyReading (was body)) }
+    ensures { result ≡ read_as (body_reading body.now) }
 {
     if frame_message::MOST_BODY < body.len() {
         return Reading::Refused(Refusal::BodyLong);

@@ -8,27 +8,27 @@ use borrow.Author.Tests.{lt-ltb, le-ltb, ltb-true, ltb-false}
 use lib.Dec.{ltb}
 use lib.ListN.{length, get_or, drop}
 use lib.Seq.{get_or-drop}
-use Rattle.frame_message.specs.Frame.{sizeBytes, partBytes, joined}
-use Rattle.frame_message.proofs.Parts.{part-short, part-long}
-use Rattle.frame_fault.specs.WorkingFaults.{sizeLength}
+use Rattle.frame_message.specs.Frame.{size_bytes, part_bytes, joined}
+use Rattle.frame_message.proofs.Parts.{part_short, part_long}
+use Rattle.frame_fault.specs.WorkingFaults.{size_length}
 
-pub short-size : (first : ℕ) → first < 255 → sizeLength first ≡ 1
-short-size first h = rw (lt-ltb first 255 h)
+pub short_size : (first : ℕ) → first < 255 → size_length first ≡ 1
+short_size first h = rw (lt-ltb first 255 h)
 
-pub long-size : (first : ℕ) → 255 ≤ first → sizeLength first ≡ 5
-long-size first h = rw (le-ltb first 255 h)
+pub long_size : (first : ℕ) → 255 ≤ first → size_length first ≡ 5
+long_size first h = rw (le-ltb first 255 h)
 
 -- the first byte of a part tells how long its size is
-pub part-size : (p rest : List ℕ) → sizeLength (get_or (partBytes p ++ rest) 0 0) ≡ length (sizeBytes (length p))
-part-size p rest = go (ltb (length p) 255) refl
+pub part_size : (p rest : List ℕ) → size_length (get_or (part_bytes p ++ rest) 0 0) ≡ length (size_bytes (length p))
+part_size p rest = go (ltb (length p) 255) refl
   where
-    go : (t : Bool) → ltb (length p) 255 ≡ t → sizeLength (get_or (partBytes p ++ rest) 0 0) ≡ length (sizeBytes (length p))
-    go true t = rw (part-short p (ltb-true _ _ t), t)
-    go false t = rw (part-long p (ltb-false _ _ t), t)
+    go : (t : Bool) → ltb (length p) 255 ≡ t → size_length (get_or (part_bytes p ++ rest) 0 0) ≡ length (size_bytes (length p))
+    go true t = rw (part_short p (ltb-true _ _ t), t)
+    go false t = rw (part_long p (ltb-false _ _ t), t)
 
 -- at a place of a body
-pub byte-there : (body : List ℕ) (at : ℕ) {s : List ℕ} → drop at body ≡ s → get_or body at 0 ≡ get_or s 0 0
-byte-there body at e = ap (λ (k : ℕ). get_or body k 0) (sym (add-zero at)) ∙ sym (get_or-drop at body 0 0) ∙ ap (λ (s : List ℕ). get_or s 0 0) e
+pub byte_there : (body : List ℕ) (at : ℕ) {s : List ℕ} → drop at body ≡ s → get_or body at 0 ≡ get_or s 0 0
+byte_there body at e = ap (λ (k : ℕ). get_or body k 0) (sym (add-zero at)) ∙ sym (get_or-drop at body 0 0) ∙ ap (λ (s : List ℕ). get_or s 0 0) e
 
-pub size-there : (body : List ℕ) (at : ℕ) (p rest : List ℕ) → drop at body ≡ partBytes p ++ rest → sizeLength (get_or body at 0) ≡ length (sizeBytes (length p))
-size-there body at p rest e = ap sizeLength (byte-there body at e) ∙ part-size p rest
+pub size_there : (body : List ℕ) (at : ℕ) (p rest : List ℕ) → drop at body ≡ part_bytes p ++ rest → size_length (get_or body at 0) ≡ length (size_bytes (length p))
+size_there body at p rest e = ap size_length (byte_there body at e) ∙ part_size p rest

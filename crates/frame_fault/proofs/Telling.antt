@@ -13,108 +13,108 @@ use Rattle.refusal.specs.declared.Refusal.TheVariants.{PartsDisagree, RouteWrong
 use Rattle.refusal.specs.Refusals.{number_of}
 use Rattle.refusal.specs.Answer.{Answer, refused, answered, and_then}
 use Rattle.frame_message.specs.declared.Header.{Header}
-use Rattle.frame_message.specs.Header.{hasRoute, partsFit, headerIn}
+use Rattle.frame_message.specs.Header.{has_route, parts_fit, header_in}
 use Rattle.frame_message.specs.Message.{Message}
 use Rattle.frame_message.specs.Frame.{joined}
-use Rattle.frame_message.specs.Working.{isHeader}
-use Rattle.frame_message.specs.Reading.{parts_in, front, final, partsAgree, judgedAs, judged, reading_of}
-use Rattle.frame_message.proofs.Headers.{header-tested, header-answers}
+use Rattle.frame_message.specs.Working.{is_header}
+use Rattle.frame_message.specs.Reading.{parts_in, front, final, parts_agree, judged_as, judged, reading_of}
+use Rattle.frame_message.proofs.Headers.{header_tested, header_answers}
 use Rattle.frame_message.proofs.Parts.{split}
 use Rattle.frame_parts.specs.declared.PartCounts.{PartCounts}
 use Rattle.frame_layout.specs.declared.Layout.{Layout}
 use Rattle.frame_layout.specs.declared.Reading.TheVariants.{Accepted}
-use Rattle.frame_layout.specs.WorkingPlacing.{readAs}
-use Rattle.frame_body.specs.WorkingJudging.{partsFound, partsWanted, CountsOf, Headed}
-use Rattle.frame_body.proofs.Agreeing.{empty-low, agree-tested, many-routes}
-use Rattle.frame_body.proofs.Sorting.{judged-parts, judged-routes}
-use Rattle.frame_body.proofs.Readings.{Read, accepted-read}
-use Rattle.frame_fault.specs.Fault.{headerOfParts, faultNumber}
+use Rattle.frame_layout.specs.WorkingPlacing.{read_as}
+use Rattle.frame_body.specs.WorkingJudging.{parts_found, parts_wanted, CountsOf, Headed}
+use Rattle.frame_body.proofs.Agreeing.{empty_low, agree_tested, many_routes}
+use Rattle.frame_body.proofs.Sorting.{judged_parts, judged_routes}
+use Rattle.frame_body.proofs.Readings.{Read, accepted_read}
+use Rattle.frame_fault.specs.Fault.{header_of_parts, fault_number}
 use Rattle.frame_fault.specs.WorkingFaults.{BodyWhy, Early, BodyOf}
 use Rattle.frame_fault.proofs.Parts.{header-byte}
 
 -- ---- a refusal, and its number
 
-pub early-told : {body : List ℕ} {r : Refusal} {n : ℕ} → n ≡ number_of r → and_then (parts_in 68 body) judged ≡ refused r → Early body n
-early-told {body} {r} e k = record { told = λ z. record { why = r; same = e; refuses = k } }
+pub early_told : {body : List ℕ} {r : Refusal} {n : ℕ} → n ≡ number_of r → and_then (parts_in 68 body) judged ≡ refused r → Early body n
+early_told {body} {r} e k = record { told = λ z. record { why = r; same = e; refuses = k } }
 
-pub early-none : {body : List ℕ} → Early body 0
-early-none = record { told = λ n. absurd (n refl) }
+pub early_none : {body : List ℕ} → Early body 0
+early_none = record { told = λ n. absurd (n refl) }
 
 -- the number of what is read from a body tells why it is refused
-pub number-why : (body : List ℕ) {n : ℕ} → n ≡ faultNumber (and_then (parts_in 68 body) judged) → (n ≡ 0 → ⊥) → BodyWhy body n
-number-why body {n} e some = go (and_then (parts_in 68 body) judged) refl e
+pub number_why : (body : List ℕ) {n : ℕ} → n ≡ fault_number (and_then (parts_in 68 body) judged) → (n ≡ 0 → ⊥) → BodyWhy body n
+number_why body {n} e some = go (and_then (parts_in 68 body) judged) refl e
   where
-    go : (a : Answer Message) → and_then (parts_in 68 body) judged ≡ a → n ≡ faultNumber a → BodyWhy body n
+    go : (a : Answer Message) → and_then (parts_in 68 body) judged ≡ a → n ≡ fault_number a → BodyWhy body n
     go (refused r) k e = record { why = r; same = e; refuses = k }
     go (answered m) k e = absurd (some e)
 
-pub accepted-number : (a : Answer Message) {l : Layout} → Accepted l ≡ readAs a → 0 ≡ faultNumber a
-accepted-number a e = sym (ap faultNumber (accepted-read a e).is)
+pub accepted_number : (a : Answer Message) {l : Layout} → Accepted l ≡ read_as a → 0 ≡ fault_number a
+accepted_number a e = sym (ap fault_number (accepted_read a e).is)
 
 -- of a frame with this body
-pub early-number : {b body : List ℕ} {n : ℕ} → BodyOf b body → Early body n → (n ≡ 0 → ⊥) → n ≡ faultNumber (reading_of b)
-early-number o early some = let w = early.told some in
-    w.same ∙ sym (ap faultNumber (o.reading ∙ w.refuses))
+pub early_number : {b body : List ℕ} {n : ℕ} → BodyOf b body → Early body n → (n ≡ 0 → ⊥) → n ≡ fault_number (reading_of b)
+early_number o early some = let w = early.told some in
+    w.same ∙ sym (ap fault_number (o.reading ∙ w.refuses))
 
 -- ---- 7 and 8, by the header's type and flags
 
 -- whether the flags fit the type depends on nothing else
-fit_same : (h : Header) {kind flags : ℕ} → kind ≡ h.kind → flags ≡ h.flags → partsFit (record { kind = kind; flags = flags; userid = 0; rolemask = 0; first = 0; second = 0 }) ≡ partsFit h
-unfolding partsFit
+fit_same : (h : Header) {kind flags : ℕ} → kind ≡ h.kind → flags ≡ h.flags → parts_fit (record { kind = kind; flags = flags; userid = 0; rolemask = 0; first = 0; second = 0 }) ≡ parts_fit h
+unfolding parts_fit
 fit_same h ek ef = rw (ek, ef)
 
-module _ (body : List ℕ) (b : Bytes body) (counts : PartCounts) (o : CountsOf body counts) (short : length body ≤ 32768) (is : isHeader (final [] (partsFound body)) ≡ true) where
+module _ (body : List ℕ) (b : Bytes body) (counts : PartCounts) (o : CountsOf body counts) (short : length body ≤ 32768) (is : is_header (final [] (parts_found body)) ≡ true) where
   abbrev ps : List (List ℕ)
-  ps = partsFound body
+  ps = parts_found body
 
   abbrev h : Header
-  h = headerOfParts ps
+  h = header_of_parts ps
 
   headed : Headed body counts h
   headed = record { over = o; short = short; headed = is; same = refl }
 
   -- a byte of the header
   head_byte : (k : ℕ) → get_or body (counts.last + 1 + k) 0 ≡ get_or (final [] ps) k 0
-  head_byte k = ap (λ (m : ℕ). get_or body (m + 1 + k) 0) o.last ∙ header-byte ps (header-tested _ is).long body (split 68 body ps b o.found).same k
+  head_byte k = ap (λ (m : ℕ). get_or body (m + 1 + k) 0) o.last ∙ header-byte ps (header_tested _ is).long body (split 68 body ps b o.found).same k
 
-  rest : and_then (parts_in 68 body) judged ≡ judgedAs h (front ps)
+  rest : and_then (parts_in 68 body) judged ≡ judged_as h (front ps)
   unfolding judged
-  rest = ap (λ (a : Answer (List (List ℕ))). and_then a judged) o.found ∙ rw (header-answers (final [] ps) is)
+  rest = ap (λ (a : Answer (List (List ℕ))). and_then a judged) o.found ∙ rw (header_answers (final [] ps) is)
 
   -- type and flags, where they were read
-  module _ {kind flags routes i j : ℕ} (ek : kind ≡ get_or body i 0) (ei : i ≡ counts.last + 3) (ef : flags ≡ get_or body j 0) (ej : j ≡ counts.last + 4) (er : routes ≡ cond (hasRoute flags) counts.empty 0) where
-    kind-is : kind ≡ h.kind
-    unfolding headerIn
-    kind-is =
+  module _ {kind flags routes i j : ℕ} (ek : kind ≡ get_or body i 0) (ei : i ≡ counts.last + 3) (ef : flags ≡ get_or body j 0) (ej : j ≡ counts.last + 4) (er : routes ≡ cond (has_route flags) counts.empty 0) where
+    kind_is : kind ≡ h.kind
+    unfolding header_in
+    kind_is =
         let there : i ≡ counts.last + 1 + 2 = omega arith in
         ek ∙ ap (λ (m : ℕ). get_or body m 0) there ∙ head_byte 2
 
-    flags-are : flags ≡ h.flags
-    unfolding headerIn
-    flags-are =
+    flags_are : flags ≡ h.flags
+    unfolding header_in
+    flags_are =
         let there : j ≡ counts.last + 1 + 3 = omega arith in
         ef ∙ ap (λ (m : ℕ). get_or body m 0) there ∙ head_byte 3
 
-    routes-are : routes ≡ cond (hasRoute h.flags) counts.empty 0
-    routes-are = er ∙ ap (λ (f : ℕ). cond (hasRoute f) counts.empty 0) flags-are
+    routes_are : routes ≡ cond (has_route h.flags) counts.empty 0
+    routes_are = er ∙ ap (λ (f : ℕ). cond (has_route f) counts.empty 0) flags_are
 
     abbrev asked : Bool
-    asked = leb routes 68 && (partsFit (record { kind = kind; flags = flags; userid = 0; rolemask = 0; first = 0; second = 0 }) && eqb counts.count (partsWanted flags routes))
+    asked = leb routes 68 && (parts_fit (record { kind = kind; flags = flags; userid = 0; rolemask = 0; first = 0; second = 0 }) && eqb counts.count (parts_wanted flags routes))
 
-    agree-told : {t : Bool} → t ≡ asked → partsAgree h (front ps) ≡ t
-    agree-told e =
-        let few = le-leb routes 68 (omega (arith, routes-are, empty-low body counts h headed b)) in
-        let fit = fit_same h kind-is flags-are in
-        agree-tested body counts h headed routes routes-are
-        ∙ ap (λ (f : ℕ). partsFit h && eqb counts.count (partsWanted f routes)) (sym flags-are)
-        ∙ ap (λ (t : Bool). t && eqb counts.count (partsWanted flags routes)) (sym fit)
-        ∙ ap (λ (t : Bool). t && (partsFit (record { kind = kind; flags = flags; userid = 0; rolemask = 0; first = 0; second = 0 }) && eqb counts.count (partsWanted flags routes))) (sym few)
+    agree_told : {t : Bool} → t ≡ asked → parts_agree h (front ps) ≡ t
+    agree_told e =
+        let few = le-leb routes 68 (omega (arith, routes_are, empty_low body counts h headed b)) in
+        let fit = fit_same h kind_is flags_are in
+        agree_tested body counts h headed routes routes_are
+        ∙ ap (λ (f : ℕ). parts_fit h && eqb counts.count (parts_wanted f routes)) (sym flags_are)
+        ∙ ap (λ (t : Bool). t && eqb counts.count (parts_wanted flags routes)) (sym fit)
+        ∙ ap (λ (t : Bool). t && (parts_fit (record { kind = kind; flags = flags; userid = 0; rolemask = 0; first = 0; second = 0 }) && eqb counts.count (parts_wanted flags routes))) (sym few)
         ∙ sym e
 
-    pub early-parts : {t : Bool} → t ≡ asked → t ≡ false → and_then (parts_in 68 body) judged ≡ refused PartsDisagree
-    early-parts e wrong = rest ∙ judged-parts _ _ (agree-told e ∙ wrong)
+    pub early_parts : {t : Bool} → t ≡ asked → t ≡ false → and_then (parts_in 68 body) judged ≡ refused PartsDisagree
+    early_parts e wrong = rest ∙ judged_parts _ _ (agree_told e ∙ wrong)
 
-    pub early-routes : {t : Bool} → t ≡ asked → t ≡ true → 64 < routes → and_then (parts_in 68 body) judged ≡ refused RouteWrong
-    early-routes e right many =
-        let agree = agree-told e ∙ right in
-        rest ∙ judged-routes _ _ agree (many-routes body counts h headed routes routes-are agree many)
+    pub early_routes : {t : Bool} → t ≡ asked → t ≡ true → 64 < routes → and_then (parts_in 68 body) judged ≡ refused RouteWrong
+    early_routes e right many =
+        let agree = agree_told e ∙ right in
+        rest ∙ judged_routes _ _ agree (many_routes body counts h headed routes routes_are agree many)

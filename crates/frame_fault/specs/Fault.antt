@@ -4,102 +4,102 @@ use Rattle.std.specs.Prelude.{ℕ, zero, suc, ◌+◌, ◌-◌, cond, List, [], 
 use Rattle.refusal.specs.Refusals.{number_of}
 use Rattle.refusal.specs.Answer.{Answer, refused, answered}
 use Rattle.frame_message.specs.declared.Header.{Header}
-use Rattle.frame_message.specs.Header.{requestType, headerIn}
-use Rattle.frame_forms.specs.Forms.{isRoute}
+use Rattle.frame_message.specs.Header.{request_type, header_in}
+use Rattle.frame_forms.specs.Forms.{is_route}
 use Rattle.frame_message.specs.Message.{Message}
-use Rattle.frame_message.specs.Frame.{sizeBytes, joined}
-use Rattle.frame_message.specs.Writing.{mostRoutes}
-use Rattle.frame_message.specs.Reading.{firstPart, mostParts, front, final, routesIn, topicPlace, bodyLength, reading_of}
+use Rattle.frame_message.specs.Frame.{size_bytes, joined}
+use Rattle.frame_message.specs.Writing.{most_routes}
+use Rattle.frame_message.specs.Reading.{first_part, most_parts, front, final, routes_in, topic_place, body_length, reading_of}
 use Rattle.frame_fault.specs.declared.Fault.{Fault}
 
 -- ---- the parts of a frame
 
 -- the body: as many bytes behind the first eight as the length there says
-abbrev pub bodyIn : List ℕ → List ℕ
-bodyIn b = take (bodyLength b) (drop 8 b)
+abbrev pub body_in : List ℕ → List ℕ
+body_in b = take (body_length b) (drop 8 b)
 
 -- a part that was cut off in front of what comes of the bytes behind it; nothing where it was refused
-abbrev pub partThen : Answer (List ℕ × List ℕ) → (List ℕ → List (List ℕ)) → List (List ℕ)
-partThen (refused r) more = []
-partThen (answered cut) more = cut.0 ∷ more cut.1
+abbrev pub part_then : Answer (List ℕ × List ℕ) → (List ℕ → List (List ℕ)) → List (List ℕ)
+part_then (refused r) more = []
+part_then (answered cut) more = cut.0 ∷ more cut.1
 
 -- the parts in front of the one that is refused, of which at most `most` may come; all of them where none is refused
-unfoldable pub wholeParts : ℕ → List ℕ → List (List ℕ)
-wholeParts zero bytes = []
-wholeParts (suc most) [] = []
-wholeParts (suc most) (x ∷ xs) = partThen (firstPart x xs) (wholeParts most)
+unfoldable pub whole_parts : ℕ → List ℕ → List (List ℕ)
+whole_parts zero bytes = []
+whole_parts (suc most) [] = []
+whole_parts (suc most) (x ∷ xs) = part_then (first_part x xs) (whole_parts most)
 
 -- ---- where a part lies, "counted from the frame's front"
 
 -- the size byte of a part that has these in front of it; the first of five where its size is long
-abbrev pub sizeByte : List (List ℕ) → ℕ
-sizeByte before = 8 + length (joined before)
+abbrev pub size_byte : List (List ℕ) → ℕ
+size_byte before = 8 + length (joined before)
 
 -- where the data of the part with the index n starts: behind its size
-unfoldable pub dataStart : List (List ℕ) → ℕ → ℕ
-dataStart ps n = sizeByte (take n ps) + length (sizeBytes (length (get_or ps n [])))
+unfoldable pub data_start : List (List ℕ) → ℕ → ℕ
+data_start ps n = size_byte (take n ps) + length (size_bytes (length (get_or ps n [])))
 
 -- ---- which part, of all the parts
 
 -- "The header is always last"
-abbrev pub headerData : List (List ℕ) → ℕ
-headerData ps = dataStart ps (length ps - 1)
+abbrev pub header_data : List (List ℕ) → ℕ
+header_data ps = data_start ps (length ps - 1)
 
-abbrev pub headerOfParts : List (List ℕ) → Header
-headerOfParts ps = headerIn (final [] ps)
+abbrev pub header_of_parts : List (List ℕ) → Header
+header_of_parts ps = header_in (final [] ps)
 
 -- the first malformed of so many routes, by its index; where none is malformed, the one behind them
-abbrev pub firstMalformed : ℕ → List (List ℕ) → ℕ
-firstMalformed zero rs = 0
-firstMalformed (suc most) [] = 0
-firstMalformed (suc most) (r ∷ rs) = cond (isRoute r) (suc (firstMalformed most rs)) 0
+abbrev pub first_malformed : ℕ → List (List ℕ) → ℕ
+first_malformed zero rs = 0
+first_malformed (suc most) [] = 0
+first_malformed (suc most) (r ∷ rs) = cond (is_route r) (suc (first_malformed most rs)) 0
 
 -- "the first offending part .. (the 65th route if no earlier one is malformed)"
-unfoldable pub offendingRoute : List (List ℕ) → ℕ
-offendingRoute ps = firstMalformed mostRoutes (routesIn (headerOfParts ps) (front ps))
+unfoldable pub offending_route : List (List ℕ) → ℕ
+offending_route ps = first_malformed most_routes (routes_in (header_of_parts ps) (front ps))
 
 -- the part that holds the topic
-unfoldable pub topicIndex : List (List ℕ) → ℕ
-topicIndex ps = topicPlace (headerOfParts ps) (front ps)
+unfoldable pub topic_index : List (List ℕ) → ℕ
+topic_index ps = topic_place (header_of_parts ps) (front ps)
 
 -- which of the header's bytes a wrong field starts at: a request's nodeid, or an event's unused field
-unfoldable pub fieldByte : Header → ℕ
-fieldByte h = cond (eqb h.kind requestType) 12 16
+unfoldable pub field_byte : Header → ℕ
+field_byte h = cond (eqb h.kind request_type) 12 16
 
 -- ---- the byte
 
 -- the ticket's list, each number with its byte:
 -- "4 and 5 the part's size byte; 6 the last part's size byte, or 8 with no part; 7 the start of the header's data; 8 and 9 where the first offending
 -- part's data starts ..; 10 the field's start; 20 to 23 that header byte"
-abbrev pub faultBytes : List (List ℕ) → List (ℕ × ℕ)
-faultBytes ps =
-    (4, sizeByte ps)
-    ∷ (5, sizeByte ps)
-    ∷ (6, sizeByte (front ps))
-    ∷ (7, headerData ps)
-    ∷ (8, dataStart ps (offendingRoute ps))
-    ∷ (9, dataStart ps (topicIndex ps))
-    ∷ (10, headerData ps + fieldByte (headerOfParts ps))
-    ∷ (20, headerData ps)
-    ∷ (21, headerData ps + 1)
-    ∷ (22, headerData ps + 2)
-    ∷ (23, headerData ps + 3)
+abbrev pub fault_bytes : List (List ℕ) → List (ℕ × ℕ)
+fault_bytes ps =
+    (4, size_byte ps)
+    ∷ (5, size_byte ps)
+    ∷ (6, size_byte (front ps))
+    ∷ (7, header_data ps)
+    ∷ (8, data_start ps (offending_route ps))
+    ∷ (9, data_start ps (topic_index ps))
+    ∷ (10, header_data ps + field_byte (header_of_parts ps))
+    ∷ (20, header_data ps)
+    ∷ (21, header_data ps + 1)
+    ∷ (22, header_data ps + 2)
+    ∷ (23, header_data ps + 3)
     ∷ []
 
 -- the byte of a number in such a list; 0 for a number that is not there
-abbrev pub byteFor : ℕ → List (ℕ × ℕ) → ℕ
-byteFor n [] = 0
-byteFor n (row ∷ rows) = cond (eqb n row.0) row.1 (byteFor n rows)
+abbrev pub byte_for : ℕ → List (ℕ × ℕ) → ℕ
+byte_for n [] = 0
+byte_for n (row ∷ rows) = cond (eqb n row.0) row.1 (byte_for n rows)
 
 -- ---- the fault
 
 -- the number of the reader's refusal; 0 of a frame that it reads
-abbrev pub faultNumber : Answer Message → ℕ
-faultNumber (refused r) = number_of r
-faultNumber (answered m) = 0
+abbrev pub fault_number : Answer Message → ℕ
+fault_number (refused r) = number_of r
+fault_number (answered m) = 0
 
 -- number and byte
-unfoldable pub faultOf : List ℕ → Fault
-faultOf b =
-    let number = faultNumber (reading_of b) in
-    record { number = number; byte = byteFor number (faultBytes (wholeParts mostParts (bodyIn b))) }
+unfoldable pub fault_of : List ℕ → Fault
+fault_of b =
+    let number = fault_number (reading_of b) in
+    record { number = number; byte = byte_for number (fault_bytes (whole_parts most_parts (body_in b))) }

@@ -1,7 +1,6 @@
 // The parts that a body begins with and that have a route's size. They need not be routes: how many they are is all that the counting asks.
 ghost use Rattle.std.specs.Prelude.{◌≡◌, ◌≤◌, length};
-ghost use Rattle.bytes_number.specs.Lent.{was};
-ghost use Rattle.frame_parts.specs.WorkingCounting.{countingOf};
+ghost use Rattle.frame_parts.specs.WorkingCounting.{counting_of};
 ghost use Rattle.frame_fault.specs.WorkingAlike.{Alike};
 
 use frame_message::{MOST_PARTS, MOST_ROUTES, ROUTE_PART, ROUTE_SIZE};
@@ -12,7 +11,7 @@ const FOUR: usize = 4;
 
 // How many parts of a route's size stand in front of another part: at most 64, and four at a time.
 fn leading_fours(body: &[u8]) -> usize
-    ensures { Alike (was body) result }
+    ensures { Alike body.now result }
 {
     let mut n = 0;
     while n <= MOST_ROUTES - FOUR {
@@ -39,7 +38,7 @@ fn leading_fours(body: &[u8]) -> usize
 
 // The same, and those that follow them one at a time.
 pub(crate) fn leading_alike(body: &[u8]) -> usize
-    ensures { Alike (was body) result }
+    ensures { Alike body.now result }
 {
     let mut n = leading_fours(body);
     while n < MOST_ROUTES {
@@ -58,7 +57,7 @@ pub(crate) fn leading_alike(body: &[u8]) -> usize
 // The parts of a body, counted: behind the leading ones, and then these with them.
 pub(crate) fn count_alike(body: &[u8], alike: usize) -> Counting
     requires { (length body.now ≤ 32768) × Alike body.now alike }
-    ensures { result ≡ countingOf 68 (was body) }
+    ensures { result ≡ counting_of 68 body.now }
 {
     let at = ROUTE_PART * alike;
     match count_parts(&body[at..], MOST_PARTS - alike) {

@@ -1,8 +1,7 @@
 // The fault of a frame: the reader's number for it, and the byte at which it lies, counted from the frame's front. Its parts are counted, and most numbers
 // told by that alone; the reader is asked for the others.
 ghost use Rattle.std.specs.Prelude.{◌≡◌};
-ghost use Rattle.bytes_number.specs.Lent.{was};
-ghost use Rattle.frame_fault.specs.Fault.{faultOf};
+ghost use Rattle.frame_fault.specs.Fault.{fault_of};
 ghost use Rattle.frame_fault.specs.WorkingFaults.{BodyOf};
 
 use alike::{count_alike, leading_alike};
@@ -26,7 +25,7 @@ pub struct Fault {
 // What is wrong with a frame whose body is all there, and where.
 fn fault_in(bytes: &[u8], body: &[u8]) -> Fault
     requires { BodyOf bytes.now body.now }
-    ensures { result ≡ faultOf (was bytes) }
+    ensures { result ≡ fault_of bytes.now }
 {
     let alike = leading_alike(body);
     match count_alike(body, alike) {
@@ -46,7 +45,7 @@ fn fault_in(bytes: &[u8], body: &[u8]) -> Fault
 
 // What is wrong with the frame at the front of bytes, and where.
 pub fn find_fault(bytes: &[u8]) -> Fault
-    ensures { result ≡ faultOf (was bytes) }
+    ensures { result ≡ fault_of bytes.now }
 {
     let front = frame_read::find_body(bytes);
     let end = front.end;

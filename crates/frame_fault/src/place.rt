@@ -1,13 +1,12 @@
 // The byte of a fault, by its number and the parts of the body.
 ghost use Rattle.std.specs.Prelude.{◌≡◌, cond, ◌≤◌, ◌+◌, eqb, length, get_or};
-ghost use Rattle.bytes_number.specs.Lent.{was};
-ghost use Rattle.frame_message.specs.Header.{hasRoute};
-ghost use Rattle.frame_body.specs.WorkingJudging.{partsFound, CountsOf};
+ghost use Rattle.frame_message.specs.Header.{has_route};
+ghost use Rattle.frame_body.specs.WorkingJudging.{parts_found, CountsOf};
 ghost use Rattle.refusal.specs.Answer.{and_then};
 ghost use Rattle.frame_message.specs.Reading.{parts_in, judged};
-ghost use Rattle.frame_fault.specs.Fault.{wholeParts, faultBytes, byteFor, faultNumber};
+ghost use Rattle.frame_fault.specs.Fault.{whole_parts, fault_bytes, byte_for, fault_number};
 ghost use Rattle.frame_fault.specs.WorkingAlike.{Alike};
-ghost use Rattle.frame_fault.specs.WorkingFaults.{sizeLength, Why};
+ghost use Rattle.frame_fault.specs.WorkingFaults.{size_length, Why};
 
 use crate::route::first_malformed;
 use frame_message::{FRONT, REQUEST};
@@ -19,7 +18,7 @@ const LONG: u8 = 255;
 // Where the data starts of the part that begins at a place of the body, behind a size of one byte or five.
 fn data_at(body: &[u8], at: usize) -> usize
     requires { at ≤ 32768 }
-    ensures { result ≡ 8 + at + sizeLength (get_or (was body) at 0) }
+    ensures { result ≡ 8 + at + size_length (get_or body.now at 0) }
 {
     let size = FRONT + at;
     if bytes_number::byte_at(body, at) < LONG {
@@ -32,7 +31,7 @@ fn data_at(body: &[u8], at: usize) -> usize
 // Where the topic's part begins: behind the routes and their delimiter, or at the front where there are none.
 fn topic_at(flags: u8, group: usize) -> usize
     requires { group ≤ 32768 }
-    ensures { result ≡ cond (hasRoute flags) (group + 1) 0 }
+    ensures { result ≡ cond (has_route flags) (group + 1) 0 }
 {
     if frame_flags::has_route(flags) {
         group + 1
@@ -51,8 +50,8 @@ fn field_byte(kind: u8) -> usize
 // The byte of a body whose parts were counted. The header's data starts behind a size of one byte.
 fn byte_in_parts(body: &[u8], counts: PartCounts, alike: usize, number: u32) -> usize
     requires body_len_bound { (length body.now ≤ 32768) × CountsOf body.now counts }
-    requires alike { Alike body.now alike × Why (partsFound body.now) number }
-    ensures { result ≡ byteFor number (faultBytes (partsFound (was body))) }
+    requires alike { Alike body.now alike × Why (parts_found body.now) number }
+    ensures { result ≡ byte_for number (fault_bytes (parts_found body.now)) }
 {
     let last = counts.last;
     let group = counts.group;
@@ -74,8 +73,8 @@ fn byte_in_parts(body: &[u8], counts: PartCounts, alike: usize, number: u32) -> 
 // The byte of a body whose number this is; 0 for a good one.
 pub(crate) fn byte_counted(body: &[u8], counts: PartCounts, alike: usize, number: u32) -> usize
     requires body_len_bound { (length body.now ≤ 32768) × CountsOf body.now counts }
-    requires alike { Alike body.now alike × (number ≡ faultNumber (and_then (parts_in 68 body.now) judged)) }
-    ensures { result ≡ byteFor number (faultBytes (wholeParts 68 (was body))) }
+    requires alike { Alike body.now alike × (number ≡ fault_number (and_then (parts_in 68 body.now) judged)) }
+    ensures { result ≡ byte_for number (fault_bytes (whole_parts 68 body.now)) }
 {
     if number == 0 {
         0

@@ -1,10 +1,9 @@
 // The route that is refused: the first malformed of the first 64, or the one behind them.
 ghost use Rattle.std.specs.Prelude.{◌≡◌, [], ◌≤◌, length, get_or, take, drop};
-ghost use Rattle.bytes_number.specs.Lent.{was};
-ghost use Rattle.frame_forms.specs.Forms.{isRoute};
+ghost use Rattle.frame_forms.specs.Forms.{is_route};
 ghost use Rattle.frame_message.specs.Frame.{joined};
-ghost use Rattle.frame_body.specs.WorkingJudging.{partsFound, Found};
-ghost use Rattle.frame_fault.specs.Fault.{firstMalformed};
+ghost use Rattle.frame_body.specs.WorkingJudging.{parts_found, Found};
+ghost use Rattle.frame_fault.specs.Fault.{first_malformed};
 ghost use Rattle.frame_fault.specs.WorkingAlike.{Alike};
 
 use frame_message::{MOST_ROUTES, ROUTE_PART, ROUTE_SIZE};
@@ -12,7 +11,7 @@ use frame_message::{MOST_ROUTES, ROUTE_PART, ROUTE_SIZE};
 // Whether a part begins there that is a route.
 fn is_route_at(body: &[u8], at: usize) -> bool
     requires { (at ≤ length body.now) × Found (drop at body.now) }
-    ensures { result ≡ isRoute (get_or (partsFound (drop at (was body))) 0 []) }
+    ensures { result ≡ is_route (get_or (parts_found (drop at body.now)) 0 []) }
 {
     if body.len() - at < ROUTE_PART {
         return false;
@@ -27,7 +26,7 @@ fn is_route_at(body: &[u8], at: usize) -> bool
 pub(crate) fn first_malformed(body: &[u8], alike: usize) -> usize
     requires found { Found body.now × (length body.now ≤ 32768) }
     requires alike { Alike body.now alike }
-    ensures { result ≡ length (joined (take (firstMalformed 64 (partsFound (was body))) (partsFound (was body)))) }
+    ensures { result ≡ length (joined (take (first_malformed 64 (parts_found body.now)) (parts_found body.now))) }
 {
     let known = ROUTE_PART * alike;
     let mut place = 0;

@@ -1,7 +1,7 @@
 -- The counting that the code does in place of looking at each byte: no promise of a public call speaks of it, and no reader has to believe it.
 use Rattle.std.specs.Prelude.{ℕ, ◌+◌, Bool, List, [], ◌∷◌, eqb, take, drop}
 use Rattle.frame_forms.specs.Count.{one}
-use Rattle.frame_forms.specs.Forms.{isHex}
+use Rattle.frame_forms.specs.Forms.{is_hex}
 
 abbrev pub is_zero : ℕ → Bool
 is_zero x = eqb x 0
@@ -12,5 +12,5 @@ count test [] = 0
 count test (x ∷ xs) = one (test x) + count test xs
 
 -- how many of the n bytes behind the first so many are hex digits
-abbrev pub hexIn : ℕ → ℕ → List ℕ → ℕ
-hexIn at n xs = count isHex (take n (drop at xs))
+abbrev pub hex_in : ℕ → ℕ → List ℕ → ℕ
+hex_in at n xs = count is_hex (take n (drop at xs))

@@ -1,10 +1,9 @@
 // The forms of a route and of a topic. Bytes are counted rather than searched, so that the compiler can
 // look at several at a time.
 ghost use Rattle.std.specs.Prelude.{◌≡◌, ◌&&◌, ◌≤◌, ◌+◌, leb, length};
-ghost use Rattle.bytes_number.specs.Lent.{was};
 ghost use Rattle.frame_forms.specs.Count.{one};
-ghost use Rattle.frame_forms.specs.Working.{count, hexIn, is_zero};
-ghost use Rattle.frame_forms.specs.Forms.{isHex, isRoute, isTopic};
+ghost use Rattle.frame_forms.specs.Working.{count, hex_in, is_zero};
+ghost use Rattle.frame_forms.specs.Forms.{is_hex, is_route, is_topic};
 
 // Bytes of a route, its zero byte with them.
 pub const ROUTE: usize = 37;
@@ -22,7 +21,7 @@ fn between(x: u8, low: u8, high: u8) -> u8
 
 // 1 for a lower-case hex digit.
 fn hex(x: u8) -> u8
-    ensures { (result ≡ one (isHex x)) × (result ≤ 1) }
+    ensures { (result ≡ one (is_hex x)) × (result ≤ 1) }
 {
     between(x, 48, 57) + between(x, 97, 102)
 }
@@ -31,7 +30,7 @@ fn hex(x: u8) -> u8
 // front of the zero byte. It has 12 bytes of the second once more.
 fn hex_digits(s: &[u8]) -> u8
     requires { length s.now ≡ 37 }
-    ensures { result ≡ hexIn 0 16 (was s) + hexIn 16 16 (was s) + hexIn 20 16 (was s) }
+    ensures { result ≡ hex_in 0 16 s.now + hex_in 16 16 s.now + hex_in 20 16 s.now }
 {
     let mut n: u8 = 0;
     let mut i = 0;
@@ -52,7 +51,7 @@ fn nul(x: u8) -> u8
 // How many of so few bytes are zero.
 fn zeros(s: &[u8]) -> u8
     requires { length s.now ≤ 255 }
-    ensures { result ≡ count is_zero (was s) }
+    ensures { result ≡ count is_zero s.now }
 {
     let mut n: u8 = 0;
     let mut i = 0;
@@ -66,7 +65,7 @@ fn zeros(s: &[u8]) -> u8
 // Whether s is a route with its zero byte. With the hyphens and the zero byte in place there are hex digits at all the other places
 // exactly if 32 are counted, and 11 of them a second time.
 pub fn is_route(s: &[u8]) -> bool
-    ensures { result ≡ isRoute (was s) }
+    ensures { result ≡ is_route s.now }
 {
     if s.len() != ROUTE {
         return false;
@@ -91,7 +90,7 @@ pub fn is_route(s: &[u8]) -> bool
 
 // Whether s is a topic, without its zero byte.
 pub fn is_topic(s: &[u8]) -> bool
-    ensures { result ≡ isTopic (was s) }
+    ensures { result ≡ is_topic s.now }
 {
     if s.len() == 0 {
         return false;

@@ -7,11 +7,11 @@ use Rattle.frame_header.specs.declared.Test.{Test}
 use Rattle.frame_header.specs.declared.Test.TheVariants as tests
 
 -- whether it is a header that is right, or why it is wrong
-abbrev pub testAs : Answer Header → Test
-testAs (refused r) = tests.Wrong r
-testAs (answered h) = tests.Right
+abbrev pub test_as : Answer Header → Test
+test_as (refused r) = tests.Wrong r
+test_as (answered h) = tests.Right
 
 -- the fields of a header that is right, or why it is wrong
-abbrev pub headAs : Answer Header → Head
-headAs (refused r) = Wrong r
-headAs (answered h) = Fields h
+abbrev pub head_as : Answer Header → Head
+head_as (refused r) = Wrong r
+head_as (answered h) = Fields h

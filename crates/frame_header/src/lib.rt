@@ -1,11 +1,10 @@
 // The header, which is a body's last part: read, and written.
 ghost use Rattle.std.specs.Prelude.{◌≡◌, ◌≤◌, length};
-ghost use Rattle.bytes_number.specs.Lent.{was};
-ghost use Rattle.bytes_number.specs.WorkingLays.{laidIfRoom, laidCount};
-ghost use Rattle.frame_message.specs.Header.{headerBytes, headerIn};
-ghost use Rattle.frame_message.specs.Frame.{partBytes};
-ghost use Rattle.frame_message.specs.Reading.{headerOrWhy};
-ghost use Rattle.frame_header.specs.WorkingHead.{testAs, headAs};
+ghost use Rattle.bytes_number.specs.WorkingLays.{laid_if_room, laid_count};
+ghost use Rattle.frame_message.specs.Header.{header_bytes, header_in};
+ghost use Rattle.frame_message.specs.Frame.{part_bytes};
+ghost use Rattle.frame_message.specs.Reading.{header_or_why};
+ghost use Rattle.frame_header.specs.WorkingHead.{test_as, head_as};
 
 use frame_message::Header;
 use refusal::Refusal;
@@ -26,7 +25,7 @@ pub enum Head {
 // The fields in the 20 bytes of a header.
 fn fields(p: &[u8]) -> Header
     requires { 20 ≤ length p.now }
-    ensures { result ≡ headerIn (was p) }
+    ensures { result ≡ header_in p.now }
 {
     Header {
         kind: p[2],
@@ -40,7 +39,7 @@ fn fields(p: &[u8]) -> Header
 
 // Whether a header is right, or why it is wrong: 6, 20, 21, 22, then 23.
 pub fn test_header(p: &[u8]) -> Test
-    ensures { result ≡ testAs (headerOrWhy (was p)) }
+    ensures { result ≡ test_as (header_or_why p.now) }
 {
     if p.len() != frame_message::HEADER {
         return Test::Wrong(Refusal::HeaderWrong);
@@ -62,7 +61,7 @@ pub fn test_header(p: &[u8]) -> Test
 
 // The fields of a header that is right, or why it is wrong.
 pub fn read_header(p: &[u8]) -> Head
-    ensures { result ≡ headAs (headerOrWhy (was p)) }
+    ensures { result ≡ head_as (header_or_why p.now) }
 {
     match test_header(p) {
         Test::Wrong(why) => Head::Wrong(why),
@@ -73,8 +72,8 @@ pub fn read_header(p: &[u8]) -> Head
 // Writes a header's part to the front of out, if there is room for it, and tells how many bytes it has, or 0. The header lies in no slice: its
 // twenty bytes, of which the last sixteen are four numbers, stand in an array first.
 pub fn write_header(out: &mut [u8], header: Header) -> usize
-    ensures value { result ≡ laidCount (partBytes (headerBytes header)) (was out) }
-    ensures out_after { out.new ≡ laidIfRoom (partBytes (headerBytes header)) (was out) }
+    ensures value { result ≡ laid_count (part_bytes (header_bytes header)) out.old }
+    ensures out_after { out.new ≡ laid_if_room (part_bytes (header_bytes header)) out.old }
 {
     let mut held = [0u8; frame_message::HEADER];
     held[0] = frame_message::MAGIC;

@@ -1,6 +1,6 @@
 // What a header's type asks of its flags and of its other fields.
 ghost use Rattle.std.specs.Prelude.{◌≡◌};
-ghost use Rattle.frame_message.specs.Header.{is_type, areFlags, partsFit, fieldsGood};
+ghost use Rattle.frame_message.specs.Header.{is_type, are_flags, parts_fit, fields_good};
 
 use frame_message::{CONTROL, EVENT, Header, REQUEST, RESPONSE};
 
@@ -28,14 +28,14 @@ pub fn is_type(kind: u8) -> bool
 
 // 23: whether flag 80 is clear.
 pub fn are_flags(flags: u8) -> bool
-    ensures { result ≡ areFlags flags }
+    ensures { result ≡ are_flags flags }
 {
     flags < FLAG_80
 }
 
 // Whether the flags ask for the parts that the type has.
 pub fn parts_fit(h: Header) -> bool
-    ensures { result ≡ partsFit h }
+    ensures { result ≡ parts_fit h }
 {
     let route = frame_flags::has_route(h.flags);
     let topic = frame_flags::has_topic(h.flags);
@@ -59,7 +59,7 @@ pub fn parts_fit(h: Header) -> bool
 
 // Whether the fields that a type binds hold what they must: a request's nodeid, an event's unused field.
 pub fn fields_good(h: Header) -> bool
-    ensures { result ≡ fieldsGood h }
+    ensures { result ≡ fields_good h }
 {
     if h.kind == REQUEST {
         return h.first != NO_NODE;

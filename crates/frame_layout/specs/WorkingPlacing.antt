@@ -3,8 +3,8 @@
 use Rattle.std.specs.Prelude.{ℕ, ◌+◌, ◌-◌, Bool, true, cond, ◌&&◌, eqb, leb}
 use Rattle.frame_forms.specs.Count.{one}
 use Rattle.frame_message.specs.declared.Header.{Header}
-use Rattle.frame_message.specs.Header.{hasTopic, hasPayload}
-use Rattle.frame_message.specs.Frame.{mostBody}
+use Rattle.frame_message.specs.Header.{has_topic, has_payload}
+use Rattle.frame_message.specs.Frame.{most_body}
 use Rattle.frame_layout.specs.declared.Layout.{Layout}
 use Rattle.frame_layout.specs.declared.Piece.{Piece}
 use Rattle.refusal.specs.Answer.{Answer, refused, answered}
@@ -14,25 +14,25 @@ use Rattle.frame_layout.specs.declared.Reading.TheVariants.{Refused, Accepted}
 use Rattle.frame_layout.specs.Layout.{layout_of}
 
 -- behind the frame's eight bytes and the first route's size
-abbrev pub firstRoute : ℕ → ℕ
-firstRoute routes = cond (eqb routes 0) 0 9
+abbrev pub first_route : ℕ → ℕ
+first_route routes = cond (eqb routes 0) 0 9
 
 -- a place of the body, behind the frame's eight bytes
-abbrev pub placeIf : Bool → ℕ → ℕ
-placeIf flag at = cond (flag && leb at mostBody) (8 + at) 0
+abbrev pub place_if : Bool → ℕ → ℕ
+place_if flag at = cond (flag && leb at most_body) (8 + at) 0
 
-abbrev pub placedIn : ℕ → Header → ℕ → Piece → Piece → Layout
-placedIn size h routes topic payload =
+abbrev pub placed_in : ℕ → Header → ℕ → Piece → Piece → Layout
+placed_in size h routes topic payload =
     record {
-      taken = placeIf true size;
+      taken = place_if true size;
       header = h;
       routes = routes;
-      route = firstRoute routes;
-      topic = record { start = placeIf (hasTopic h.flags) topic.at; len = topic.len - one (hasTopic h.flags) };
-      payload = record { start = placeIf (hasPayload h.flags) payload.at; len = payload.len };
+      route = first_route routes;
+      topic = record { start = place_if (has_topic h.flags) topic.at; len = topic.len - one (has_topic h.flags) };
+      payload = record { start = place_if (has_payload h.flags) payload.at; len = payload.len };
     }
 
 -- the refusal, or where the message lies
-abbrev pub readAs : Answer Message → Reading
-readAs (refused r) = Refused r
-readAs (answered m) = Accepted (layout_of m)
+abbrev pub read_as : Answer Message → Reading
+read_as (refused r) = Refused r
+read_as (answered m) = Accepted (layout_of m)

@@ -1,7 +1,7 @@
 // Where the parts of a message lie, counted from the frame's front, by where they lie in its body. Any numbers may be given.
 ghost use Rattle.std.specs.Prelude.{◌≡◌, ◌-◌};
 ghost use Rattle.frame_forms.specs.Count.{one};
-ghost use Rattle.frame_layout.specs.WorkingPlacing.{firstRoute, placeIf, placedIn};
+ghost use Rattle.frame_layout.specs.WorkingPlacing.{first_route, place_if, placed_in};
 
 use frame_message::{FRONT, Header};
 use refusal::Refusal;
@@ -45,7 +45,7 @@ const FIRST_ROUTE: usize = 9;
 
 // Where the first route's data starts.
 fn first_route(routes: usize) -> usize
-    ensures { result ≡ firstRoute routes }
+    ensures { result ≡ first_route routes }
 {
     if routes == 0 { 0 } else { FIRST_ROUTE }
 }
@@ -53,7 +53,7 @@ fn first_route(routes: usize) -> usize
 // A place of the body counted from the frame's front, if its flag is set: the body lies behind the first eight bytes. No body is so long that it has a
 // place behind 32,768.
 fn place_if(flag: bool, at: usize) -> usize
-    ensures { result ≡ placeIf flag at }
+    ensures { result ≡ place_if flag at }
 {
     if flag {
         if at <= frame_message::MOST_BODY {
@@ -77,7 +77,7 @@ fn shown_of(flag: bool, len: usize) -> usize
 
 // The reader's answer: the places of a message with this header and so many routes, by the pieces of a body of so many bytes.
 pub fn placed(size: usize, h: Header, routes: usize, topic: Piece, payload: Piece) -> Layout
-    ensures { result ≡ placedIn size h routes topic payload }
+    ensures { result ≡ placed_in size h routes topic payload }
 {
     let has_topic = frame_flags::has_topic(h.flags);
     let shown = shown_of(has_topic, topic.len);

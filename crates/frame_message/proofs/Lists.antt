@@ -7,7 +7,7 @@ use native.Mathlib.Nat.{le_of_suc-le-suc}
 use lib.ListN.{length, get_or, take, drop, length-append}
 use lib.Seq.{take_at, get_or_at, take-suc, take-length}
 use Rattle.bytes_number.specs.Number.{Bytes}
-use Rattle.frame_message.specs.Reading.{front, final, beforeEmpty}
+use Rattle.frame_message.specs.Reading.{front, final, before_empty}
 
 -- ---- what holds of each element
 
@@ -34,22 +34,22 @@ bytes_back [] ys h = h
 bytes_back (x ∷ xs) ys h = bytes_back xs ys h.1
 
 -- a place past the end has no bytes
-pub bytes-part : (ps : List (List ℕ)) (i : ℕ) → Each Bytes ps → Bytes (get_or ps i [])
-bytes-part [] i h = tt
-bytes-part (p ∷ ps) zero h = h.0
-bytes-part (p ∷ ps) (suc i) h = bytes-part ps i h.1
+pub bytes_part : (ps : List (List ℕ)) (i : ℕ) → Each Bytes ps → Bytes (get_or ps i [])
+bytes_part [] i h = tt
+bytes_part (p ∷ ps) zero h = h.0
+bytes_part (p ∷ ps) (suc i) h = bytes_part ps i h.1
 
 -- ---- all but the last, and the last
 
 module _ {A : Type 0} where
-  length-snoc : (xs : List A) (x : A) → length (xs ++ (x ∷ [])) - 1 ≡ length xs
-  length-snoc xs x = simp length-append (omega arith)
+  length_snoc : (xs : List A) (x : A) → length (xs ++ (x ∷ [])) - 1 ≡ length xs
+  length_snoc xs x = simp length-append (omega arith)
 
-  pub front-snoc : (xs : List A) (x : A) → front (xs ++ (x ∷ [])) ≡ xs
-  front-snoc xs x = take_at xs (x ∷ []) _ (sym (length-snoc xs x))
+  pub front_snoc : (xs : List A) (x : A) → front (xs ++ (x ∷ [])) ≡ xs
+  front_snoc xs x = take_at xs (x ∷ []) _ (sym (length_snoc xs x))
 
-  pub final-snoc : (d : A) (xs : List A) (x : A) → final d (xs ++ (x ∷ [])) ≡ x
-  final-snoc d xs x = get_or_at xs x [] d _ (sym (length-snoc xs x))
+  pub final_snoc : (d : A) (xs : List A) (x : A) → final d (xs ++ (x ∷ [])) ≡ x
+  final_snoc d xs x = get_or_at xs x [] d _ (sym (length_snoc xs x))
 
   -- a list that is not empty
   pub front-final : (d : A) (xs : List A) → 0 < length xs → front xs ++ (final d xs ∷ []) ≡ xs
@@ -59,13 +59,13 @@ module _ {A : Type 0} where
 
 -- ---- the parts in front of the first empty one
 
-pub before-empty : (rs qs : List (List ℕ)) → Each (λ r. 0 < length r) rs → beforeEmpty (rs ++ [] ∷ qs) ≡ rs
-before-empty [] qs h = refl
-before-empty ([] ∷ rs) qs h = absurd (omega (arith, h.0))
-before-empty ((x ∷ r) ∷ rs) qs h = ap (λ (t : List (List ℕ)). (x ∷ r) ∷ t) (before-empty rs qs h.1)
+pub before_empty_lem : (rs qs : List (List ℕ)) → Each (λ r. 0 < length r) rs → before_empty (rs ++ [] ∷ qs) ≡ rs
+before_empty_lem [] qs h = refl
+before_empty_lem ([] ∷ rs) qs h = absurd (omega (arith, h.0))
+before_empty_lem ((x ∷ r) ∷ rs) qs h = ap (λ (t : List (List ℕ)). (x ∷ r) ∷ t) (before_empty_lem rs qs h.1)
 
 -- where they are not all, an empty part comes behind them
-pub before_split : (ps : List (List ℕ)) → length (beforeEmpty ps) < length ps → beforeEmpty ps ++ [] ∷ drop (suc (length (beforeEmpty ps))) ps ≡ ps
+pub before_split : (ps : List (List ℕ)) → length (before_empty ps) < length ps → before_empty ps ++ [] ∷ drop (suc (length (before_empty ps))) ps ≡ ps
 before_split [] h = absurd (omega arith)
 before_split ([] ∷ ps) h = refl
 before_split ((x ∷ r) ∷ ps) h = ap (λ (t : List (List ℕ)). (x ∷ r) ∷ t) (before_split ps (omega arith))

@@ -11,11 +11,11 @@ use lib.Seq.{length-take-le, take-append_seam, drop-append_seam}
 use Rattle.bytes_number.specs.Number.{number, four, Bytes}
 use Rattle.bytes_number.proofs.Numbers.{number_lt, number-four, four-number}
 use Rattle.refusal.specs.declared.Refusal.TheVariants.{PartWrong}
-use Rattle.refusal.specs.Answer.{answered, refuseIf}
-use Rattle.frame_message.specs.Frame.{sizeBytes, partBytes, joined}
-use Rattle.frame_message.specs.Reading.{cutPart, firstPart, parts_in}
-use Rattle.bytes_number.proofs.Truth.{or_left, or_right, or-neither}
-use Rattle.refusal.proofs.Answers.{passed, pass, both, answered-same, not-answered}
+use Rattle.refusal.specs.Answer.{answered, refuse_if}
+use Rattle.frame_message.specs.Frame.{size_bytes, part_bytes, joined}
+use Rattle.frame_message.specs.Reading.{cut_part, first_part, parts_in}
+use Rattle.bytes_number.proofs.Truth.{or_left, or_right, or_neither}
+use Rattle.refusal.proofs.Answers.{passed, pass, both, answered_same, not_answered}
 use Rattle.frame_message.proofs.Lists.{Each, bytes-front, bytes_back}
 
 -- a part whose length has a size of four bytes: a longer one could not be written
@@ -24,7 +24,7 @@ Sized p = length p < 4294967296
 
 pub joined-append : (ps qs : List (List ℕ)) → joined (ps ++ qs) ≡ joined ps ++ joined qs
 joined-append [] qs = refl
-joined-append (p ∷ ps) qs = rw (joined-append ps qs) (sym (append_assoc (partBytes p) (joined ps) (joined qs)))
+joined-append (p ∷ ps) qs = rw (joined-append ps qs) (sym (append_assoc (part_bytes p) (joined ps) (joined qs)))
 
 -- ---- a part and what is left behind it
 
@@ -33,10 +33,10 @@ pub record Cut (n : ℕ) (xs : List ℕ) (cut : List ℕ × List ℕ) : Type 0 w
   pub same : xs ≡ cut.0 ++ cut.1
   pub long : length cut.0 ≡ n
 
-cut-part : (n : ℕ) (xs : List ℕ) (cut : List ℕ × List ℕ) → cutPart n xs ≡ answered cut → Cut n xs cut
-cut-part n xs cut e =
+cut_part_lem : (n : ℕ) (xs : List ℕ) (cut : List ℕ × List ℕ) → cut_part n xs ≡ answered cut → Cut n xs cut
+cut_part_lem n xs cut e =
     let p = passed _ _ _ _ e in
-    let parts = answered-same p.rest in
+    let parts = answered_same p.rest in
     record {
       same = rw (← parts) (sym (take-append-drop n xs));
       long = rw (← parts) (length-take-le n xs (ltb-false _ _ p.test));
@@ -44,45 +44,45 @@ cut-part n xs cut e =
 
 -- bytes that begin with a part
 pub record First (b : List ℕ) (cut : List ℕ × List ℕ) : Type 0 where
-  pub same : b ≡ partBytes cut.0 ++ cut.1
+  pub same : b ≡ part_bytes cut.0 ++ cut.1
   pub sized : Sized cut.0
 
 -- a part's bytes, by its length
-pub part-short : (p : List ℕ) → length p < 255 → partBytes p ≡ length p ∷ p
-part-short p h = rw (lt-ltb (length p) 255 h)
+pub part_short : (p : List ℕ) → length p < 255 → part_bytes p ≡ length p ∷ p
+part_short p h = rw (lt-ltb (length p) 255 h)
 
-pub part-long : (p : List ℕ) → 255 ≤ length p → partBytes p ≡ 255 ∷ (four (length p) ++ p)
-part-long p h = rw (le-ltb (length p) 255 h)
+pub part_long : (p : List ℕ) → 255 ≤ length p → part_bytes p ≡ 255 ∷ (four (length p) ++ p)
+part_long p h = rw (le-ltb (length p) 255 h)
 
 first_short : (size : ℕ) (xs : List ℕ) (cut : List ℕ × List ℕ) → size < 255 → Cut size xs cut → First (size ∷ xs) cut
 first_short size xs cut h c =
     record {
-      same = rw (part-short cut.0 (omega (arith, c.long)), c.long) (ap (λ (t : List ℕ). size ∷ t) c.same);
+      same = rw (part_short cut.0 (omega (arith, c.long)), c.long) (ap (λ (t : List ℕ). size ∷ t) c.same);
       sized = omega (arith, c.long);
     }
 
-first-long : (xs : List ℕ) (cut : List ℕ × List ℕ) → Bytes xs → 4 ≤ length xs → 255 ≤ number xs → Cut (number xs) (drop 4 xs) cut → First (255 ∷ xs) cut
-first-long xs cut b l h c =
+first_long : (xs : List ℕ) (cut : List ℕ × List ℕ) → Bytes xs → 4 ≤ length xs → 255 ≤ number xs → Cut (number xs) (drop 4 xs) cut → First (255 ∷ xs) cut
+first_long xs cut b l h c =
     let size : take 4 xs ≡ four (length cut.0) = sym (four-number xs l b) ∙ ap four (sym c.long) in
     let cuts : xs ≡ four (length cut.0) ++ (cut.0 ++ cut.1) = sym (take-append-drop 4 xs) ∙ ap₂ (λ (s t : List ℕ). s ++ t) size c.same in
     record {
-      same = rw (part-long cut.0 (omega (arith, c.long))) (ap (λ (t : List ℕ). 255 ∷ t) (cuts ∙ sym (append_assoc (four (length cut.0)) cut.0 cut.1)));
+      same = rw (part_long cut.0 (omega (arith, c.long))) (ap (λ (t : List ℕ). 255 ∷ t) (cuts ∙ sym (append_assoc (four (length cut.0)) cut.0 cut.1)));
       sized = omega (arith, c.long, number_lt xs b);
     }
 
-pub first-split : (size : ℕ) (xs : List ℕ) (cut : List ℕ × List ℕ) → Bytes (size ∷ xs) → firstPart size xs ≡ answered cut → First (size ∷ xs) cut
-unfolding firstPart
-first-split size xs cut b e = go (ltb size 255) refl e
+pub first_split : (size : ℕ) (xs : List ℕ) (cut : List ℕ × List ℕ) → Bytes (size ∷ xs) → first_part size xs ≡ answered cut → First (size ∷ xs) cut
+unfolding first_part
+first_split size xs cut b e = go (ltb size 255) refl e
   where
     go : (t : Bool) → ltb size 255 ≡ t →
-        cond t (cutPart size xs) (refuseIf (ltb (length xs) 4 || ltb (number xs) 255) PartWrong (cutPart (number xs) (drop 4 xs))) ≡ answered cut →
+        cond t (cut_part size xs) (refuse_if (ltb (length xs) 4 || ltb (number xs) 255) PartWrong (cut_part (number xs) (drop 4 xs))) ≡ answered cut →
         First (size ∷ xs) cut
-    go true t e = first_short size xs cut (ltb-true _ _ t) (cut-part size xs cut e)
+    go true t e = first_short size xs cut (ltb-true _ _ t) (cut_part_lem size xs cut e)
     go false t e =
         let full : 255 ≡ size = omega (arith, ltb-false size 255 t, b.0) in
         let p = passed _ _ _ _ e in
         subst (λ (n : ℕ). First (n ∷ xs) cut) full
-        (first-long xs cut b.1 (ltb-false _ _ (or_left _ _ p.test)) (ltb-false _ _ (or_right (ltb (length xs) 4) _ p.test)) (cut-part (number xs) (drop 4 xs) cut p.rest))
+        (first_long xs cut b.1 (ltb-false _ _ (or_left _ _ p.test)) (ltb-false _ _ (or_right (ltb (length xs) 4) _ p.test)) (cut_part_lem (number xs) (drop 4 xs) cut p.rest))
 
 -- ---- the parts
 
@@ -93,65 +93,65 @@ pub record Split (most : ℕ) (b : List ℕ) (ps : List (List ℕ)) : Type 0 whe
   pub sized : Each Sized ps
   pub bytes : Each Bytes ps
 
-split-none : (most : ℕ) (ps : List (List ℕ)) → answered [] ≡ answered ps → Split most [] ps
-split-none most ps e = rw (← answered-same e) (record { same = refl; few = omega arith; sized = tt; bytes = tt })
+split_none : (most : ℕ) (ps : List (List ℕ)) → answered [] ≡ answered ps → Split most [] ps
+split_none most ps e = rw (← answered_same e) (record { same = refl; few = omega arith; sized = tt; bytes = tt })
 
-split-more : (most : ℕ) (b : List ℕ) (cut : List ℕ × List ℕ) (ps : List (List ℕ)) → Bytes b → First b cut → (Bytes cut.1 → Split most cut.1 ps) →
+split_more : (most : ℕ) (b : List ℕ) (cut : List ℕ × List ℕ) (ps : List (List ℕ)) → Bytes b → First b cut → (Bytes cut.1 → Split most cut.1 ps) →
     Split (suc most) b (cut.0 ∷ ps)
-split-more most b cut ps h first more =
-    let bytes : Bytes (partBytes cut.0 ++ cut.1) = rw first.same at h in
-    let rest = more (bytes_back (partBytes cut.0) cut.1 bytes) in
+split_more most b cut ps h first more =
+    let bytes : Bytes (part_bytes cut.0 ++ cut.1) = rw first.same at h in
+    let rest = more (bytes_back (part_bytes cut.0) cut.1 bytes) in
     record {
-      same = first.same ∙ ap (λ (t : List ℕ). partBytes cut.0 ++ t) rest.same;
+      same = first.same ∙ ap (λ (t : List ℕ). part_bytes cut.0 ++ t) rest.same;
       few = omega (arith, rest.few);
       sized = (first.sized, rest.sized);
-      bytes = (bytes_back (sizeBytes (length cut.0)) cut.0 (bytes-front (partBytes cut.0) cut.1 bytes), rest.bytes);
+      bytes = (bytes_back (size_bytes (length cut.0)) cut.0 (bytes-front (part_bytes cut.0) cut.1 bytes), rest.bytes);
     }
 
 -- the parts in bytes, put together again, are those bytes
 pub split : (most : ℕ) (b : List ℕ) (ps : List (List ℕ)) → Bytes b → parts_in most b ≡ answered ps → Split most b ps
 unfolding parts_in
-split zero [] ps h e = split-none zero ps e
-split zero (x ∷ xs) ps h e = absurd (not-answered e)
-split (suc most) [] ps h e = split-none (suc most) ps e
+split zero [] ps h e = split_none zero ps e
+split zero (x ∷ xs) ps h e = absurd (not_answered e)
+split (suc most) [] ps h e = split_none (suc most) ps e
 split (suc most) (x ∷ xs) ps h e =
-    let one = both (firstPart x xs) _ ps e in
+    let one = both (first_part x xs) _ ps e in
     let more = both (parts_in most one.value.1) _ ps one.second in
-    rw (← answered-same more.second)
-    (split-more most (x ∷ xs) one.value more.value h (first-split x xs one.value h one.first) (λ left. split most one.value.1 more.value left more.first))
+    rw (← answered_same more.second)
+    (split_more most (x ∷ xs) one.value more.value h (first_split x xs one.value h one.first) (λ left. split most one.value.1 more.value left more.first))
 
 -- ---- the other way
 
-cut-join : (p rest : List ℕ) → cutPart (length p) (p ++ rest) ≡ answered (p, rest)
-cut-join p rest =
+cut_join : (p rest : List ℕ) → cut_part (length p) (p ++ rest) ≡ answered (p, rest)
+cut_join p rest =
     pass _ _ _ (le-ltb (length (p ++ rest)) (length p) (simp length-append (omega arith))) ∙ rw (take-append_seam p rest, drop-append_seam p rest)
 
-long-join : (n : ℕ) (xs : List ℕ) (cut : List ℕ × List ℕ) → 4 ≤ length xs → number xs ≡ n → 255 ≤ n → cutPart n (drop 4 xs) ≡ answered cut →
-    firstPart 255 xs ≡ answered cut
-unfolding firstPart
-long-join n xs cut l e h k =
-    pass _ _ _ (or-neither _ _ (le-ltb (length xs) 4 l) (le-ltb (number xs) 255 (omega arith))) ∙ subst (λ (m : ℕ). cutPart m (drop 4 xs) ≡ answered cut) (sym e) k
+long_join : (n : ℕ) (xs : List ℕ) (cut : List ℕ × List ℕ) → 4 ≤ length xs → number xs ≡ n → 255 ≤ n → cut_part n (drop 4 xs) ≡ answered cut →
+    first_part 255 xs ≡ answered cut
+unfolding first_part
+long_join n xs cut l e h k =
+    pass _ _ _ (or_neither _ _ (le-ltb (length xs) 4 l) (le-ltb (number xs) 255 (omega arith))) ∙ subst (λ (m : ℕ). cut_part m (drop 4 xs) ≡ answered cut) (sym e) k
 
 -- a part begins with a byte of its size, and is read by it
 pub record Begun (p rest : List ℕ) : Type 0 where
   pub size : ℕ
   pub left : List ℕ
-  pub same : partBytes p ++ rest ≡ size ∷ left
-  pub read : firstPart size left ≡ answered (p, rest)
+  pub same : part_bytes p ++ rest ≡ size ∷ left
+  pub read : first_part size left ≡ answered (p, rest)
 
-pub first-join : (p rest : List ℕ) → Sized p → Begun p rest
-unfolding firstPart
-first-join p rest h = go (ltb (length p) 255) refl
+pub first_join : (p rest : List ℕ) → Sized p → Begun p rest
+unfolding first_part
+first_join p rest h = go (ltb (length p) 255) refl
   where
     go : (t : Bool) → ltb (length p) 255 ≡ t → Begun p rest
-    go true t = record { size = length p; left = p ++ rest; same = rw t; read = rw t (cut-join p rest) }
+    go true t = record { size = length p; left = p ++ rest; same = rw t; read = rw t (cut_join p rest) }
     go false t =
         let left = four (length p) ++ (p ++ rest) in
         record {
           size = 255;
           left = left;
           same = rw t (ap (λ (s : List ℕ). 255 ∷ s) (append_assoc (four (length p)) p rest));
-          read = long-join (length p) left (p, rest) (omega arith) (number-four (length p) (p ++ rest) h) (ltb-false _ _ t) (cut-join p rest);
+          read = long_join (length p) left (p, rest) (omega arith) (number-four (length p) (p ++ rest) h) (ltb-false _ _ t) (cut_join p rest);
         }
 
 -- parts put together are taken apart again
@@ -161,13 +161,13 @@ join zero [] l h = refl
 join zero (p ∷ ps) l h = absurd (omega arith)
 join (suc most) [] l h = refl
 join (suc most) (p ∷ ps) l h =
-    let first = first-join p (joined ps) h.0 in
+    let first = first_join p (joined ps) h.0 in
     rw (first.same, first.read, join most ps (omega arith) h.1)
 
 -- the parts of a body are no longer than it
-pub joined-sized : (ps : List (List ℕ)) → length (joined ps) < 4294967296 → Each Sized ps
-joined-sized [] h = tt
-joined-sized (p ∷ ps) h =
-    let part = length-append (sizeBytes (length p)) p in
-    let whole = length-append (partBytes p) (joined ps) in
-    (omega (arith, part, whole), joined-sized ps (omega (arith, part, whole)))
+pub joined_sized : (ps : List (List ℕ)) → length (joined ps) < 4294967296 → Each Sized ps
+joined_sized [] h = tt
+joined_sized (p ∷ ps) h =
+    let part = length-append (size_bytes (length p)) p in
+    let whole = length-append (part_bytes p) (joined ps) in
+    (omega (arith, part, whole), joined_sized ps (omega (arith, part, whole)))

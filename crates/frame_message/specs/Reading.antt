@@ -5,36 +5,36 @@ use Rattle.std.specs.Prelude.{ℕ, zero, suc, ◌+◌, ◌-◌, Bool, cond, not,
 use Rattle.bytes_number.specs.Number.{number}
 use Rattle.frame_message.specs.declared.Header.{Header}
 use Rattle.refusal.specs.declared.Refusal.TheVariants.{InputShort, StartWrong, BodyLong, PartWrong, PartsMany, HeaderWrong, MagicWrong, VersionWrong, TypeWrong, FlagWrong, PartsDisagree, RouteWrong, TopicWrong, FieldWrong}
-use Rattle.refusal.specs.Answer.{Answer, refused, answered, refuseIf, and_then}
+use Rattle.refusal.specs.Answer.{Answer, refused, answered, refuse_if, and_then}
 use Rattle.frame_forms.specs.Count.{one}
-use Rattle.frame_message.specs.Header.{hasTopic, hasPayload, hasRoute, is_type, areFlags, partsFit, fieldsGood, headerLength, magic, version, headerIn}
-use Rattle.frame_forms.specs.Forms.{isTopic}
+use Rattle.frame_message.specs.Header.{has_topic, has_payload, has_route, is_type, are_flags, parts_fit, fields_good, header_length, magic, version, header_in}
+use Rattle.frame_forms.specs.Forms.{is_topic}
 use Rattle.frame_message.specs.Message.{Message}
-use Rattle.frame_message.specs.Frame.{frameStart, mostBody}
-use Rattle.frame_message.specs.Writing.{routesGood}
+use Rattle.frame_message.specs.Frame.{frame_start, most_body}
+use Rattle.frame_message.specs.Writing.{routes_good}
 
 -- ---- the parts of a body
 
 -- n bytes as a part, and what is left behind it: 4 where they pass the body's end
-abbrev pub cutPart : ℕ → List ℕ → Answer (List ℕ × List ℕ)
-cutPart n xs = refuseIf (ltb (length xs) n) PartWrong (answered (take n xs, drop n xs))
+abbrev pub cut_part : ℕ → List ℕ → Answer (List ℕ × List ℕ)
+cut_part n xs = refuse_if (ltb (length xs) n) PartWrong (answered (take n xs, drop n xs))
 
 -- "A part of 0 to 254 bytes has a 1-byte size; a longer one has 255 and a 4-byte size. A 4-byte size below 255 is refused."
-unfoldable pub firstPart : ℕ → List ℕ → Answer (List ℕ × List ℕ)
-firstPart size xs =
-    cond (ltb size 255) (cutPart size xs)
-    (refuseIf (ltb (length xs) 4 || ltb (number xs) 255) PartWrong (cutPart (number xs) (drop 4 xs)))
+unfoldable pub first_part : ℕ → List ℕ → Answer (List ℕ × List ℕ)
+first_part size xs =
+    cond (ltb size 255) (cut_part size xs)
+    (refuse_if (ltb (length xs) 4 || ltb (number xs) 255) PartWrong (cut_part (number xs) (drop 4 xs)))
 
 -- "a 69th part begins"
-abbrev pub mostParts : ℕ
-mostParts = 68
+abbrev pub most_parts : ℕ
+most_parts = 68
 
 -- the parts of a run of bytes, of which at most `most` may come: 5 where one more begins, before its size is read
 unfoldable pub parts_in : ℕ → List ℕ → Answer (List (List ℕ))
 parts_in zero [] = answered []
 parts_in zero (x ∷ xs) = refused PartsMany
 parts_in (suc most) [] = answered []
-parts_in (suc most) (x ∷ xs) = and_then (firstPart x xs) (λ cut. and_then (parts_in most cut.1) (λ ps. answered (cut.0 ∷ ps)))
+parts_in (suc most) (x ∷ xs) = and_then (first_part x xs) (λ cut. and_then (parts_in most cut.1) (λ ps. answered (cut.0 ∷ ps)))
 
 -- ---- what the parts are
 
@@ -46,79 +46,79 @@ abbrev pub final {ℓ} : {A : Type ℓ} → A → List A → A
 final d xs = get_or xs (length xs - 1) d
 
 -- "With 08 the delimiter is the first empty part": the parts in front of it
-abbrev pub beforeEmpty : List (List ℕ) → List (List ℕ)
-beforeEmpty [] = []
-beforeEmpty ([] ∷ ps) = []
-beforeEmpty ((x ∷ p) ∷ ps) = (x ∷ p) ∷ beforeEmpty ps
+abbrev pub before_empty : List (List ℕ) → List (List ℕ)
+before_empty [] = []
+before_empty ([] ∷ ps) = []
+before_empty ((x ∷ p) ∷ ps) = (x ∷ p) ∷ before_empty ps
 
 -- of the parts in front of the header: the routes, the part that holds the topic, the payload
-unfoldable pub routesIn : Header → List (List ℕ) → List (List ℕ)
-routesIn h ps = cond (hasRoute h.flags) (beforeEmpty ps) []
+unfoldable pub routes_in : Header → List (List ℕ) → List (List ℕ)
+routes_in h ps = cond (has_route h.flags) (before_empty ps) []
 
-unfoldable pub topicPlace : Header → List (List ℕ) → ℕ
-topicPlace h ps = length (routesIn h ps) + one (hasRoute h.flags)
+unfoldable pub topic_place : Header → List (List ℕ) → ℕ
+topic_place h ps = length (routes_in h ps) + one (has_route h.flags)
 
-unfoldable pub payloadPlace : Header → List (List ℕ) → ℕ
-payloadPlace h ps = topicPlace h ps + one (hasTopic h.flags)
+unfoldable pub payload_place : Header → List (List ℕ) → ℕ
+payload_place h ps = topic_place h ps + one (has_topic h.flags)
 
 -- 7: the flags fit the type, and there are just as many parts as they say
-unfoldable pub partsAgree : Header → List (List ℕ) → Bool
-partsAgree h ps = partsFit h && eqb (length ps) (payloadPlace h ps + one (hasPayload h.flags))
+unfoldable pub parts_agree : Header → List (List ℕ) → Bool
+parts_agree h ps = parts_fit h && eqb (length ps) (payload_place h ps + one (has_payload h.flags))
 
 -- "Topic: 1 to 255 non-zero bytes, then a zero byte"
-unfoldable pub isTopicPart : List ℕ → Bool
-isTopicPart p = eqb (final 1 p) 0 && isTopic (front p)
+unfoldable pub is_topic_part : List ℕ → Bool
+is_topic_part p = eqb (final 1 p) 0 && is_topic (front p)
 
 -- the message that the parts hold
-unfoldable pub messageIn : Header → List (List ℕ) → Message
-messageIn h ps =
+unfoldable pub message_in : Header → List (List ℕ) → Message
+message_in h ps =
     record {
       header = h;
-      routes = routesIn h ps;
-      topic = cond (hasTopic h.flags) (front (get_or ps (topicPlace h ps) [])) [];
-      payload = cond (hasPayload h.flags) (get_or ps (payloadPlace h ps) []) [];
+      routes = routes_in h ps;
+      topic = cond (has_topic h.flags) (front (get_or ps (topic_place h ps) [])) [];
+      payload = cond (has_payload h.flags) (get_or ps (payload_place h ps) []) [];
     }
 
 -- ---- the reading
 
 -- "6 no part or wrong header length, 20 magic, 21 version, 22 type, 23 flag 80, tested in that order": the fields of the last part, or why it is no header
-unfoldable pub headerOrWhy : List ℕ → Answer Header
-headerOrWhy p =
-    refuseIf (not (eqb (length p) headerLength)) HeaderWrong
-    (refuseIf (not (eqb (get_or p 0 0) magic)) MagicWrong
-    (refuseIf (not (eqb (get_or p 1 0) version)) VersionWrong
-    (refuseIf (not (is_type (get_or p 2 0))) TypeWrong
-    (refuseIf (not (areFlags (get_or p 3 0))) FlagWrong
-    (answered (headerIn p))))))
+unfoldable pub header_or_why : List ℕ → Answer Header
+header_or_why p =
+    refuse_if (not (eqb (length p) header_length)) HeaderWrong
+    (refuse_if (not (eqb (get_or p 0 0) magic)) MagicWrong
+    (refuse_if (not (eqb (get_or p 1 0) version)) VersionWrong
+    (refuse_if (not (is_type (get_or p 2 0))) TypeWrong
+    (refuse_if (not (are_flags (get_or p 3 0))) FlagWrong
+    (answered (header_in p))))))
 
 -- 7 to 10, of the header's fields and the parts in front of the header
-unfoldable pub judgedAs : Header → List (List ℕ) → Answer Message
-judgedAs h ps =
-    refuseIf (not (partsAgree h ps)) PartsDisagree
-    (refuseIf (not (routesGood (routesIn h ps))) RouteWrong
-    (refuseIf (hasTopic h.flags && not (isTopicPart (get_or ps (topicPlace h ps) []))) TopicWrong
-    (refuseIf (not (fieldsGood h)) FieldWrong
-    (answered (messageIn h ps)))))
+unfoldable pub judged_as : Header → List (List ℕ) → Answer Message
+judged_as h ps =
+    refuse_if (not (parts_agree h ps)) PartsDisagree
+    (refuse_if (not (routes_good (routes_in h ps))) RouteWrong
+    (refuse_if (has_topic h.flags && not (is_topic_part (get_or ps (topic_place h ps) []))) TopicWrong
+    (refuse_if (not (fields_good h)) FieldWrong
+    (answered (message_in h ps)))))
 
 -- 6 and 20 to 23, then 7 to 10, of all the parts: "The header is always last"
 unfoldable pub judged : List (List ℕ) → Answer Message
-judged ps = and_then (headerOrWhy (final [] ps)) (λ h. judgedAs h (front ps))
+judged ps = and_then (header_or_why (final [] ps)) (λ h. judged_as h (front ps))
 
 -- 2: "first four bytes wrong"
-abbrev pub startsRight : List ℕ → Bool
-startsRight b =
-    eqb (get_or b 0 0) (get_or frameStart 0 0)
-    && (eqb (get_or b 1 0) (get_or frameStart 1 0) && (eqb (get_or b 2 0) (get_or frameStart 2 0) && eqb (get_or b 3 0) (get_or frameStart 3 0)))
+abbrev pub starts_right : List ℕ → Bool
+starts_right b =
+    eqb (get_or b 0 0) (get_or frame_start 0 0)
+    && (eqb (get_or b 1 0) (get_or frame_start 1 0) && (eqb (get_or b 2 0) (get_or frame_start 2 0) && eqb (get_or b 3 0) (get_or frame_start 3 0)))
 
 -- "then a 4-byte body length"
-abbrev pub bodyLength : List ℕ → ℕ
-bodyLength b = number (drop 4 b)
+abbrev pub body_length : List ℕ → ℕ
+body_length b = number (drop 4 b)
 
 -- the whole order
 unfoldable pub reading_of : List ℕ → Answer Message
 reading_of b =
-    refuseIf (ltb (length b) 8) InputShort
-    (refuseIf (not (startsRight b)) StartWrong
-    (refuseIf (ltb mostBody (bodyLength b)) BodyLong
-    (refuseIf (ltb (length b) (8 + bodyLength b)) InputShort
-    (and_then (parts_in mostParts (take (bodyLength b) (drop 8 b))) judged))))
+    refuse_if (ltb (length b) 8) InputShort
+    (refuse_if (not (starts_right b)) StartWrong
+    (refuse_if (ltb most_body (body_length b)) BodyLong
+    (refuse_if (ltb (length b) (8 + body_length b)) InputShort
+    (and_then (parts_in most_parts (take (body_length b) (drop 8 b))) judged))))

@@ -10,136 +10,136 @@ use lib.Seq.{length-take-le}
 use Rattle.bytes_number.specs.Number.{number}
 use Rattle.refusal.specs.declared.Refusal.TheVariants.{PartWrong}
 use Rattle.refusal.specs.Answer.{refused, answered}
-use Rattle.frame_message.specs.Frame.{sizeBytes}
-use Rattle.frame_message.specs.Reading.{firstPart}
+use Rattle.frame_message.specs.Frame.{size_bytes}
+use Rattle.frame_message.specs.Reading.{first_part}
 use Rattle.frame_part_size.specs.declared.Size.TheVariants.{Wrong, Data}
-use Rattle.frame_part_size.specs.WorkingSizes.{sizedAs, size_at}
+use Rattle.frame_part_size.specs.WorkingSizes.{sized_as, size_at}
 
 -- ---- the part itself
 
 module _ (x : ℕ) (xs : List ℕ) where
-  short_cut : x < 255 → x ≤ length xs → firstPart x xs ≡ answered (take x xs, drop x xs)
-  unfolding firstPart
+  short_cut : x < 255 → x ≤ length xs → first_part x xs ≡ answered (take x xs, drop x xs)
+  unfolding first_part
   short_cut h k = rw (lt-ltb x 255 h, le-ltb (length xs) x k)
 
-  short-passes : x < 255 → length xs < x → firstPart x xs ≡ refused PartWrong
-  unfolding firstPart
-  short-passes h k = rw (lt-ltb x 255 h, lt-ltb (length xs) x k)
+  short_passes : x < 255 → length xs < x → first_part x xs ≡ refused PartWrong
+  unfolding first_part
+  short_passes h k = rw (lt-ltb x 255 h, lt-ltb (length xs) x k)
 
-  no_size : 255 ≤ x → length xs < 4 → firstPart x xs ≡ refused PartWrong
-  unfolding firstPart
+  no_size : 255 ≤ x → length xs < 4 → first_part x xs ≡ refused PartWrong
+  unfolding first_part
   no_size h k = rw (le-ltb x 255 h, lt-ltb (length xs) 4 k)
 
-  small_size : 255 ≤ x → 4 ≤ length xs → number xs < 255 → firstPart x xs ≡ refused PartWrong
-  unfolding firstPart
+  small_size : 255 ≤ x → 4 ≤ length xs → number xs < 255 → first_part x xs ≡ refused PartWrong
+  unfolding first_part
   small_size h k l = rw (le-ltb x 255 h, le-ltb (length xs) 4 k, lt-ltb (number xs) 255 l)
 
-  long-passes : 255 ≤ x → 4 ≤ length xs → 255 ≤ number xs → length (drop 4 xs) < number xs → firstPart x xs ≡ refused PartWrong
-  unfolding firstPart
-  long-passes h k l m = rw (le-ltb x 255 h, le-ltb (length xs) 4 k, le-ltb (number xs) 255 l, lt-ltb (length (drop 4 xs)) (number xs) m)
+  long_passes : 255 ≤ x → 4 ≤ length xs → 255 ≤ number xs → length (drop 4 xs) < number xs → first_part x xs ≡ refused PartWrong
+  unfolding first_part
+  long_passes h k l m = rw (le-ltb x 255 h, le-ltb (length xs) 4 k, le-ltb (number xs) 255 l, lt-ltb (length (drop 4 xs)) (number xs) m)
 
-  long-cut : 255 ≤ x → 4 ≤ length xs → 255 ≤ number xs → number xs ≤ length (drop 4 xs) → firstPart x xs ≡ answered (take (number xs) (drop 4 xs), drop (number xs) (drop 4 xs))
-  unfolding firstPart
-  long-cut h k l m = rw (le-ltb x 255 h, le-ltb (length xs) 4 k, le-ltb (number xs) 255 l, le-ltb (length (drop 4 xs)) (number xs) m)
+  long_cut : 255 ≤ x → 4 ≤ length xs → 255 ≤ number xs → number xs ≤ length (drop 4 xs) → first_part x xs ≡ answered (take (number xs) (drop 4 xs), drop (number xs) (drop 4 xs))
+  unfolding first_part
+  long_cut h k l m = rw (le-ltb x 255 h, le-ltb (length xs) 4 k, le-ltb (number xs) 255 l, le-ltb (length (drop 4 xs)) (number xs) m)
 
 -- ---- where its data starts, and how long it is
 
-sized-short : (n : ℕ) → n < 255 → length (sizeBytes n) ≡ 1
-sized-short n h = rw (lt-ltb n 255 h)
+sized_short : (n : ℕ) → n < 255 → length (size_bytes n) ≡ 1
+sized_short n h = rw (lt-ltb n 255 h)
 
-sized-long : (n : ℕ) → 255 ≤ n → length (sizeBytes n) ≡ 5
-sized-long n h = rw (le-ltb n 255 h)
+sized_long : (n : ℕ) → 255 ≤ n → length (size_bytes n) ≡ 5
+sized_long n h = rw (le-ltb n 255 h)
 
 pub size_none : (s : List ℕ) → length s ≡ 0 → Wrong ≡ size_at s
 size_none [] h = refl
 size_none (x ∷ xs) h = absurd (omega arith)
 
 -- the size byte is below 255
-pub size-short-passes : (s : List ℕ) → 0 < length s → get_or s 0 0 < 255 → length s - 1 < get_or s 0 0 → Wrong ≡ size_at s
-size-short-passes [] p h k = absurd (omega arith)
-size-short-passes (x ∷ xs) p h k = rw (short-passes x xs h (omega arith))
+pub size_short_passes : (s : List ℕ) → 0 < length s → get_or s 0 0 < 255 → length s - 1 < get_or s 0 0 → Wrong ≡ size_at s
+size_short_passes [] p h k = absurd (omega arith)
+size_short_passes (x ∷ xs) p h k = rw (short_passes x xs h (omega arith))
 
-pub size-short : (s : List ℕ) → 0 < length s → get_or s 0 0 < 255 → get_or s 0 0 ≤ length s - 1 → Data 1 (get_or s 0 0) ≡ size_at s
-size-short [] p h k = absurd (omega arith)
-size-short (x ∷ xs) p h k =
+pub size_short : (s : List ℕ) → 0 < length s → get_or s 0 0 < 255 → get_or s 0 0 ≤ length s - 1 → Data 1 (get_or s 0 0) ≡ size_at s
+size_short [] p h k = absurd (omega arith)
+size_short (x ∷ xs) p h k =
     let fits : x ≤ length xs = omega arith in
-    rw (short_cut x xs h fits, length-take-le x xs fits, sized-short x h)
+    rw (short_cut x xs h fits, length-take-le x xs fits, sized_short x h)
 
 -- it is 255, and the size has four bytes more: n is the number in them
-pub size-cut : (s : List ℕ) → 0 < length s → 255 ≤ get_or s 0 0 → length s - 1 < 4 → Wrong ≡ size_at s
-size-cut [] p h k = absurd (omega arith)
-size-cut (x ∷ xs) p h k = rw (no_size x xs h (omega arith))
+pub size_cut : (s : List ℕ) → 0 < length s → 255 ≤ get_or s 0 0 → length s - 1 < 4 → Wrong ≡ size_at s
+size_cut [] p h k = absurd (omega arith)
+size_cut (x ∷ xs) p h k = rw (no_size x xs h (omega arith))
 
 pub size_small : (s : List ℕ) (n : ℕ) → 255 ≤ get_or s 0 0 → 4 ≤ length s - 1 → n ≡ number (drop 1 s) → n < 255 → Wrong ≡ size_at s
 size_small [] n h k e l = absurd (omega arith)
 size_small (x ∷ xs) n h k e l = rw (small_size x xs h (omega arith) (rw e at l))
 
-pub size-long-passes : (s : List ℕ) (n : ℕ) → 255 ≤ get_or s 0 0 → 4 ≤ length s - 1 → n ≡ number (drop 1 s) → 255 ≤ n → length s - 1 - 4 < n → Wrong ≡ size_at s
-size-long-passes [] n h k e l m = absurd (omega arith)
-size-long-passes (x ∷ xs) n h k e l m = rw (long-passes x xs h (omega arith) (rw e at l) (simp length-drop (rw e at (left m))))
+pub size_long_passes : (s : List ℕ) (n : ℕ) → 255 ≤ get_or s 0 0 → 4 ≤ length s - 1 → n ≡ number (drop 1 s) → 255 ≤ n → length s - 1 - 4 < n → Wrong ≡ size_at s
+size_long_passes [] n h k e l m = absurd (omega arith)
+size_long_passes (x ∷ xs) n h k e l m = rw (long_passes x xs h (omega arith) (rw e at l) (simp length-drop (rw e at (left m))))
   where
     left : suc (length xs) - 1 - 4 < n → length xs - 4 < n
     left m = omega arith
 
-pub size-long : (s : List ℕ) (n : ℕ) → 255 ≤ get_or s 0 0 → 4 ≤ length s - 1 → n ≡ number (drop 1 s) → 255 ≤ n → n ≤ length s - 1 - 4 → Data 5 n ≡ size_at s
-size-long [] n h k e l m = absurd (omega arith)
-size-long (x ∷ xs) n h k e l m =
+pub size_long : (s : List ℕ) (n : ℕ) → 255 ≤ get_or s 0 0 → 4 ≤ length s - 1 → n ≡ number (drop 1 s) → 255 ≤ n → n ≤ length s - 1 - 4 → Data 5 n ≡ size_at s
+size_long [] n h k e l m = absurd (omega arith)
+size_long (x ∷ xs) n h k e l m =
     let four : 4 ≤ length xs = omega arith in
     let fits : number xs ≤ length (drop 4 xs) = simp length-drop (omega arith) in
-    rw (long-cut x xs h four (rw e at l) fits, length-take-le (number xs) (drop 4 xs) fits, sized-long (number xs) (rw e at l), e)
+    rw (long_cut x xs h four (rw e at l) fits, length-take-le (number xs) (drop 4 xs) fits, sized_long (number xs) (rw e at l), e)
 
 -- ---- the other way: what the size tells of the part
 
 -- a part's size is wrong, or the part was cut
 data FirstCase (x : ℕ) (xs : List ℕ) : Type 0 where
-  passes : firstPart x xs ≡ refused PartWrong → FirstCase x xs
-  cuts : (cut : List ℕ × List ℕ) → firstPart x xs ≡ answered cut → FirstCase x xs
+  passes : first_part x xs ≡ refused PartWrong → FirstCase x xs
+  cuts : (cut : List ℕ × List ℕ) → first_part x xs ≡ answered cut → FirstCase x xs
 
-first-case : (x : ℕ) (xs : List ℕ) → FirstCase x xs
-first-case x xs = short (dec_lt x 255)
+first_case : (x : ℕ) (xs : List ℕ) → FirstCase x xs
+first_case x xs = short (dec_lt x 255)
   where
-    short-fits : x < 255 → Dec (length xs < x) → FirstCase x xs
-    short-fits h (yes k) = passes (short-passes x xs h k)
-    short-fits h (no k) = cuts _ (short_cut x xs h (omega arith))
+    short_fits : x < 255 → Dec (length xs < x) → FirstCase x xs
+    short_fits h (yes k) = passes (short_passes x xs h k)
+    short_fits h (no k) = cuts _ (short_cut x xs h (omega arith))
 
-    long-fits : 255 ≤ x → 4 ≤ length xs → 255 ≤ number xs → Dec (length (drop 4 xs) < number xs) → FirstCase x xs
-    long-fits h k l (yes m) = passes (long-passes x xs h k l m)
-    long-fits h k l (no m) = cuts _ (long-cut x xs h k l (omega arith))
+    long_fits : 255 ≤ x → 4 ≤ length xs → 255 ≤ number xs → Dec (length (drop 4 xs) < number xs) → FirstCase x xs
+    long_fits h k l (yes m) = passes (long_passes x xs h k l m)
+    long_fits h k l (no m) = cuts _ (long_cut x xs h k l (omega arith))
 
-    long-enough : 255 ≤ x → 4 ≤ length xs → Dec (number xs < 255) → FirstCase x xs
-    long-enough h k (yes l) = passes (small_size x xs h k l)
-    long-enough h k (no l) = long-fits h k (omega arith) (dec_lt (length (drop 4 xs)) (number xs))
+    long_enough : 255 ≤ x → 4 ≤ length xs → Dec (number xs < 255) → FirstCase x xs
+    long_enough h k (yes l) = passes (small_size x xs h k l)
+    long_enough h k (no l) = long_fits h k (omega arith) (dec_lt (length (drop 4 xs)) (number xs))
 
     long : 255 ≤ x → Dec (length xs < 4) → FirstCase x xs
     long h (yes k) = passes (no_size x xs h k)
-    long h (no k) = long-enough h (omega arith) (dec_lt (number xs) 255)
+    long h (no k) = long_enough h (omega arith) (dec_lt (number xs) 255)
 
     short : Dec (x < 255) → FirstCase x xs
-    short (yes h) = short-fits h (dec_lt (length xs) x)
+    short (yes h) = short_fits h (dec_lt (length xs) x)
     short (no h) = long (omega arith) (dec_lt (length xs) 4)
 
-wrong-data : {a b : ℕ} → Wrong ≡ Data a b → ⊥
-wrong-data e = let z : ◌≡◌ {A = ℕ} 0 1 = cc in omega arith
+wrong_data : {a b : ℕ} → Wrong ≡ Data a b → ⊥
+wrong_data e = let z : ◌≡◌ {A = ℕ} 0 1 = cc in omega arith
 
-pub part-wrong : (x : ℕ) (xs : List ℕ) → Wrong ≡ sizedAs (firstPart x xs) → firstPart x xs ≡ refused PartWrong
-part-wrong x xs e = go (first-case x xs)
+pub part_wrong : (x : ℕ) (xs : List ℕ) → Wrong ≡ sized_as (first_part x xs) → first_part x xs ≡ refused PartWrong
+part_wrong x xs e = go (first_case x xs)
   where
-    go : FirstCase x xs → firstPart x xs ≡ refused PartWrong
+    go : FirstCase x xs → first_part x xs ≡ refused PartWrong
     go (passes f) = f
-    go (cuts cut f) = absurd (wrong-data (e ∙ ap sizedAs f))
+    go (cuts cut f) = absurd (wrong_data (e ∙ ap sized_as f))
 
 -- the part that was cut, by the size found
 pub record CutBy (x : ℕ) (xs : List ℕ) (start len : ℕ) : Type 0 where
   pub cut : List ℕ × List ℕ
-  pub first : firstPart x xs ≡ answered cut
-  pub starts : start ≡ length (sizeBytes (length cut.0))
+  pub first : first_part x xs ≡ answered cut
+  pub starts : start ≡ length (size_bytes (length cut.0))
   pub long : len ≡ length cut.0
 
-pub part_cut : (x : ℕ) (xs : List ℕ) (start len : ℕ) → Data start len ≡ sizedAs (firstPart x xs) → CutBy x xs start len
-part_cut x xs start len e = go (first-case x xs)
+pub part_cut : (x : ℕ) (xs : List ℕ) (start len : ℕ) → Data start len ≡ sized_as (first_part x xs) → CutBy x xs start len
+part_cut x xs start len e = go (first_case x xs)
   where
     go : FirstCase x xs → CutBy x xs start len
-    go (passes f) = absurd (wrong-data (sym (e ∙ ap sizedAs f)))
+    go (passes f) = absurd (wrong_data (sym (e ∙ ap sized_as f)))
     go (cuts cut f) =
-        let same : Data start len ≡ Data (length (sizeBytes (length cut.0))) (length cut.0) = e ∙ ap sizedAs f in
+        let same : Data start len ≡ Data (length (size_bytes (length cut.0))) (length cut.0) = e ∙ ap sized_as f in
         record { cut = cut; first = f; starts = cc; long = cc }

@@ -1,6 +1,5 @@
 // The size in front of a part.
 ghost use Rattle.std.specs.Prelude.{◌≡◌};
-ghost use Rattle.bytes_number.specs.Lent.{was};
 ghost use Rattle.frame_part_size.specs.WorkingSizes.{size_at};
 
 // A part of so many bytes or more has a size of five bytes, the first of which is this.
@@ -15,7 +14,7 @@ pub enum Size {
 
 // The size of the part that begins s.
 pub fn size_at(s: &[u8]) -> Size
-    ensures { result ≡ size_at (was s) }
+    ensures { result ≡ size_at s.now }
 {
     if s.len() == 0 {
         return Size::Wrong;

@@ -1,16 +1,15 @@
 // A part written: its size, and its data behind that.
 ghost use Rattle.std.specs.Prelude.{◌≡◌};
-ghost use Rattle.bytes_number.specs.Lent.{was};
-ghost use Rattle.frame_message.specs.Frame.{partBytes};
-ghost use Rattle.bytes_number.specs.WorkingLays.{laidCount, laidIfRoom};
+ghost use Rattle.frame_message.specs.Frame.{part_bytes};
+ghost use Rattle.bytes_number.specs.WorkingLays.{laid_count, laid_if_room};
 
 use frame_part_size::LONG;
 
 // Writes a part to the front of out, if there is room for it, and tells how many bytes it took; where there is none it tells 0. So the next
 // part can be lent what follows.
 pub fn write_part(out: &mut [u8], data: &[u8]) -> usize
-    ensures value { result ≡ laidCount (partBytes (was «data»)) (was out) }
-    ensures out_after { out.new ≡ laidIfRoom (partBytes (was «data»)) (was out) }
+    ensures value { result ≡ laid_count (part_bytes (was «data»)) out.old }
+    ensures out_after { out.new ≡ laid_if_room (part_bytes (was «data»)) out.old }
 {
     let n = data.len();
     if n < LONG {

@@ -11,83 +11,83 @@ use Rattle.bytes_number.specs.Number.{Bytes}
 use Rattle.bytes_number.proofs.Numbers.{bytes_drop}
 use Rattle.refusal.specs.declared.Refusal.TheVariants.{PartWrong, PartsMany}
 use Rattle.refusal.specs.Answer.{Answer, refused, answered, and_then}
-use Rattle.frame_message.specs.Frame.{sizeBytes, partBytes, joined}
-use Rattle.frame_message.specs.Reading.{firstPart, parts_in, front, beforeEmpty}
-use Rattle.frame_message.proofs.Lists.{front-snoc}
-use Rattle.frame_message.proofs.Parts.{first-split}
+use Rattle.frame_message.specs.Frame.{size_bytes, part_bytes, joined}
+use Rattle.frame_message.specs.Reading.{first_part, parts_in, front, before_empty}
+use Rattle.frame_message.proofs.Lists.{front_snoc}
+use Rattle.frame_message.proofs.Parts.{first_split}
 use Rattle.frame_part_size.specs.declared.Size.TheVariants.{Wrong, Data}
 use Rattle.frame_part_size.specs.WorkingSizes.{size_at}
-use Rattle.frame_part_size.proofs.Sizes.{CutBy, part-wrong, part_cut}
+use Rattle.frame_part_size.proofs.Sizes.{CutBy, part_wrong, part_cut}
 use Rattle.frame_parts.specs.declared.Counting.TheVariants.{Refused, Counted}
-use Rattle.frame_parts.specs.WorkingCounting.{stopByte, countingOf}
+use Rattle.frame_parts.specs.WorkingCounting.{stop_byte, counting_of}
 
 -- what is left behind a place, as a part of a slice has it
-pub part-from : (b : List ℕ) (at : ℕ) → take (length b - at) (drop at b) ≡ drop at b
-part-from b at = take_all (length b - at) (drop at b) (omega (arith, length-drop at b))
+pub part_from : (b : List ℕ) (at : ℕ) → take (length b - at) (drop at b) ≡ drop at b
+part_from b at = take_all (length b - at) (drop at b) (omega (arith, length-drop at b))
 
 -- ---- lists of parts
 
 -- parts that were found, in front of an answer
-abbrev pub behindOf : List (List ℕ) → Answer (List (List ℕ)) → Answer (List (List ℕ))
-behindOf done rest = and_then rest (λ ps. answered (done ++ ps))
+abbrev pub behind_of : List (List ℕ) → Answer (List (List ℕ)) → Answer (List (List ℕ))
+behind_of done rest = and_then rest (λ ps. answered (done ++ ps))
 
-pub joined_snoc : (ps : List (List ℕ)) (p : List ℕ) → joined (ps ++ (p ∷ [])) ≡ joined ps ++ partBytes p
-joined_snoc [] p = append-nil (partBytes p)
-joined_snoc (q ∷ ps) p = rw (joined_snoc ps p) (sym (append_assoc (partBytes q) (joined ps) (partBytes p)))
+pub joined_snoc : (ps : List (List ℕ)) (p : List ℕ) → joined (ps ++ (p ∷ [])) ≡ joined ps ++ part_bytes p
+joined_snoc [] p = append-nil (part_bytes p)
+joined_snoc (q ∷ ps) p = rw (joined_snoc ps p) (sym (append_assoc (part_bytes q) (joined ps) (part_bytes p)))
 
 -- each part has a size, so there are no more parts than bytes
-pub part-has-size : (p : List ℕ) → 0 < length (partBytes p)
-part-has-size p = go (ltb (length p) 255) refl
+pub part_has_size : (p : List ℕ) → 0 < length (part_bytes p)
+part_has_size p = go (ltb (length p) 255) refl
   where
-    go : (t : Bool) → ltb (length p) 255 ≡ t → 0 < length (partBytes p)
+    go : (t : Bool) → ltb (length p) 255 ≡ t → 0 < length (part_bytes p)
     go true e = rw e (omega arith)
     go false e = rw e (omega arith)
 
 pub joined-many : (ps : List (List ℕ)) → length ps ≤ length (joined ps)
 joined-many [] = omega arith
-joined-many (p ∷ ps) = omega (arith, length-append (partBytes p) (joined ps), part-has-size p, joined-many ps)
+joined-many (p ∷ ps) = omega (arith, length-append (part_bytes p) (joined ps), part_has_size p, joined-many ps)
 
 -- ---- the parts in front of the first empty one
 
-pub before-few : (ps : List (List ℕ)) → length (beforeEmpty ps) ≤ length ps
-before-few [] = omega arith
-before-few ([] ∷ ps) = omega arith
-before-few ((x ∷ p) ∷ ps) = omega (arith, before-few ps)
+pub before_few : (ps : List (List ℕ)) → length (before_empty ps) ≤ length ps
+before_few [] = omega arith
+before_few ([] ∷ ps) = omega arith
+before_few ((x ∷ p) ∷ ps) = omega (arith, before_few ps)
 
-pub before-short : (ps : List (List ℕ)) → length (joined (beforeEmpty ps)) ≤ length (joined ps)
-before-short [] = omega arith
-before-short ([] ∷ ps) = omega arith
-before-short ((x ∷ p) ∷ ps) =
-    omega (arith, length-append (partBytes (x ∷ p)) (joined (beforeEmpty ps)), length-append (partBytes (x ∷ p)) (joined ps), before-short ps)
+pub before_short : (ps : List (List ℕ)) → length (joined (before_empty ps)) ≤ length (joined ps)
+before_short [] = omega arith
+before_short ([] ∷ ps) = omega arith
+before_short ((x ∷ p) ∷ ps) =
+    omega (arith, length-append (part_bytes (x ∷ p)) (joined (before_empty ps)), length-append (part_bytes (x ∷ p)) (joined ps), before_short ps)
 
 -- with one part more: no part was empty, nor is this one; it is empty; one was empty already
-pub before-none : (ps : List (List ℕ)) (p : List ℕ) → length (beforeEmpty ps) ≡ length ps → (length p ≡ 0 → ⊥) → beforeEmpty (ps ++ (p ∷ [])) ≡ ps ++ (p ∷ [])
+pub before-none : (ps : List (List ℕ)) (p : List ℕ) → length (before_empty ps) ≡ length ps → (length p ≡ 0 → ⊥) → before_empty (ps ++ (p ∷ [])) ≡ ps ++ (p ∷ [])
 before-none [] [] e n = absurd (n refl)
 before-none [] (x ∷ p) e n = refl
 before-none ([] ∷ ps) p e n = absurd (omega arith)
 before-none ((x ∷ q) ∷ ps) p e n = rw (before-none ps p (omega arith) n)
 
-before-this : (ps : List (List ℕ)) (p : List ℕ) → length p ≡ 0 → beforeEmpty (ps ++ (p ∷ [])) ≡ beforeEmpty ps
-before-this [] [] e = refl
-before-this [] (x ∷ p) e = absurd (omega arith)
-before-this ([] ∷ ps) p e = refl
-before-this ((x ∷ q) ∷ ps) p e = rw (before-this ps p e)
+before_this : (ps : List (List ℕ)) (p : List ℕ) → length p ≡ 0 → before_empty (ps ++ (p ∷ [])) ≡ before_empty ps
+before_this [] [] e = refl
+before_this [] (x ∷ p) e = absurd (omega arith)
+before_this ([] ∷ ps) p e = refl
+before_this ((x ∷ q) ∷ ps) p e = rw (before_this ps p e)
 
-pub before-earlier : (ps : List (List ℕ)) (p : List ℕ) → (length (beforeEmpty ps) ≡ length ps → ⊥) → beforeEmpty (ps ++ (p ∷ [])) ≡ beforeEmpty ps
-before-earlier [] p n = absurd (n refl)
-before-earlier ([] ∷ ps) p n = refl
-before-earlier ((x ∷ q) ∷ ps) p n = rw (before-earlier ps p (λ e. n (omega arith)))
+pub before_earlier : (ps : List (List ℕ)) (p : List ℕ) → (length (before_empty ps) ≡ length ps → ⊥) → before_empty (ps ++ (p ∷ [])) ≡ before_empty ps
+before_earlier [] p n = absurd (n refl)
+before_earlier ([] ∷ ps) p n = refl
+before_earlier ((x ∷ q) ∷ ps) p n = rw (before_earlier ps p (λ e. n (omega arith)))
 
 -- parts in front of none, and of one more
-behind-none : (rest : Answer (List (List ℕ))) → behindOf [] rest ≡ rest
-behind-none (refused r) = refl
-behind-none (answered ps) = refl
+behind_none : (rest : Answer (List (List ℕ))) → behind_of [] rest ≡ rest
+behind_none (refused r) = refl
+behind_none (answered ps) = refl
 
-behind-one : (done : List (List ℕ)) (p : List ℕ) (rest : Answer (List (List ℕ))) → behindOf done (and_then rest (λ ps. answered (p ∷ ps))) ≡ behindOf (done ++ (p ∷ [])) rest
-behind-one done p (refused r) = refl
-behind-one done p (answered ps) = ap answered (sym (append_snoc done p ps))
+behind_one : (done : List (List ℕ)) (p : List ℕ) (rest : Answer (List (List ℕ))) → behind_of done (and_then rest (λ ps. answered (p ∷ ps))) ≡ behind_of (done ++ (p ∷ [])) rest
+behind_one done p (refused r) = refl
+behind_one done p (answered ps) = ap answered (sym (append_snoc done p ps))
 
--- ---- one turn of `parts_in`, and of `stopByte`
+-- ---- one turn of `parts_in`, and of `stop_byte`
 
 no_more : (most : ℕ) → parts_in most [] ≡ answered []
 unfolding parts_in
@@ -95,43 +95,43 @@ no_more zero = refl
 no_more (suc most) = refl
 
 module _ (x : ℕ) (xs : List ℕ) where
-  one-too-many : parts_in 0 (x ∷ xs) ≡ refused PartsMany
+  one_too_many : parts_in 0 (x ∷ xs) ≡ refused PartsMany
   unfolding parts_in
-  one-too-many = refl
+  one_too_many = refl
 
-  stops-many : stopByte 0 (x ∷ xs) ≡ 0
-  unfolding stopByte
-  stops-many = refl
+  stops_many : stop_byte 0 (x ∷ xs) ≡ 0
+  unfolding stop_byte
+  stops_many = refl
 
   module _ (most : ℕ) where
-    one-wrong : firstPart x xs ≡ refused PartWrong → parts_in (suc most) (x ∷ xs) ≡ refused PartWrong
+    one_wrong : first_part x xs ≡ refused PartWrong → parts_in (suc most) (x ∷ xs) ≡ refused PartWrong
     unfolding parts_in
-    one-wrong e = rw e
+    one_wrong e = rw e
 
-    stops-wrong : firstPart x xs ≡ refused PartWrong → stopByte (suc most) (x ∷ xs) ≡ 0
-    unfolding stopByte
-    stops-wrong e = rw e
+    stops_wrong : first_part x xs ≡ refused PartWrong → stop_byte (suc most) (x ∷ xs) ≡ 0
+    unfolding stop_byte
+    stops_wrong e = rw e
 
-    module _ (cut : List ℕ × List ℕ) (e : firstPart x xs ≡ answered cut) where
+    module _ (cut : List ℕ × List ℕ) (e : first_part x xs ≡ answered cut) where
       one_more : parts_in (suc most) (x ∷ xs) ≡ and_then (parts_in most cut.1) (λ ps. answered (cut.0 ∷ ps))
       unfolding parts_in
       one_more = rw e
 
-      stops-more : stopByte (suc most) (x ∷ xs) ≡ length (partBytes cut.0) + stopByte most cut.1
-      unfolding stopByte
-      stops-more = rw e
+      stops_more : stop_byte (suc most) (x ∷ xs) ≡ length (part_bytes cut.0) + stop_byte most cut.1
+      unfolding stop_byte
+      stops_more = rw e
 
 -- ---- the loop
 
 -- some parts of a body are passed, of at most so many
 pub record Passed (most : ℕ) (body : List ℕ) (at count empty group last : ℕ) : Type 0 where
   pub done : List (List ℕ)
-  pub rest : parts_in most body ≡ behindOf done (parts_in (most - count) (drop at body))
-  pub stops : stopByte most body ≡ at + stopByte (most - count) (drop at body)
+  pub rest : parts_in most body ≡ behind_of done (parts_in (most - count) (drop at body))
+  pub stops : stop_byte most body ≡ at + stop_byte (most - count) (drop at body)
   pub counted : count ≡ length done
   pub few : count ≤ most
-  pub emptied : empty ≡ length (beforeEmpty done)
-  pub grouped : group ≡ length (joined (beforeEmpty done))
+  pub emptied : empty ≡ length (before_empty done)
+  pub grouped : group ≡ length (joined (before_empty done))
   pub lasted : last ≡ length (joined (front done))
   pub here : at ≡ length (joined done)
   pub within : at ≤ length body
@@ -141,7 +141,7 @@ passed_none most body =
     let all : most - 0 ≡ most = omega arith in
     record {
       done = [];
-      rest = rw all (sym (behind-none (parts_in most body)));
+      rest = rw all (sym (behind_none (parts_in most body)));
       stops = rw all (omega arith);
       counted = refl;
       few = omega arith;
@@ -154,11 +154,11 @@ passed_none most body =
 
 module _ {most : ℕ} {body : List ℕ} {at count empty group last : ℕ} (p : Passed most body at count empty group last) where
   -- so one part more can be counted
-  pub passed-low : count ≤ at
-  passed-low = omega (arith, joined-many p.done, p.counted, p.here)
+  pub passed_low : count ≤ at
+  passed_low = omega (arith, joined-many p.done, p.counted, p.here)
 
-  pub passed-all : at ≡ length body → Counted (record { count = count; empty = empty; group = group; last = last }) ≡ countingOf most body
-  passed-all e =
+  pub passed_all : at ≡ length body → Counted (record { count = count; empty = empty; group = group; last = last }) ≡ counting_of most body
+  passed_all e =
       let none : drop at body ≡ [] = drop_of_length-le body {i = at} (omega arith) in
       let all : parts_in most body ≡ answered p.done = p.rest ∙ rw (none, no_more (most - count), append-nil p.done) in
       rw (all, p.counted, p.emptied, p.grouped, p.lasted)
@@ -174,11 +174,11 @@ module _ {most : ℕ} {body : List ℕ} {at count empty group last : ℕ} (p : P
     unfolding x xs
     left = drop-cons body at 0 (omega (arith, p.within))
 
-    pub passed-many : count ≡ most → Refused PartsMany at ≡ countingOf most body
-    passed-many e =
+    pub passed_many : count ≡ most → Refused PartsMany at ≡ counting_of most body
+    passed_many e =
         let full : most - count ≡ 0 = omega arith in
-        let stop : stopByte most body ≡ at = p.stops ∙ rw (full, left, stops-many x xs) (omega arith) in
-        rw (stop, p.rest, full, left, one-too-many x xs)
+        let stop : stop_byte most body ≡ at = p.stops ∙ rw (full, left, stops_many x xs) (omega arith) in
+        rw (stop, p.rest, full, left, one_too_many x xs)
 
     -- there is room for one part more
     abbrev Room : Type 0
@@ -187,11 +187,11 @@ module _ {most : ℕ} {body : List ℕ} {at count empty group last : ℕ} (p : P
     fewer : Room → most - count ≡ suc (most - (count + 1))
     fewer room = omega (arith, p.few)
 
-    pub passed-wrong : Room → Wrong ≡ size_at (drop at body) → Refused PartWrong at ≡ countingOf most body
-    passed-wrong room e =
-        let wrong = part-wrong x xs (rw left at e) in
-        let stop : stopByte most body ≡ at = p.stops ∙ rw (fewer room, left, stops-wrong x xs (most - (count + 1)) wrong) (omega arith) in
-        rw (stop, p.rest, fewer room, left, one-wrong x xs (most - (count + 1)) wrong)
+    pub passed_wrong : Room → Wrong ≡ size_at (drop at body) → Refused PartWrong at ≡ counting_of most body
+    passed_wrong room e =
+        let wrong = part_wrong x xs (rw left at e) in
+        let stop : stop_byte most body ≡ at = p.stops ∙ rw (fewer room, left, stops_wrong x xs (most - (count + 1)) wrong) (omega arith) in
+        rw (stop, p.rest, fewer room, left, one_wrong x xs (most - (count + 1)) wrong)
 
     -- a part that follows
     module _ (b : Bytes body) {start len : ℕ} (size : Data start len ≡ size_at (drop at body)) where
@@ -204,21 +204,21 @@ module _ {most : ℕ} {body : List ℕ} {at count empty group last : ℕ} (p : P
       abbrev next : ℕ
       next = at + start + len
 
-      same : drop at body ≡ partBytes part ++ c.cut.1
+      same : drop at body ≡ part_bytes part ++ c.cut.1
       unfolding part
-      same = left ∙ (first-split x xs c.cut (rw left at (bytes_drop at body b)) c.first).same
+      same = left ∙ (first_split x xs c.cut (rw left at (bytes_drop at body b)) c.first).same
 
-      long : length (partBytes part) ≡ start + len
+      long : length (part_bytes part) ≡ start + len
       unfolding part
-      long = omega (arith, c.starts, c.long, length-append (sizeBytes (length part)) part)
+      long = omega (arith, c.starts, c.long, length-append (size_bytes (length part)) part)
 
-      pub passed-within : next ≤ length body
-      passed-within = omega (arith, p.within, ap length same, length-append (partBytes part) c.cut.1, length-drop at body, long)
+      pub passed_within : next ≤ length body
+      passed_within = omega (arith, p.within, ap length same, length-append (part_bytes part) c.cut.1, length-drop at body, long)
 
       behind : drop next body ≡ c.cut.1
       behind =
           let there : next ≡ at + (start + len) = omega arith in
-          rw (there, ← drop-drop (start + len) at body, same) (drop_at (partBytes part) c.cut.1 (start + len) long)
+          rw (there, ← drop-drop (start + len) at body, same) (drop_at (part_bytes part) c.cut.1 (start + len) long)
 
       abbrev passed : List (List ℕ)
       passed = p.done ++ (part ∷ [])
@@ -227,40 +227,40 @@ module _ {most : ℕ} {body : List ℕ} {at count empty group last : ℕ} (p : P
       counts = omega (arith, p.counted, length-append p.done (part ∷ []))
 
       joins : length (joined passed) ≡ next
-      joins = omega (arith, p.here, ap length (joined_snoc p.done part), length-append (joined p.done) (partBytes part), long)
+      joins = omega (arith, p.here, ap length (joined_snoc p.done part), length-append (joined p.done) (part_bytes part), long)
 
       module _ (room : Room) {e g : ℕ} where
-        passed-part : e ≡ length (beforeEmpty passed) → g ≡ length (joined (beforeEmpty passed)) → Passed most body next (count + 1) e g at
+        passed_part : e ≡ length (before_empty passed) → g ≡ length (joined (before_empty passed)) → Passed most body next (count + 1) e g at
         unfolding part
-        passed-part emptied grouped =
+        passed_part emptied grouped =
             let still = most - (count + 1) in
             record {
               done = passed;
-              rest = p.rest ∙ rw (fewer room, left, one_more x xs still c.cut c.first, behind) (behind-one p.done part (parts_in still c.cut.1));
-              stops = p.stops ∙ rw (fewer room, left, stops-more x xs still c.cut c.first, behind) (omega (arith, long));
+              rest = p.rest ∙ rw (fewer room, left, one_more x xs still c.cut c.first, behind) (behind_one p.done part (parts_in still c.cut.1));
+              stops = p.stops ∙ rw (fewer room, left, stops_more x xs still c.cut c.first, behind) (omega (arith, long));
               counted = sym counts;
               few = omega (arith, p.few);
               emptied = emptied;
               grouped = grouped;
-              lasted = p.here ∙ ap (λ (ps : List (List ℕ)). length (joined ps)) (sym (front-snoc p.done part));
+              lasted = p.here ∙ ap (λ (ps : List (List ℕ)). length (joined ps)) (sym (front_snoc p.done part));
               here = sym joins;
-              within = passed-within;
+              within = passed_within;
             }
 
         -- by the tests of the code
-        pub passed-none-empty : empty ≡ count → (len ≡ 0 → ⊥) → e ≡ empty + 1 → g ≡ next → Passed most body next (count + 1) e g at
+        pub passed_none_empty : empty ≡ count → (len ≡ 0 → ⊥) → e ≡ empty + 1 → g ≡ next → Passed most body next (count + 1) e g at
         unfolding part
-        passed-none-empty same n k l =
+        passed_none_empty same n k l =
             let all = before-none p.done part (omega (arith, p.counted, p.emptied)) (λ z. n (omega (arith, c.long))) in
-            passed-part (rw all (omega (arith, counts))) (rw all (omega (arith, joins)))
+            passed_part (rw all (omega (arith, counts))) (rw all (omega (arith, joins)))
 
-        pub passed-this-empty : len ≡ 0 → e ≡ empty → g ≡ group → Passed most body next (count + 1) e g at
+        pub passed_this_empty : len ≡ 0 → e ≡ empty → g ≡ group → Passed most body next (count + 1) e g at
         unfolding part
-        passed-this-empty z k l =
-            let none = before-this p.done part (omega (arith, c.long)) in
-            passed-part (rw none (k ∙ p.emptied)) (rw none (l ∙ p.grouped))
+        passed_this_empty z k l =
+            let none = before_this p.done part (omega (arith, c.long)) in
+            passed_part (rw none (k ∙ p.emptied)) (rw none (l ∙ p.grouped))
 
-        pub passed-earlier-empty : (empty ≡ count → ⊥) → e ≡ empty → g ≡ group → Passed most body next (count + 1) e g at
-        passed-earlier-empty n k l =
-            let none = before-earlier p.done part (λ e. n (omega (arith, p.counted, p.emptied))) in
-            passed-part (rw none (k ∙ p.emptied)) (rw none (l ∙ p.grouped))
+        pub passed_earlier_empty : (empty ≡ count → ⊥) → e ≡ empty → g ≡ group → Passed most body next (count + 1) e g at
+        passed_earlier_empty n k l =
+            let none = before_earlier p.done part (λ e. n (omega (arith, p.counted, p.emptied))) in
+            passed_part (rw none (k ∙ p.emptied)) (rw none (l ∙ p.grouped))

@@ -1,7 +1,6 @@
 // The parts of a body: how many there are, and where the first empty one and the last begin.
 ghost use Rattle.std.specs.Prelude.{◌≡◌};
-ghost use Rattle.bytes_number.specs.Lent.{was};
-ghost use Rattle.frame_parts.specs.WorkingCounting.{countingOf};
+ghost use Rattle.frame_parts.specs.WorkingCounting.{counting_of};
 
 use frame_part_size::{Size, size_at};
 use refusal::Refusal;
@@ -25,7 +24,7 @@ pub enum Counting {
 
 // The parts of a body, counted as they come. One more than most is refused before its size is read.
 pub fn count_parts(body: &[u8], most: usize) -> Counting
-    ensures { result ≡ countingOf most (was body) }
+    ensures { result ≡ counting_of most body.now }
 {
     let mut at: usize = 0;
     let mut count: usize = 0;

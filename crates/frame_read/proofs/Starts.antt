@@ -8,10 +8,10 @@ use borrow.Author.Tests.{eq-eqb, ne_eqb}
 use lib.Dec.{eqb}
 use lib.ListN.{get_or}
 use Rattle.bytes_number.specs.Number.{number, Bytes}
-use Rattle.bytes_number.proofs.Numbers.{bytes-at}
-use Rattle.bytes_number.proofs.Truth.{true-false}
-use Rattle.frame_message.proofs.Frames.{start-four}
-use Rattle.frame_message.specs.Reading.{startsRight}
+use Rattle.bytes_number.proofs.Numbers.{bytes_at}
+use Rattle.bytes_number.proofs.Truth.{true_false}
+use Rattle.frame_message.proofs.Frames.{start_four}
+use Rattle.frame_message.specs.Reading.{starts_right}
 
 -- four bytes, and the number that they are
 module _ (n p q r t : ℕ) (bq : q < 256) (br : r < 256) (bt : t < 256) (is : n ≡ p * 16777216 + q * 65536 + r * 256 + t) where
@@ -22,11 +22,11 @@ module _ (n p q r t : ℕ) (bq : q < 256) (br : r < 256) (bt : t < 256) (is : n 
   start_is = go each refl
     where
       go : (all : Bool) → each ≡ all → eqb n 4293787666 ≡ all
-      go true e = eq-eqb n 4293787666 (is ∙ ap number (start-four p q r t e))
+      go true e = eq-eqb n 4293787666 (is ∙ ap number (start_four p q r t e))
       go false e =
           ne_eqb n 4293787666 (λ (k : n ≡ 4293787666).
           let same : each ≡ true = rw (eq-eqb p 255 (omega arith), eq-eqb q 238 (omega arith), eq-eqb r 0 (omega arith), eq-eqb t 18 (omega arith)) in
-          true-false (sym same ∙ e))
+          true_false (sym same ∙ e))
 
-pub start-tested : (b : List ℕ) → Bytes b → (n : ℕ) → n ≡ number b → eqb n 4293787666 ≡ startsRight b
-start-tested b bytes n is = start_is n (get_or b 0 0) (get_or b 1 0) (get_or b 2 0) (get_or b 3 0) (bytes-at b 1 bytes) (bytes-at b 2 bytes) (bytes-at b 3 bytes) is
+pub start_tested : (b : List ℕ) → Bytes b → (n : ℕ) → n ≡ number b → eqb n 4293787666 ≡ starts_right b
+start_tested b bytes n is = start_is n (get_or b 0 0) (get_or b 1 0) (get_or b 2 0) (get_or b 3 0) (bytes_at b 1 bytes) (bytes_at b 2 bytes) (bytes_at b 3 bytes) is

@@ -1,9 +1,8 @@
 // The reader: says where the parts of a framed message lie in the caller's bytes, or why there is no message. It copies nothing.
 ghost use Rattle.std.specs.Prelude.{◌≡◌};
-ghost use Rattle.bytes_number.specs.Lent.{was};
-ghost use Rattle.frame_message.specs.Reading.{startsRight, reading_of};
-ghost use Rattle.frame_layout.specs.WorkingPlacing.{readAs};
-ghost use Rattle.frame_read.specs.WorkingFront.{noBody, FrontOf};
+ghost use Rattle.frame_message.specs.Reading.{starts_right, reading_of};
+ghost use Rattle.frame_layout.specs.WorkingPlacing.{read_as};
+ghost use Rattle.frame_read.specs.WorkingFront.{no_body, FrontOf};
 
 use frame_layout::Reading;
 use frame_message::FRONT;
@@ -11,7 +10,7 @@ use refusal::Refusal;
 
 // Whether a frame's four bytes stand in front. They are compared as one number, FF EE 00 12.
 fn starts_right(bytes: &[u8]) -> bool
-    ensures { result ≡ startsRight (was bytes) }
+    ensures { result ≡ starts_right bytes.now }
 {
     bytes_number::number_at(bytes, 0) == frame_message::START
 }
@@ -24,14 +23,14 @@ pub struct Front {
 }
 
 fn no_body(why: Refusal) -> Front
-    ensures { result ≡ noBody why }
+    ensures { result ≡ no_body why }
 {
     Front { end: 0, why }
 }
 
 // 1, 2 and 3: looks for the body of the frame at the front of bytes.
 pub fn find_body(bytes: &[u8]) -> Front
-    ensures { FrontOf (was bytes) result }
+    ensures { FrontOf bytes.now result }
 {
     if bytes.len() < FRONT {
         return no_body(Refusal::InputShort);
@@ -56,7 +55,7 @@ pub fn find_body(bytes: &[u8]) -> Front
 
 // Reads the frame at the front of bytes. What lies behind it is ignored.
 pub fn read(bytes: &[u8]) -> Reading
-    ensures { result ≡ readAs (reading_of (was bytes)) }
+    ensures { result ≡ read_as (reading_of bytes.now) }
 {
     let front = find_body(bytes);
     let end = front.end;

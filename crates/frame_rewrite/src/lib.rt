@@ -1,15 +1,14 @@
 // A frame changed where it lies: a part put in front of its body, bytes taken from there, or the end of its body replaced by a header. Behind the
 // new frame everything is cleared, to the end of the buffer.
 ghost use Rattle.std.specs.Prelude.{◌≡◌, ◌+◌, ◌≤◌, ◌<◌, length};
-ghost use Rattle.bytes_number.specs.Lent.{was};
-ghost use Rattle.frame_rewrite.specs.WorkingRenewed.{bodyIn, renewed, withPart, withoutFront, withHeader};
+ghost use Rattle.frame_rewrite.specs.WorkingRenewed.{body_in, renewed, with_part, without_front, with_header};
 
 use frame_message::{FRONT, Header};
 
 // The eight bytes in front of a body that is in its place, and zeros behind it.
 fn renew(buffer: &mut [u8], size: usize)
     requires { (8 + size ≤ length buffer.old) × (size < 4294967296) }
-    ensures { buffer.new ≡ renewed (bodyIn size (was buffer)) (was buffer) }
+    ensures { buffer.new ≡ renewed (body_in size buffer.old) buffer.old }
 {
     bytes_number::put_row(buffer, &[frame_message::START as usize, size]);
     let end = FRONT + size;
@@ -18,7 +17,7 @@ fn renew(buffer: &mut [u8], size: usize)
 
 // Puts a part of less than 255 bytes in front of a body of so many bytes, if there is room for it.
 pub fn put_part(buffer: &mut [u8], size: usize, part: &[u8])
-    ensures { buffer.new ≡ withPart (was part) size (was buffer) }
+    ensures { buffer.new ≡ with_part part.now size buffer.old }
 {
     let n = part.len();
     if n < 255 {
@@ -36,7 +35,7 @@ pub fn put_part(buffer: &mut [u8], size: usize, part: &[u8])
 
 // Takes the first n bytes from a body of so many bytes.
 pub fn take_front(buffer: &mut [u8], n: usize, size: usize)
-    ensures { buffer.new ≡ withoutFront n size (was buffer) }
+    ensures { buffer.new ≡ without_front n size buffer.old }
 {
     if size <= frame_message::MOST_BODY {
         if n <= size {
@@ -51,7 +50,7 @@ pub fn take_front(buffer: &mut [u8], n: usize, size: usize)
 
 // Puts a header behind the first so many bytes of a body, if there is room for it.
 pub fn put_header(buffer: &mut [u8], size: usize, header: Header)
-    ensures { buffer.new ≡ withHeader header size (was buffer) }
+    ensures { buffer.new ≡ with_header header size buffer.old }
 {
     if size <= frame_message::MOST_BODY {
         let headed = size + frame_message::HEADER_PART;

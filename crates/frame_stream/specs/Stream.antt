@@ -20,40 +20,40 @@ pub record Stream : Type 0 where
   pub stop : ℕ
 
 -- it stops at a place, with no frame more
-abbrev pub stopsAt : ℕ → Refusal → Stream
-stopsAt at r = record { frames = []; stopped = r; stop = at }
+abbrev pub stops_at : ℕ → Refusal → Stream
+stops_at at r = record { frames = []; stopped = r; stop = at }
 
 -- a frame that starts at a place, and the stream behind it
-abbrev pub frameThen : ℕ → ℕ → Stream → Stream
-frameThen at taken behind = record { frames = record { start = at; len = taken } ∷ behind.frames; stopped = behind.stopped; stop = behind.stop }
+abbrev pub frame_then : ℕ → ℕ → Stream → Stream
+frame_then at taken behind = record { frames = record { start = at; len = taken } ∷ behind.frames; stopped = behind.stopped; stop = behind.stop }
 
 -- "until the first refusal": what comes of the single reader's answer at a place; a good frame hands on how many bytes it took
-abbrev pub afterReading : ℕ → (ℕ → Stream) → Answer Message → Stream
-afterReading at goOn (refused r) = stopsAt at r
-afterReading at goOn (answered m) = goOn (layout_of m).taken
+abbrev pub after_reading : ℕ → (ℕ → Stream) → Answer Message → Stream
+after_reading at go_on (refused r) = stops_at at r
+after_reading at go_on (answered m) = go_on (layout_of m).taken
 
 -- "The outcome equals the single reader called again on what remains": from a place on, with what remains there, and room for so many frames more.
 -- "With no room for 8 more it stops with 11 at the next good frame."
-unfoldable pub streamFrom : ℕ → ℕ → List ℕ → Stream
-streamFrom zero at rest = afterReading at (λ taken. stopsAt at OutputShort) (reading_of rest)
-streamFrom (suc room) at rest = afterReading at (λ taken. frameThen at taken (streamFrom room (at + taken) (drop taken rest))) (reading_of rest)
+unfoldable pub stream_from : ℕ → ℕ → List ℕ → Stream
+stream_from zero at rest = after_reading at (λ taken. stops_at at OutputShort) (reading_of rest)
+stream_from (suc room) at rest = after_reading at (λ taken. frame_then at taken (stream_from room (at + taken) (drop taken rest))) (reading_of rest)
 
 -- "Bytes past the first 1,048,576 count as absent."
-abbrev pub mostInput : ℕ
-mostInput = 1048576
+abbrev pub most_input : ℕ
+most_input = 1048576
 
 abbrev pub seen : List ℕ → List ℕ
-seen bytes = take mostInput bytes
+seen bytes = take most_input bytes
 
 -- bytes of an entry: "start and length, 4 bytes each"
-abbrev pub entrySize : ℕ
-entrySize = 8
+abbrev pub entry_size : ℕ
+entry_size = 8
 
 -- the whole stream; room is the list's length
-unfoldable pub streamOf : ℕ → List ℕ → Stream
-streamOf room bytes = streamFrom (room / entrySize) 0 (seen bytes)
+unfoldable pub stream_of : ℕ → List ℕ → Stream
+stream_of room bytes = stream_from (room / entry_size) 0 (seen bytes)
 
 -- the numbers of the list: each frame's start, then its length
-abbrev pub listRow : List Entry → List ℕ
-listRow [] = []
-listRow (p ∷ ps) = p.start ∷ p.len ∷ listRow ps
+abbrev pub list_row : List Entry → List ℕ
+list_row [] = []
+list_row (p ∷ ps) = p.start ∷ p.len ∷ list_row ps

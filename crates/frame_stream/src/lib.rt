@@ -1,7 +1,6 @@
 // Many frames in one read: the single reader, called again on what remains. It lists where each whole frame lies, and copies nothing of them.
 ghost use Rattle.std.specs.Prelude.{◌≡◌, min, ◌/◌, length};
-ghost use Rattle.bytes_number.specs.Lent.{was};
-ghost use Rattle.frame_stream.specs.Stream.{mostInput, entrySize, streamFrom, streamOf};
+ghost use Rattle.frame_stream.specs.Stream.{most_input, entry_size, stream_from, stream_of};
 ghost use Rattle.frame_stream.specs.WorkingStream.{Streams};
 
 use frame_layout::Reading;
@@ -23,7 +22,7 @@ pub struct Stopped {
 
 // Lists the frames of an input of any length. Where the list is full, 11 comes only at a frame that is good.
 fn frames_in(bytes: &[u8], list: &mut [u8]) -> Stopped
-    ensures { Streams (streamFrom (length (was list) / entrySize) 0 (was bytes)) (was list) result list.new }
+    ensures { Streams (stream_from (length list.old / entry_size) 0 bytes.now) list.old result list.new }
 {
     let mut start = 0;
     let mut entries = 0;
@@ -56,14 +55,14 @@ fn frames_in(bytes: &[u8], list: &mut [u8]) -> Stopped
 
 // Where an input of so many bytes ends: what lies behind counts as absent.
 fn end_of_input(size: usize) -> usize
-    ensures { result ≡ min mostInput size }
+    ensures { result ≡ min most_input size }
 {
     if MOST_INPUT < size { MOST_INPUT } else { size }
 }
 
 // Lists start and length of each whole frame in bytes, one behind another, until the first refusal; the input's end is one too.
 pub fn list_frames(bytes: &[u8], list: &mut [u8]) -> Stopped
-    ensures { Streams (streamOf (length (was list)) (was bytes)) (was list) result list.new }
+    ensures { Streams (stream_of (length list.old) bytes.now) list.old result list.new }
 {
     let end = end_of_input(bytes.len());
     frames_in(&bytes[..end], list)

@@ -1,11 +1,10 @@
 // The part that holds a topic.
 ghost use Rattle.std.specs.Prelude.{◌≡◌};
-ghost use Rattle.bytes_number.specs.Lent.{was};
-ghost use Rattle.frame_message.specs.Reading.{isTopicPart};
+ghost use Rattle.frame_message.specs.Reading.{is_topic_part};
 
 // Whether a part holds a topic with its zero byte.
 pub fn is_topic_part(p: &[u8]) -> bool
-    ensures { result ≡ isTopicPart (was p) }
+    ensures { result ≡ is_topic_part p.now }
 {
     if p.len() == 0 {
         return false;

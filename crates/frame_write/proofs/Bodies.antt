@@ -7,11 +7,11 @@ use native.Mathlib.Omega.{arith}
 use lib.ListN.{length, length-append}
 use Rattle.bytes_number.specs.Number.{four}
 use Rattle.frame_message.specs.declared.Header.{Header}
-use Rattle.frame_message.specs.Header.{hasTopic, hasPayload, hasRoute, headerBytes}
+use Rattle.frame_message.specs.Header.{has_topic, has_payload, has_route, header_bytes}
 use Rattle.frame_message.specs.Message.{Message}
-use Rattle.frame_message.specs.Frame.{partBytes, joined, partIf, groupIf, body_of, frame_of}
-use Rattle.frame_message.specs.Writing.{cut, givenMessage}
-use Rattle.frame_write_check.proofs.Bodies.{body-parts, frame-length}
+use Rattle.frame_message.specs.Frame.{part_bytes, joined, part_if, group_if, body_of, frame_of}
+use Rattle.frame_message.specs.Writing.{cut, given_message}
+use Rattle.frame_write_check.proofs.Bodies.{body_parts, frame_length_lem}
 
 -- bytes that fit with others behind them fit
 pub front_fits : (w x : List ℕ) {n : ℕ} → length (w ++ x) ≤ n → length w ≤ n
@@ -19,25 +19,25 @@ front_fits w x h = omega (arith, length-append w x)
 
 -- an output of n bytes has room for the body of what is given
 pub record Room (h : Header) (routes topic payload : List ℕ) (n : ℕ) : Type 0 where
-  pub body : length (body_of (givenMessage h routes topic payload)) ≤ n
+  pub body : length (body_of (given_message h routes topic payload)) ≤ n
 
 -- and so for the parts up to each of them; r, t and p say which flags are set
-module _ {h : Header} {routes topic payload : List ℕ} {n : ℕ} (room : Room h routes topic payload n) {r t p : Bool} (er : r ≡ hasRoute h.flags) (et : t ≡ hasTopic h.flags) (ep : p ≡ hasPayload h.flags) where
-  pub header-fits : length (joined (groupIf r (cut routes)) ++ joined (partIf t (topic ++ (0 ∷ []))) ++ joined (partIf p payload) ++ partBytes (headerBytes h)) ≤ n
-  header-fits = rw (body-parts h routes topic payload er et ep) at room.body
+module _ {h : Header} {routes topic payload : List ℕ} {n : ℕ} (room : Room h routes topic payload n) {r t p : Bool} (er : r ≡ has_route h.flags) (et : t ≡ has_topic h.flags) (ep : p ≡ has_payload h.flags) where
+  pub header_fits : length (joined (group_if r (cut routes)) ++ joined (part_if t (topic ++ (0 ∷ []))) ++ joined (part_if p payload) ++ part_bytes (header_bytes h)) ≤ n
+  header_fits = rw (body_parts h routes topic payload er et ep) at room.body
 
-  pub payload-fits : length (joined (groupIf r (cut routes)) ++ joined (partIf t (topic ++ (0 ∷ []))) ++ joined (partIf p payload)) ≤ n
-  payload-fits = front_fits (joined (groupIf r (cut routes)) ++ joined (partIf t (topic ++ (0 ∷ []))) ++ joined (partIf p payload)) (partBytes (headerBytes h)) header-fits
+  pub payload_fits : length (joined (group_if r (cut routes)) ++ joined (part_if t (topic ++ (0 ∷ []))) ++ joined (part_if p payload)) ≤ n
+  payload_fits = front_fits (joined (group_if r (cut routes)) ++ joined (part_if t (topic ++ (0 ∷ []))) ++ joined (part_if p payload)) (part_bytes (header_bytes h)) header_fits
 
-  pub topic-fits : length (joined (groupIf r (cut routes)) ++ joined (partIf t (topic ++ (0 ∷ [])))) ≤ n
-  topic-fits = front_fits (joined (groupIf r (cut routes)) ++ joined (partIf t (topic ++ (0 ∷ [])))) (joined (partIf p payload)) payload-fits
+  pub topic_fits : length (joined (group_if r (cut routes)) ++ joined (part_if t (topic ++ (0 ∷ [])))) ≤ n
+  topic_fits = front_fits (joined (group_if r (cut routes)) ++ joined (part_if t (topic ++ (0 ∷ [])))) (joined (part_if p payload)) payload_fits
 
-  pub group-fits : length (joined (groupIf r (cut routes))) ≤ n
-  group-fits = front_fits (joined (groupIf r (cut routes))) (joined (partIf t (topic ++ (0 ∷ [])))) topic-fits
+  pub group_fits : length (joined (group_if r (cut routes))) ≤ n
+  group_fits = front_fits (joined (group_if r (cut routes))) (joined (part_if t (topic ++ (0 ∷ [])))) topic_fits
 
 -- its four bytes FF EE 00 12 are those of one number
-pub frame-bytes : (m : Message) (n : ℕ) → n ≡ length (frame_of m) → four 4293787666 ++ four (n - 8) ++ body_of m ≡ frame_of m
+pub frame_bytes : (m : Message) (n : ℕ) → n ≡ length (frame_of m) → four 4293787666 ++ four (n - 8) ++ body_of m ≡ frame_of m
 unfolding frame_of
-frame-bytes m n h =
-    let e : n - 8 ≡ length (body_of m) = omega (arith, frame-length m) in
+frame_bytes m n h =
+    let e : n - 8 ≡ length (body_of m) = omega (arith, frame_length_lem m) in
     rw e

@@ -1,8 +1,7 @@
 // The parts of a body, in their order. Each helper is lent the rest of the output, has the part-writer lay its parts over the front of that
 // and tells how many bytes they are, so that the next helper can be lent what follows. What lies behind the bytes stays as it was.
 ghost use Rattle.std.specs.Prelude.{◌≡◌, ◌∷◌, [], ◌++◌, ◌<◌, ◌≤◌, ◌%◌, length};
-ghost use Rattle.bytes_number.specs.Lent.{was};
-ghost use Rattle.frame_message.specs.Frame.{joined, partIf, groupIf};
+ghost use Rattle.frame_message.specs.Frame.{joined, part_if, group_if};
 ghost use Rattle.frame_message.specs.Writing.{cut};
 ghost use Rattle.bytes_number.specs.WorkingLays.{Lays};
 
@@ -15,7 +14,7 @@ const TOPIC: usize = 256;
 fn write_routes(out: &mut [u8], routes: &[u8]) -> usize
     requires routes_len { length routes.now % 37 ≡ 0 }
     requires routes_in_bounds { length (joined (cut routes.now)) ≤ length out.old }
-    ensures { Lays (joined (cut (was routes))) (was out) out.new result }
+    ensures { Lays (joined (cut routes.now)) out.old out.new result }
 {
     let mut at = 0;
     let mut i = 0;
@@ -29,8 +28,8 @@ fn write_routes(out: &mut [u8], routes: &[u8]) -> usize
 // The routing group, where there is one: the routes, and the delimiter, which is a part with no data.
 pub(crate) fn write_group(out: &mut [u8], given: bool, routes: &[u8]) -> usize
     requires routes_len { length routes.now % 37 ≡ 0 }
-    requires routes_in_bounds { length (joined (groupIf given (cut routes.now))) ≤ length out.old }
-    ensures { Lays (joined (groupIf given (cut (was routes)))) (was out) out.new result }
+    requires routes_in_bounds { length (joined (group_if given (cut routes.now))) ≤ length out.old }
+    ensures { Lays (joined (group_if given (cut routes.now))) out.old out.new result }
 {
     if given {
         let at = write_routes(out, routes);
@@ -43,7 +42,7 @@ pub(crate) fn write_group(out: &mut [u8], given: bool, routes: &[u8]) -> usize
 // Lays the topic and the zero byte that ends it over the front of an array, and tells how many bytes they are.
 fn hold_topic(held: &mut [u8], topic: &[u8]) -> usize
     requires { length topic.now < length held.old }
-    ensures { Lays (was topic ++ (0 ∷ [])) (was held) held.new result }
+    ensures { Lays (topic.now ++ (0 ∷ [])) held.old held.new result }
 {
     let end = topic.len();
     bytes_copy::copy(topic, held);
@@ -54,8 +53,8 @@ fn hold_topic(held: &mut [u8], topic: &[u8]) -> usize
 // The topic, where there is one. Its zero byte is not in the caller's slice, so the two stand in an array first.
 pub(crate) fn write_topic(out: &mut [u8], given: bool, topic: &[u8]) -> usize
     requires topic_len_bound { length topic.now ≤ 255 }
-    requires topic_in_bounds { length (joined (partIf given (topic.now ++ (0 ∷ [])))) ≤ length out.old }
-    ensures { Lays (joined (partIf given (was topic ++ (0 ∷ [])))) (was out) out.new result }
+    requires topic_in_bounds { length (joined (part_if given (topic.now ++ (0 ∷ [])))) ≤ length out.old }
+    ensures { Lays (joined (part_if given (topic.now ++ (0 ∷ [])))) out.old out.new result }
 {
     if given {
         let mut held = [0u8; TOPIC];
@@ -68,8 +67,8 @@ pub(crate) fn write_topic(out: &mut [u8], given: bool, topic: &[u8]) -> usize
 
 // The payload, where there is one.
 pub(crate) fn write_payload(out: &mut [u8], given: bool, payload: &[u8]) -> usize
-    requires { length (joined (partIf given payload.now)) ≤ length out.old }
-    ensures { Lays (joined (partIf given (was payload))) (was out) out.new result }
+    requires { length (joined (part_if given payload.now)) ≤ length out.old }
+    ensures { Lays (joined (part_if given payload.now)) out.old out.new result }
 {
     if given { write_part(out, payload) } else { 0 }
 }

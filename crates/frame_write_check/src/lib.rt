@@ -1,10 +1,9 @@
 // What the writer refuses, in the paper's order, before it writes anything.
 ghost use Rattle.std.specs.Prelude.{◌≡◌, true, false, ◌&&◌, not, length};
-ghost use Rattle.bytes_number.specs.Lent.{was};
-ghost use Rattle.frame_message.specs.Header.{hasTopic, partsFit};
-ghost use Rattle.frame_forms.specs.Forms.{isTopic};
-ghost use Rattle.frame_message.specs.Writing.{partsGivenFit, routesGood, cut, writingInto, givenMessage};
-ghost use Rattle.frame_message.specs.Working.{writtenAs};
+ghost use Rattle.frame_message.specs.Header.{has_topic, parts_fit};
+ghost use Rattle.frame_forms.specs.Forms.{is_topic};
+ghost use Rattle.frame_message.specs.Writing.{parts_given_fit, routes_good, cut, writing_into, given_message};
+ghost use Rattle.frame_message.specs.Working.{written_as};
 ghost use Rattle.frame_write_check.specs.Working.{measured};
 
 use frame_message::{FRONT, Header, Written};
@@ -14,7 +13,7 @@ mod length;
 
 // Whether there is a topic that is not of the form.
 fn topic_wrong(flags: u8, topic: &[u8]) -> bool
-    ensures { result ≡ (hasTopic flags && not (isTopic (was topic))) }
+    ensures { result ≡ (has_topic flags && not (is_topic topic.now)) }
 {
     if frame_flags::has_topic(flags) {
         !frame_forms::is_topic(topic)
@@ -25,10 +24,10 @@ fn topic_wrong(flags: u8, topic: &[u8]) -> bool
 
 // 3 and 11, of a message that 6 to 10 let through. A payload above 32,768 bytes makes a body above that, and is not added up.
 fn measure(header: Header, routes: &[u8], topic: &[u8], payload: &[u8], room: usize) -> Written
-    requires payload_value { (partsFit header && partsGivenFit (givenMessage header routes.now topic.now payload.now)) ≡ true }
-    requires routes_value { routesGood (cut routes.now) ≡ true }
-    requires topic_value { (hasTopic header.flags && not (isTopic topic.now)) ≡ false }
-    ensures { result ≡ writtenAs (measured room (givenMessage header (was routes) (was topic) (was payload))) }
+    requires payload_value { (parts_fit header && parts_given_fit (given_message header routes.now topic.now payload.now)) ≡ true }
+    requires routes_value { routes_good (cut routes.now) ≡ true }
+    requires topic_value { (has_topic header.flags && not (is_topic topic.now)) ≡ false }
+    ensures { result ≡ written_as (measured room (given_message header routes.now topic.now payload.now)) }
 {
     if frame_message::MOST_BODY < payload.len() {
         return Written::Refused(Refusal::BodyLong);
@@ -53,7 +52,7 @@ pub fn check_message(
     payload: &[u8],
     room: usize,
 ) -> Written
-    ensures { result ≡ writtenAs (writingInto room (givenMessage header (was routes) (was topic) (was payload))) }
+    ensures { result ≡ written_as (writing_into room (given_message header routes.now topic.now payload.now)) }
 {
     let typed = frame_header_rules::is_type(header.kind);
     let clear = frame_header_rules::are_flags(header.flags);

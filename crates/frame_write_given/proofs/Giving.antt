@@ -8,27 +8,27 @@ use lib.Dec.{eqb}
 use lib.ListN.{length}
 use borrow.Author.Tests.{eq-eqb, ne_eqb, eqb-true}
 use Rattle.frame_message.specs.declared.Header.{Header}
-use Rattle.frame_message.specs.Header.{hasTopic, hasPayload, hasRoute, partsFit}
-use Rattle.frame_message.specs.Writing.{is_empty, partsGivenFit, givenMessage}
-use Rattle.frame_write_given.proofs.Cuts.{cut-empty}
+use Rattle.frame_message.specs.Header.{has_topic, has_payload, has_route, parts_fit}
+use Rattle.frame_message.specs.Writing.{is_empty, parts_given_fit, given_message}
+use Rattle.frame_write_given.proofs.Cuts.{cut_empty}
 
-empty-length : (xs : List ℕ) → eqb (length xs) 0 ≡ is_empty xs
-empty-length [] = refl
-empty-length (x ∷ xs) = ne_eqb (suc (length xs)) 0 (λ (e : suc (length xs) ≡ 0). omega arith)
+empty_length : (xs : List ℕ) → eqb (length xs) 0 ≡ is_empty xs
+empty_length [] = refl
+empty_length (x ∷ xs) = ne_eqb (suc (length xs)) 0 (λ (e : suc (length xs) ≡ 0). omega arith)
 
 -- an empty part may be given, and one that is not where its flag is set
-pub given-empty : (flag : Bool) (xs : List ℕ) → length xs ≡ 0 → true ≡ (flag || is_empty xs)
-given-empty true xs e = refl
-given-empty false xs e = sym (sym (empty-length xs) ∙ eq-eqb (length xs) 0 e)
+pub given_empty : (flag : Bool) (xs : List ℕ) → length xs ≡ 0 → true ≡ (flag || is_empty xs)
+given_empty true xs e = refl
+given_empty false xs e = sym (sym (empty_length xs) ∙ eq-eqb (length xs) 0 e)
 
-pub given-full : (flag : Bool) (xs : List ℕ) → 0 < length xs → flag ≡ (flag || is_empty xs)
-given-full true xs h = refl
-given-full false xs h = sym (sym (empty-length xs) ∙ ne_eqb (length xs) 0 (λ (e : length xs ≡ 0). omega arith))
+pub given_full : (flag : Bool) (xs : List ℕ) → 0 < length xs → flag ≡ (flag || is_empty xs)
+given_full true xs h = refl
+given_full false xs h = sym (sym (empty_length xs) ∙ ne_eqb (length xs) 0 (λ (e : length xs ≡ 0). omega arith))
 
-pub is-empty : (xs : List ℕ) → is_empty xs ≡ true → length xs ≡ 0
-is-empty xs e = eqb-true (length xs) 0 (empty-length xs ∙ e)
+pub is_empty_lem : (xs : List ℕ) → is_empty xs ≡ true → length xs ≡ 0
+is_empty_lem xs e = eqb-true (length xs) 0 (empty_length xs ∙ e)
 
 -- r, t and p say which flags are set, f whether they fit the type
-pub agrees : (h : Header) (routes topic payload : List ℕ) {f r t p a b c : Bool} → f ≡ partsFit h → r ≡ hasRoute h.flags → t ≡ hasTopic h.flags → p ≡ hasPayload h.flags → a ≡ (r || is_empty routes) → b ≡ (t || is_empty topic) → c ≡ (p || is_empty payload) → (f && (a && (b && c))) ≡ (partsFit h && partsGivenFit (givenMessage h routes topic payload))
-unfolding partsGivenFit givenMessage
-agrees h routes topic payload ef er et ep ea eb ec = rw (ea, eb, ec, ef, er, et, ep, cut-empty)
+pub agrees : (h : Header) (routes topic payload : List ℕ) {f r t p a b c : Bool} → f ≡ parts_fit h → r ≡ has_route h.flags → t ≡ has_topic h.flags → p ≡ has_payload h.flags → a ≡ (r || is_empty routes) → b ≡ (t || is_empty topic) → c ≡ (p || is_empty payload) → (f && (a && (b && c))) ≡ (parts_fit h && parts_given_fit (given_message h routes topic payload))
+unfolding parts_given_fit given_message
+agrees h routes topic payload ef er et ep ea eb ec = rw (ea, eb, ec, ef, er, et, ep, cut_empty)

@@ -1,8 +1,7 @@
 // Whether the parts that the writer is given fit: whether they agree with the header, and whether the routes are of their form.
 ghost use Rattle.std.specs.Prelude.{◌≡◌, ◌&&◌, ◌||◌};
-ghost use Rattle.bytes_number.specs.Lent.{was};
-ghost use Rattle.frame_message.specs.Header.{partsFit};
-ghost use Rattle.frame_message.specs.Writing.{is_empty, partsGivenFit, routesGood, cut, givenMessage};
+ghost use Rattle.frame_message.specs.Header.{parts_fit};
+ghost use Rattle.frame_message.specs.Writing.{is_empty, parts_given_fit, routes_good, cut, given_message};
 
 use frame_message::Header;
 
@@ -11,7 +10,7 @@ const MOST_ROUTE_BYTES: usize = frame_message::MOST_ROUTES * frame_forms::ROUTE;
 
 // Whether a part may be given: it is empty, or its flag is set.
 fn may_be_given(flag: bool, part: &[u8]) -> bool
-    ensures { result ≡ (flag || is_empty (was part)) }
+    ensures { result ≡ (flag || is_empty part.now) }
 {
     if part.len() == 0 {
         return true;
@@ -21,7 +20,7 @@ fn may_be_given(flag: bool, part: &[u8]) -> bool
 
 // Whether the flags fit the type and no part is given without its flag.
 pub fn parts_agree(header: Header, routes: &[u8], topic: &[u8], payload: &[u8]) -> bool
-    ensures { result ≡ (partsFit header && partsGivenFit (givenMessage header (was routes) (was topic) (was payload))) }
+    ensures { result ≡ (parts_fit header && parts_given_fit (given_message header routes.now topic.now payload.now)) }
 {
     let flags = header.flags;
     if !frame_header_rules::parts_fit(header) {
@@ -38,7 +37,7 @@ pub fn parts_agree(header: Header, routes: &[u8], topic: &[u8], payload: &[u8]) 
 
 // Whether there are at most 64 routes of 37 bytes, and each is of the form.
 pub fn routes_good(routes: &[u8]) -> bool
-    ensures { result ≡ routesGood (cut (was routes)) }
+    ensures { result ≡ routes_good (cut routes.now) }
 {
     if MOST_ROUTE_BYTES < routes.len() {
         return false;

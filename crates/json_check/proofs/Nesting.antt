@@ -12,45 +12,45 @@ use lib.ListN.{length, drop, get_or}
 use Rattle.json_scan.specs.declared.Verdict.{Verdict}
 use Rattle.json_scan.specs.declared.Verdict.TheVariants.{TooDeep}
 use Rattle.json_scan.specs.declared.Token.{Token}
-use Rattle.json_scan.specs.Scan.{isWhite, Kind, inObject, in_array, firstName, firstValue, name, value, behind, State, between, text, to, valueStep, behindStep, tokenMove, betweenMove, move_of, goOn, scan}
-use Rattle.json_scan.specs.WorkingReads.{Came, Behind, Stopped, Deeper, resumed, valueBy, ReadsOn}
-use Rattle.json_scan.proofs.Scanning.{scan-at, go_on, go-deeper}
-use Rattle.json_scan.proofs.Reading.{Fails, scan-alike}
-use Rattle.json_scan.proofs.Settled.{value-place, value-stop, value-deeper}
-use Rattle.json_scan.proofs.White.{TokenAt, token_begins, scan-white, token-further, token-there, token-dark, scan-on}
+use Rattle.json_scan.specs.Scan.{is_white, Kind, in_object, in_array, first_name, first_value, name, value, behind, State, between, text, to, value_step, behind_step, token_move, between_move, move_of, go_on, scan}
+use Rattle.json_scan.specs.WorkingReads.{Came, Behind, Stopped, Deeper, resumed, value_by, ReadsOn}
+use Rattle.json_scan.proofs.Scanning.{scan_at, go_on_lem, go_deeper}
+use Rattle.json_scan.proofs.Reading.{Fails, scan_alike}
+use Rattle.json_scan.proofs.Settled.{value_place, value_stop, value_deeper}
+use Rattle.json_scan.proofs.White.{TokenAt, token_begins, scan_white, token_further, token_there, token_dark, scan_on}
 use Rattle.json_separators.specs.declared.Next.{Next}
 use Rattle.json_separators.specs.declared.Next.TheVariants.{More, Closed, Neither}
 use Rattle.json_separators.specs.WorkingSeparators.{next_of}
-use Rattle.json_separators.proofs.Steps.{closing, again, no-zero-closes}
-use Rattle.json_separators.proofs.Nexts.{next-told}
+use Rattle.json_separators.proofs.Steps.{closing, again, no_zero_closes}
+use Rattle.json_separators.proofs.Nexts.{next_told}
 use Rattle.json_check.specs.WorkingNested.{first, Nests, Opened}
 
 -- ---- bytes
 
 -- the byte that opens it
 abbrev pub opening : Kind → ℕ
-opening inObject = 123
+opening in_object = 123
 opening in_array = 91
 
 opens : (kind : Kind) (around : List Kind) (c : ℕ) → c ≡ opening kind → move_of (between value) around c ≡ to (between (first kind)) (kind ∷ around)
-unfolding move_of betweenMove tokenMove valueStep isWhite
-opens inObject around c e = ap (move_of (between value) around) e
+unfolding move_of between_move token_move value_step is_white
+opens in_object around c e = ap (move_of (between value) around) e
 opens in_array around c e = ap (move_of (between value) around) e
 
 -- at once behind the opening byte: the closing one, or what is due behind a comma
-closes-at-once : (kind : Kind) (around : List Kind) (c : ℕ) → c ≡ closing kind → move_of (between (first kind)) (kind ∷ around) c ≡ to (between behind) around
-unfolding move_of betweenMove tokenMove behindStep isWhite
-closes-at-once inObject around c e = ap (move_of (between firstName) (inObject ∷ around)) e
-closes-at-once in_array around c e = ap (move_of (between firstValue) (in_array ∷ around)) e
+closes_at_once : (kind : Kind) (around : List Kind) (c : ℕ) → c ≡ closing kind → move_of (between (first kind)) (kind ∷ around) c ≡ to (between behind) around
+unfolding move_of between_move token_move behind_step is_white
+closes_at_once in_object around c e = ap (move_of (between first_name) (in_object ∷ around)) e
+closes_at_once in_array around c e = ap (move_of (between first_value) (in_array ∷ around)) e
 
-first-as-again : (kind : Kind) (around : List Kind) (c : ℕ) → isWhite c ≡ false → (c ≡ closing kind → ⊥) → move_of (between (first kind)) around c ≡ move_of (between (again kind)) around c
-unfolding tokenMove
-first-as-again inObject around c d f = token_begins firstName around c d ∙ rw (ne_eqb c 125 f) refl ∙ sym (token_begins name around c d)
-first-as-again in_array around c d f = token_begins firstValue around c d ∙ rw (ne_eqb c 93 f) refl ∙ sym (token_begins value around c d)
+first_as_again : (kind : Kind) (around : List Kind) (c : ℕ) → is_white c ≡ false → (c ≡ closing kind → ⊥) → move_of (between (first kind)) around c ≡ move_of (between (again kind)) around c
+unfolding token_move
+first_as_again in_object around c d f = token_begins first_name around c d ∙ rw (ne_eqb c 125 f) refl ∙ sym (token_begins name around c d)
+first_as_again in_array around c d f = token_begins first_value around c d ∙ rw (ne_eqb c 93 f) refl ∙ sym (token_begins value around c d)
 
-pub begins-text : (around : List Kind) (c : ℕ) → c ≡ 34 → move_of (between value) around c ≡ to (text behind) around
-unfolding move_of betweenMove tokenMove valueStep isWhite
-begins-text around c e = ap (move_of (between value) around) e
+pub begins_text : (around : List Kind) (c : ℕ) → c ≡ 34 → move_of (between value) around c ≡ to (text behind) around
+unfolding move_of between_move token_move value_step is_white
+begins_text around c e = ap (move_of (between value) around) e
 
 -- ---- a run of one byte, from a place where the levels suffice or do not
 
@@ -59,10 +59,10 @@ module _ (most : ℕ) (state : State) (around : List Kind) (bytes : List ℕ) (i
   next state₁ around₁ = scan most state₁ around₁ (i + 1) (drop (i + 1) bytes)
 
   pub leads : (state₁ : State) (around₁ : List Kind) → move_of state around (get_or bytes i 0) ≡ to state₁ around₁ → length around₁ ≤ most → scan most state around i (drop i bytes) ≡ next state₁ around₁
-  leads state₁ around₁ e room = scan-at most state around bytes i l ∙ ap (goOn most i next) e ∙ go_on most i next state₁ around₁ room
+  leads state₁ around₁ e room = scan_at most state around bytes i l ∙ ap (go_on most i next) e ∙ go_on_lem most i next state₁ around₁ room
 
-  leads-deeper : (state₁ : State) (around₁ : List Kind) → move_of state around (get_or bytes i 0) ≡ to state₁ around₁ → most < length around₁ → scan most state around i (drop i bytes) ≡ TooDeep i
-  leads-deeper state₁ around₁ e room = scan-at most state around bytes i l ∙ ap (goOn most i next) e ∙ go-deeper most i next state₁ around₁ room
+  leads_deeper : (state₁ : State) (around₁ : List Kind) → move_of state around (get_or bytes i 0) ≡ to state₁ around₁ → most < length around₁ → scan most state around i (drop i bytes) ≡ TooDeep i
+  leads_deeper state₁ around₁ e room = scan_at most state around bytes i l ∙ ap (go_on most i next) e ∙ go_deeper most i next state₁ around₁ room
 
 -- ---- behind the opening byte
 
@@ -82,66 +82,66 @@ pub record Held (bytes : List ℕ) (room at : ℕ) (kind : Kind) (j : ℕ) : Typ
 
 -- at the first token behind the opening byte
 module _ {bytes : List ℕ} (room : ℕ) {at : ℕ} (kind : Kind) {t : Token} (b : TokenAt bytes at t) where
-  pub nest-closed : t.byte ≡ closing kind → Nests bytes room at kind (Behind (t.at + 1))
-  nest-closed e =
+  pub nest_closed : t.byte ≡ closing kind → Nests bytes room at kind (Behind (t.at + 1))
+  nest_closed e =
       record {
         same = λ around.
-            scan-on b (length (kind ∷ around) + room) (first kind) (kind ∷ around) (between behind) around (omega arith) (omega arith) (token-there b (λ z. no-zero-closes kind z e)) (closes-at-once kind around t.byte e);
-        onward = omega (arith, token-further b);
+            scan_on b (length (kind ∷ around) + room) (first kind) (kind ∷ around) (between behind) around (omega arith) (omega arith) (token_there b (λ z. no_zero_closes kind z e)) (closes_at_once kind around t.byte e);
+        onward = omega (arith, token_further b);
       }
 
-  pub inside-first : (t.byte ≡ closing kind → ⊥) → Inside bytes room at kind t.at
-  inside-first f =
+  pub inside_first : (t.byte ≡ closing kind → ⊥) → Inside bytes room at kind t.at
+  inside_first f =
       record {
         same = λ around.
             let most = length (kind ∷ around) + room in
-            scan-white bytes at t.at b.end most (first kind) (kind ∷ around) (omega arith)
-            ∙ scan-alike bytes t.at most (between (first kind)) (between (again kind)) (kind ∷ around) refl
-            (λ l. ap (move_of (between (first kind)) (kind ∷ around)) (sym b.there) ∙ first-as-again kind (kind ∷ around) t.byte (token-dark b l) f ∙ ap (move_of (between (again kind)) (kind ∷ around)) b.there);
-        onward = token-further b;
+            scan_white bytes at t.at b.end most (first kind) (kind ∷ around) (omega arith)
+            ∙ scan_alike bytes t.at most (between (first kind)) (between (again kind)) (kind ∷ around) refl
+            (λ l. ap (move_of (between (first kind)) (kind ∷ around)) (sym b.there) ∙ first_as_again kind (kind ∷ around) t.byte (token_dark b l) f ∙ ap (move_of (between (again kind)) (kind ∷ around)) b.there);
+        onward = token_further b;
       }
 
 module _ {bytes : List ℕ} {room at : ℕ} {kind : Kind} where
   -- a value was read in it, with its name if it has one
-  pub inside-held : {i j : ℕ} → Inside bytes room at kind i → ReadsOn bytes room i (between (again kind)) (between behind) (Behind j) → Held bytes room at kind j
-  inside-held inside one = record { same = λ around. inside.same around ∙ one.same (kind ∷ around); onward = omega (arith, inside.onward, one.onward) }
+  pub inside_held : {i j : ℕ} → Inside bytes room at kind i → ReadsOn bytes room i (between (again kind)) (between behind) (Behind j) → Held bytes room at kind j
+  inside_held inside one = record { same = λ around. inside.same around ∙ one.same (kind ∷ around); onward = omega (arith, inside.onward, one.onward) }
 
   -- it was not
-  pub inside-failed : {i : ℕ} (r : Came) → Fails r → Inside bytes room at kind i → ReadsOn bytes room i (between (again kind)) (between behind) r → Nests bytes room at kind r
-  inside-failed (Behind j) fails inside one = absurd fails
-  inside-failed (Stopped j) fails inside one = record { same = λ around. inside.same around ∙ one.same (kind ∷ around); onward = omega (arith, inside.onward, one.onward) }
-  inside-failed (Deeper j) fails inside one = record { same = λ around. inside.same around ∙ one.same (kind ∷ around); onward = omega (arith, inside.onward, one.onward) }
+  pub inside_failed : {i : ℕ} (r : Came) → Fails r → Inside bytes room at kind i → ReadsOn bytes room i (between (again kind)) (between behind) r → Nests bytes room at kind r
+  inside_failed (Behind j) fails inside one = absurd fails
+  inside_failed (Stopped j) fails inside one = record { same = λ around. inside.same around ∙ one.same (kind ∷ around); onward = omega (arith, inside.onward, one.onward) }
+  inside_failed (Deeper j) fails inside one = record { same = λ around. inside.same around ∙ one.same (kind ∷ around); onward = omega (arith, inside.onward, one.onward) }
 
   -- what stands behind it
   pub held_more : {j k : ℕ} {r : Next} → r ≡ More k → Held bytes room at kind j → r ≡ next_of (closing kind) bytes j → Inside bytes room at kind k
   held_more {j} e held told =
-      let m = next-told (closing kind) bytes j told e in
+      let m = next_told (closing kind) bytes j told e in
       record { same = λ around. held.same around ∙ m.same kind refl room around; onward = omega (arith, held.onward, m.further.0) }
 
-  pub held-closed : {j k : ℕ} {r : Next} → r ≡ Closed k → Held bytes room at kind j → r ≡ next_of (closing kind) bytes j → Nests bytes room at kind (Behind k)
-  held-closed {j} e held told =
-      let m = next-told (closing kind) bytes j told e in
+  pub held_closed : {j k : ℕ} {r : Next} → r ≡ Closed k → Held bytes room at kind j → r ≡ next_of (closing kind) bytes j → Nests bytes room at kind (Behind k)
+  held_closed {j} e held told =
+      let m = next_told (closing kind) bytes j told e in
       record { same = λ around. held.same around ∙ m.same kind refl room around; onward = omega (arith, held.onward, m.further) }
 
-  pub held-neither : {j k : ℕ} {r : Next} → r ≡ Neither k → Held bytes room at kind j → r ≡ next_of (closing kind) bytes j → Nests bytes room at kind (Stopped k)
-  held-neither {j} e held told =
-      let m = next-told (closing kind) bytes j told e in
+  pub held_neither : {j k : ℕ} {r : Next} → r ≡ Neither k → Held bytes room at kind j → r ≡ next_of (closing kind) bytes j → Nests bytes room at kind (Stopped k)
+  held_neither {j} e held told =
+      let m = next_told (closing kind) bytes j told e in
       record { same = λ around. held.same around ∙ m.same kind refl room around; onward = omega (arith, held.onward, m.further) }
 
 -- ---- a value that is an object or an array
 
 -- with no level left for it, and with some
-pub opened-deeper : {bytes : List ℕ} {room at : ℕ} {kind : Kind} {r : Came} → room ≡ 0 → r ≡ Deeper at → Opened bytes room at kind r
-opened-deeper none e = record { deeper = λ z. e; nests = λ some. absurd (omega (arith, none, some)) }
+pub opened_deeper : {bytes : List ℕ} {room at : ℕ} {kind : Kind} {r : Came} → room ≡ 0 → r ≡ Deeper at → Opened bytes room at kind r
+opened_deeper none e = record { deeper = λ z. e; nests = λ some. absurd (omega (arith, none, some)) }
 
-pub opened-nest : {bytes : List ℕ} {room at : ℕ} {kind : Kind} {r : Came} → 0 < room → Nests bytes (room - 1) (at + 1) kind r → Opened bytes room at kind r
-opened-nest some nests = record { deeper = λ none. absurd (omega (arith, none, some)); nests = λ l. nests }
+pub opened_nest : {bytes : List ℕ} {room at : ℕ} {kind : Kind} {r : Came} → 0 < room → Nests bytes (room - 1) (at + 1) kind r → Opened bytes room at kind r
+opened_nest some nests = record { deeper = λ none. absurd (omega (arith, none, some)); nests = λ l. nests }
 
 module _ {bytes : List ℕ} (kind : Kind) (room at : ℕ) (l : at < length bytes) (e : get_or bytes at 0 ≡ opening kind) where
-  too-deep : room ≡ 0 → ReadsOn bytes room at (between value) (between behind) (Deeper at)
-  too-deep none =
+  too_deep : room ≡ 0 → ReadsOn bytes room at (between value) (between behind) (Deeper at)
+  too_deep none =
       record {
-        same = λ around. leads-deeper (length around + room) (between value) around bytes at l (between (first kind)) (kind ∷ around) (opens kind around (get_or bytes at 0) e) (omega (arith, none));
+        same = λ around. leads_deeper (length around + room) (between value) around bytes at l (between (first kind)) (kind ∷ around) (opens kind around (get_or bytes at 0) e) (omega (arith, none));
         onward = omega arith;
       }
 
@@ -155,35 +155,35 @@ module _ {bytes : List ℕ} (kind : Kind) (room at : ℕ) (l : at < length bytes
           leads (length around + room) (between value) around bytes at l (between (first kind)) (kind ∷ around) (opens kind around (get_or bytes at 0) e) (omega (arith, some))
           ∙ subst (λ (m : ℕ). scan m (between (first kind)) (kind ∷ around) (at + 1) (drop (at + 1) bytes) ≡ resumed bytes (scan m (between behind) around) r) most (nests.same around)
 
-  pub reads-opened : {r : Came} → Opened bytes room at kind r → ReadsOn bytes room at (between value) (between behind) r
-  reads-opened opened =
+  pub reads_opened : {r : Came} → Opened bytes room at kind r → ReadsOn bytes room at (between value) (between behind) r
+  reads_opened opened =
       ⊎_elim
-      (λ t. let none = eqb-true room 0 t in subst (ReadsOn bytes room at (between value) (between behind)) (sym (opened.deeper none)) (too-deep none))
+      (λ t. let none = eqb-true room 0 t in subst (ReadsOn bytes room at (between value) (between behind)) (sym (opened.deeper none)) (too_deep none))
       (λ t. let some : 0 < room = omega (arith, eqb-false room 0 t) in nested some (opened.nests some))
       (outcome (eqb room 0))
 
 -- a comma lies further on, and within the bytes; a closing byte lies behind something
 module _ (close : ℕ) (bytes : List ℕ) (j : ℕ) {k : ℕ} {r : Next} (told : r ≡ next_of close bytes j) where
-  pub more-further : r ≡ More k → (j < k) × (k ≤ length bytes)
-  more-further e = (next-told close bytes j told e).further
+  pub more_further : r ≡ More k → (j < k) × (k ≤ length bytes)
+  more_further e = (next_told close bytes j told e).further
 
-  pub closed-further : r ≡ Closed k → j < k
-  closed-further e = (next-told close bytes j told e).further
+  pub closed_further : r ≡ Closed k → j < k
+  closed_further e = (next_told close bytes j told e).further
 
 -- ---- the same with numbers for how far it came
 
 -- 0 and 1 are no places
-pub value-fails : (r place : ℕ) → r < 2 → Fails (valueBy r place)
-value-fails r place l = ⊎_elim (λ t. subst Fails (sym (value-stop r place (eqb-true r 0 t))) tt) (λ t. subst Fails (sym (value-deeper r place (omega (arith, l, eqb-false r 0 t)))) tt) (outcome (eqb r 0))
+pub value_fails : (r place : ℕ) → r < 2 → Fails (value_by r place)
+value_fails r place l = ⊎_elim (λ t. subst Fails (sym (value_stop r place (eqb-true r 0 t))) tt) (λ t. subst Fails (sym (value_deeper r place (omega (arith, l, eqb-false r 0 t)))) tt) (outcome (eqb r 0))
 
 module _ {bytes : List ℕ} {room at : ℕ} {state next : State} where
-  pub reads-as-placed : (i place : ℕ) → 1 < i → ReadsOn bytes room at state next (valueBy i place) → ReadsOn bytes room at state next (Behind i)
-  reads-as-placed i place l = subst (ReadsOn bytes room at state next) (value-place i place l)
+  pub reads_as_placed : (i place : ℕ) → 1 < i → ReadsOn bytes room at state next (value_by i place) → ReadsOn bytes room at state next (Behind i)
+  reads_as_placed i place l = subst (ReadsOn bytes room at state next) (value_place i place l)
 
 -- an object or an array that was read to its end, or that stopped
 module _ {bytes : List ℕ} {room at : ℕ} {kind : Kind} (some : 0 < room) where
-  pub opened-place : (i place : ℕ) → 1 < i → Nests bytes (room - 1) (at + 1) kind (Behind i) → Opened bytes room at kind (valueBy i place)
-  opened-place i place l nests = opened-nest some (subst (Nests bytes (room - 1) (at + 1) kind) (sym (value-place i place l)) nests)
+  pub opened_place : (i place : ℕ) → 1 < i → Nests bytes (room - 1) (at + 1) kind (Behind i) → Opened bytes room at kind (value_by i place)
+  opened_place i place l nests = opened_nest some (subst (Nests bytes (room - 1) (at + 1) kind) (sym (value_place i place l)) nests)
 
-  pub opened-stop : (r place i : ℕ) → r ≡ 0 → place ≡ i → Nests bytes (room - 1) (at + 1) kind (Stopped i) → Opened bytes room at kind (valueBy r place)
-  opened-stop r place i e is nests = opened-nest some (subst (Nests bytes (room - 1) (at + 1) kind) (ap Stopped (sym is) ∙ sym (value-stop r place e)) nests)
+  pub opened_stop : (r place i : ℕ) → r ≡ 0 → place ≡ i → Nests bytes (room - 1) (at + 1) kind (Stopped i) → Opened bytes room at kind (value_by r place)
+  opened_stop r place i e is nests = opened_nest some (subst (Nests bytes (room - 1) (at + 1) kind) (ap Stopped (sym is) ∙ sym (value_stop r place e)) nests)

@@ -1,18 +1,18 @@
 -- Where a value begins, how far a reader of what is open came, and what the bytes behind the outer object come to.
 use Rattle.std.specs.Prelude.{◌≡◌, false, List, [], ◌∷◌, ℕ, ◌+◌, ◌-◌, ◌<◌, ◌≤◌, length, drop, get_or}
 use Rattle.json_scan.specs.declared.Verdict.{Verdict}
-use Rattle.json_scan.specs.Scan.{isWhite, Kind, inObject, in_array, Due, firstName, firstValue, behind, between, scan}
+use Rattle.json_scan.specs.Scan.{is_white, Kind, in_object, in_array, Due, first_name, first_value, behind, between, scan}
 use Rattle.json_scan.specs.WorkingReads.{Came, Deeper, place_of, resumed}
 
 -- this byte stands there, or a zero behind the end, and it is no white space
 pub record Stands (bytes : List ℕ) (at c : ℕ) : Type 0 where
   pub there : c ≡ get_or bytes at 0
-  pub dark : at < length bytes → isWhite c ≡ false
+  pub dark : at < length bytes → is_white c ≡ false
 
 -- what is due behind the opening byte
 abbrev pub first : Kind → Due
-first inObject = firstName
-first in_array = firstValue
+first in_object = first_name
+first in_array = first_value
 
 -- behind the closing byte it is closed, and it stands behind a value in what is open around it
 pub record Nests (bytes : List ℕ) (room at : ℕ) (kind : Kind) (r : Came) : Type 0 where

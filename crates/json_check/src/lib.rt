@@ -1,9 +1,8 @@
 // Whether a payload is JSON: an object with white space around it and a zero byte behind, at most 32 deep. Value, object and array readers call each
 // other, with the levels that are left falling.
 ghost use Rattle.std.specs.Prelude.{◌≡◌, ◌<◌, length};
-ghost use Rattle.bytes_number.specs.Lent.{was};
-ghost use Rattle.json_scan.specs.Scan.{inObject, in_array, value, behind, between, verdictOf};
-ghost use Rattle.json_scan.specs.WorkingReads.{valueBy, ReadsOn};
+ghost use Rattle.json_scan.specs.Scan.{in_object, in_array, value, behind, between, verdict_of};
+ghost use Rattle.json_scan.specs.WorkingReads.{value_by, ReadsOn};
 ghost use Rattle.json_check.specs.WorkingNested.{Stands, Opened, Ends};
 
 use json_scalar::scalar_end;
@@ -19,7 +18,7 @@ const MOST: u8 = 32;
 #[cycle(array_end_object_end_value_end)]
 fn value_end(bytes: &[u8], at: usize, first: u8, room: u8, place: &mut usize) -> usize
     requires { (1 < at) × Stands bytes.now at first }
-    ensures { ReadsOn (was bytes) room at (between value) (between behind) (valueBy result place.new) }
+    ensures { ReadsOn bytes.now room at (between value) (between behind) (value_by result place.new) }
 {
     if first == b'"' {
         return text_end(bytes, at + 1, place);
@@ -37,7 +36,7 @@ fn value_end(bytes: &[u8], at: usize, first: u8, room: u8, place: &mut usize) ->
 #[cycle(array_end_object_end_value_end)]
 fn object_end(bytes: &[u8], at: usize, room: u8, place: &mut usize) -> usize
     requires { at < length bytes.now }
-    ensures { Opened (was bytes) room at inObject (valueBy result place.new) }
+    ensures { Opened bytes.now room at in_object (value_by result place.new) }
 {
     if room == 0 {
         *place = at;
@@ -76,7 +75,7 @@ fn object_end(bytes: &[u8], at: usize, room: u8, place: &mut usize) -> usize
 #[cycle(array_end_object_end_value_end)]
 fn array_end(bytes: &[u8], at: usize, room: u8, place: &mut usize) -> usize
     requires { (0 < at) × (at < length bytes.now) }
-    ensures { Opened (was bytes) room at in_array (valueBy result place.new) }
+    ensures { Opened bytes.now room at in_array (value_by result place.new) }
 {
     if room == 0 {
         *place = at;
@@ -109,7 +108,7 @@ fn array_end(bytes: &[u8], at: usize, room: u8, place: &mut usize) -> usize
 
 // Behind the outer object: white space and the zero byte, and nothing more.
 fn payload_end(bytes: &[u8], at: usize) -> Verdict
-    ensures { Ends (was bytes) at result }
+    ensures { Ends bytes.now at result }
 {
     let end = white_end(bytes, at);
     if end >= bytes.len() {
@@ -127,7 +126,7 @@ fn payload_end(bytes: &[u8], at: usize) -> Verdict
 
 // Whether a payload is JSON, and if not, at which byte that shows.
 pub fn check_payload(bytes: &[u8]) -> Verdict
-    ensures { result ≡ verdictOf (was bytes) }
+    ensures { result ≡ verdict_of bytes.now }
 {
     let i = white_end(bytes, 0);
     if i >= bytes.len() {

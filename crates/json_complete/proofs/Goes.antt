@@ -6,7 +6,7 @@ use Prim.Native.Nat.{ℕ, zero, suc, ◌≤◌}
 use lib.ListN.{length}
 use Rattle.json_grammar.specs.Language.{Language, byte, range, spelled, nothing, Then, ◌then◌, ◌or◌, perhaps, times, many}
 use Rattle.json_scan.specs.Scan.{Kind, State, to, move_of}
-use Rattle.json_sound.proofs.Reach.{reach, reach-on}
+use Rattle.json_sound.proofs.Reach.{reach, reach_on}
 
 -- whatever comes behind a word
 pub record Any (rest : List ℕ) : Type 0 where
@@ -23,49 +23,49 @@ parts most state around w rest =
 
 module _ {most : ℕ} {after : List ℕ → Type 0} where
   -- what holds whatever comes behind holds here
-  pub goes-any : {rule : Language} {state state₁ : State} {around around₁ : List Kind} → Goes most Any rule state around state₁ around₁ → Goes most after rule state around state₁ around₁
-  goes-any g = record { go = λ word rest w a. g.go word rest w (record {}) }
+  pub goes_any : {rule : Language} {state state₁ : State} {around around₁ : List Kind} → Goes most Any rule state around state₁ around₁ → Goes most after rule state around state₁ around₁
+  goes_any g = record { go = λ word rest w a. g.go word rest w (record {}) }
 
   -- ---- bytes
 
   -- no byte: it stays where it is
-  pub goes-nothing : {state : State} {around : List Kind} → Goes most after nothing state around state around
-  goes-nothing {state} {around} = record { go = λ word rest w a. ap (λ (xs : List ℕ). reach most state around (xs ++ rest)) w }
+  pub goes_nothing : {state : State} {around : List Kind} → Goes most after nothing state around state around
+  goes_nothing {state} {around} = record { go = λ word rest w a. ap (λ (xs : List ℕ). reach most state around (xs ++ rest)) w }
 
   -- a byte and then the other bytes of a spelling
-  pub goes-spelled :
+  pub goes_spelled :
       {x : ℕ} {xs : List ℕ} {state state₁ state₂ : State} {around around₁ around₂ : List Kind} →
       move_of state around x ≡ to state₁ around₁ → length around₁ ≤ most → Goes most after (spelled xs) state₁ around₁ state₂ around₂ → Goes most after (spelled (x ∷ xs)) state around state₂ around₂
-  goes-spelled {x} {xs} {state} {state₁} {state₂} {around} {around₁} {around₂} e l g =
+  goes_spelled {x} {xs} {state} {state₁} {state₂} {around} {around₁} {around₂} e l g =
       record {
         go = λ word rest w a.
             ap (λ (ys : List ℕ). reach most state around (ys ++ rest)) w
-            ∙ reach-on most state around x (xs ++ rest) state₁ around₁ e l
+            ∙ reach_on most state around x (xs ++ rest) state₁ around₁ e l
             ∙ g.go xs rest refl a;
       }
 
   -- one byte
-  pub goes-byte : {x : ℕ} {state state₁ : State} {around around₁ : List Kind} → move_of state around x ≡ to state₁ around₁ → length around₁ ≤ most → Goes most after (byte x) state around state₁ around₁
-  goes-byte e l = goes-spelled e l goes-nothing
+  pub goes_byte : {x : ℕ} {state state₁ : State} {around around₁ : List Kind} → move_of state around x ≡ to state₁ around₁ → length around₁ ≤ most → Goes most after (byte x) state around state₁ around₁
+  goes_byte e l = goes_spelled e l goes_nothing
 
   -- each byte from the first to the last
-  pub goes-range :
+  pub goes_range :
       {first last : ℕ} {state state₁ : State} {around around₁ : List Kind} →
       ((c : ℕ) → first ≤ c → c ≤ last → move_of state around c ≡ to state₁ around₁) → length around₁ ≤ most → Goes most after (range first last) state around state₁ around₁
-  goes-range {state = state} {state₁} {around} {around₁} e l =
+  goes_range {state = state} {state₁} {around} {around₁} e l =
       record {
         go = λ word rest w a.
             ap (λ (ys : List ℕ). reach most state around (ys ++ rest)) w.whole
-            ∙ reach-on most state around w.value rest state₁ around₁ (e w.value w.least w.most) l;
+            ∙ reach_on most state around w.value rest state₁ around₁ (e w.value w.least w.most) l;
       }
 
   -- ---- one rule or another
 
   -- if each of them leads there
-  pub goes-or :
+  pub goes_or :
       {one two : Language} {state state₁ : State} {around around₁ : List Kind} →
       Goes most after one state around state₁ around₁ → Goes most after two state around state₁ around₁ → Goes most after (one or two) state around state₁ around₁
-  goes-or {one} {two} {state} {state₁} {around} {around₁} g h = record { go = go }
+  goes_or {one} {two} {state} {state₁} {around} {around₁} g h = record { go = go }
     where
       go : (word rest : List ℕ) → one word ⊎ two word → after rest → reach most state around (word ++ rest) ≡ reach most state₁ around₁ rest
       go word rest (inl w) a = g.go word rest w a
@@ -105,26 +105,26 @@ module _ {most : ℕ} {after : List ℕ → Type 0} where
   goes_then g h = goes_before (λ word rest w a. record {}) g h
 
   -- nothing in front
-  pub goes-nothing-then : {two : Language} {state state₁ : State} {around around₁ : List Kind} → Goes most after two state around state₁ around₁ → Goes most after (nothing then two) state around state₁ around₁
-  goes-nothing-then g = goes_then goes-nothing g
+  pub goes_nothing_then : {two : Language} {state state₁ : State} {around around₁ : List Kind} → Goes most after two state around state₁ around₁ → Goes most after (nothing then two) state around state₁ around₁
+  goes_nothing_then g = goes_then goes_nothing g
 
   -- a place that is as good as another, with nothing more read
-  pub goes-as :
+  pub goes_as :
       {one : Language} {state state₁ state₂ : State} {around around₁ around₂ : List Kind} →
       Goes most Any one state around state₁ around₁ → Goes most after nothing state₁ around₁ state₂ around₂ → Goes most after one state around state₂ around₂
-  goes-as g h = record { go = λ word rest w a. g.go word rest w (record {}) ∙ h.go [] rest refl a }
+  goes_as g h = record { go = λ word rest w a. g.go word rest w (record {}) ∙ h.go [] rest refl a }
 
   -- the first two of three rules may be taken together
-  pub goes-together :
+  pub goes_together :
       {one two three : Language} {state state₁ : State} {around around₁ : List Kind} →
       Goes most after (one then two then three) state around state₁ around₁ → Goes most after ((one then two) then three) state around state₁ around₁
-  goes-together g = record { go = λ word rest w a. g.go word rest (apart w) a }
+  goes_together g = record { go = λ word rest w a. g.go word rest (apart w) a }
 
   -- one rule or another in front
-  pub goes-or-then :
+  pub goes_or_then :
       {one two three : Language} {state state₁ : State} {around around₁ : List Kind} →
       Goes most after (one then three) state around state₁ around₁ → Goes most after (two then three) state around state₁ around₁ → Goes most after ((one or two) then three) state around state₁ around₁
-  goes-or-then {one} {two} {three} {state} {state₁} {around} {around₁} g h = record { go = λ word rest w a. go w.front w.rest w.first w.second word rest w.whole a }
+  goes_or_then {one} {two} {three} {state} {state₁} {around} {around₁} g h = record { go = λ word rest w a. go w.front w.rest w.first w.second word rest w.whole a }
     where
       go :
           (front back : List ℕ) → one front ⊎ two front → three back → (word rest : List ℕ) → word ≡ front ++ back → after rest →
@@ -133,28 +133,28 @@ module _ {most : ℕ} {after : List ℕ → Type 0} where
       go front back (inr v) u word rest e a = h.go word rest (record { front = front; rest = back; whole = e; first = v; second = u }) a
 
   -- a rule or nothing in front
-  pub goes-perhaps-then :
+  pub goes_perhaps_then :
       {one two : Language} {state state₁ : State} {around around₁ : List Kind} →
       Goes most after two state around state₁ around₁ → Goes most after (one then two) state around state₁ around₁ → Goes most after (perhaps one then two) state around state₁ around₁
-  goes-perhaps-then g h = goes-or-then (goes-nothing-then g) h
+  goes_perhaps_then g h = goes_or_then (goes_nothing_then g) h
 
 -- ---- a rule any number of times
 
 module _ {most : ℕ} {rule : Language} {state : State} {around : List Kind} (stays : Goes most Any rule state around state around) where
   -- so many of them
-  goes-times : (n : ℕ) → Goes most Any (times n rule) state around state around
-  goes-times zero = goes-nothing
-  goes-times (suc n) = goes_then stays (goes-times n)
+  goes_times : (n : ℕ) → Goes most Any (times n rule) state around state around
+  goes_times zero = goes_nothing
+  goes_times (suc n) = goes_then stays (goes_times n)
 
   -- if it stays where it is, all of them do
-  pub goes-many : Goes most Any (many rule) state around state around
-  goes-many = record { go = λ word rest w a. (goes-times w.count).go word rest w.all a }
+  pub goes_many : Goes most Any (many rule) state around state around
+  goes_many = record { go = λ word rest w a. (goes_times w.count).go word rest w.all a }
 
 -- and then another, if so many of them and the other do
-pub goes-many-then :
+pub goes_many_then :
     {most : ℕ} {after : List ℕ → Type 0} {one two : Language} {state state₁ : State} {around around₁ : List Kind} →
     ((n : ℕ) → Goes most after (times n one then two) state around state₁ around₁) → Goes most after (many one then two) state around state₁ around₁
-goes-many-then g =
+goes_many_then g =
     record {
       go = λ word rest w a.
           (g w.first.count).go word rest (record { front = w.front; rest = w.rest; whole = w.whole; first = w.first.all; second = w.second }) a;

@@ -2,12 +2,12 @@
 use Rattle.std.specs.Prelude.{Bool, true, false, cond, List, [], ◌∷◌, ℕ, ◌+◌}
 use Rattle.json_scan.specs.declared.Reached.{Reached}
 use Rattle.json_scan.specs.declared.Reached.TheVariants.{Behind, Stopped}
-use Rattle.json_scan.specs.Scan.{isE, Figure, minus, leadingZero, whole, point, fraction, exponent, sign, power, between, number, text, escape, rest, ended, Move, nowhere, to, move_of}
+use Rattle.json_scan.specs.Scan.{is_e, Figure, minus, leading_zero, whole, point, fraction, exponent, sign, power, between, number, text, escape, rest, ended, Move, nowhere, to, move_of}
 
 -- behind a digit a number may be over, and behind nothing else
 abbrev pub is_over : Figure → Bool
 is_over minus = false
-is_over leadingZero = true
+is_over leading_zero = true
 is_over whole = true
 is_over point = false
 is_over fraction = true
@@ -15,25 +15,25 @@ is_over exponent = false
 is_over sign = false
 is_over power = true
 
-abbrev pub overAt : Figure → ℕ → Reached
-overAt figure at = cond (is_over figure) (Behind at) (Stopped at)
+abbrev pub over_at : Figure → ℕ → Reached
+over_at figure at = cond (is_over figure) (Behind at) (Stopped at)
 
 -- a byte that leads to a figure is passed, and no other
-abbrev pub figureOn : Reached → (Figure → Reached) → Move → Reached
-figureOn over next nowhere = over
-figureOn over next (to (number figure) around) = next figure
-figureOn over next (to (between due) around) = over
-figureOn over next (to (text due) around) = over
-figureOn over next (to (escape due) around) = over
-figureOn over next (to (rest k ks state) around) = over
-figureOn over next (to ended around) = over
+abbrev pub figure_on : Reached → (Figure → Reached) → Move → Reached
+figure_on over next nowhere = over
+figure_on over next (to (number figure) around) = next figure
+figure_on over next (to (between due) around) = over
+figure_on over next (to (text due) around) = over
+figure_on over next (to (escape due) around) = over
+figure_on over next (to (rest k ks state) around) = over
+figure_on over next (to ended around) = over
 
 -- from a place on, behind this figure. What is open around the number does not matter.
-unfoldable pub numberEnd : Figure → ℕ → List ℕ → Reached
-numberEnd figure at [] = overAt figure at
-numberEnd figure at (c ∷ cs) = figureOn (overAt figure at) (λ figure₁. numberEnd figure₁ (at + 1) cs) (move_of (number figure) [] c)
+unfoldable pub number_end : Figure → ℕ → List ℕ → Reached
+number_end figure at [] = over_at figure at
+number_end figure at (c ∷ cs) = figure_on (over_at figure at) (λ figure₁. number_end figure₁ (at + 1) cs) (move_of (number figure) [] c)
 
 -- behind int or frac: an exponent, or the number's end
-unfoldable pub scaleEnd : ℕ → List ℕ → Reached
-scaleEnd at [] = Behind at
-scaleEnd at (c ∷ cs) = cond (isE c) (numberEnd exponent (at + 1) cs) (Behind at)
+unfoldable pub scale_end : ℕ → List ℕ → Reached
+scale_end at [] = Behind at
+scale_end at (c ∷ cs) = cond (is_e c) (number_end exponent (at + 1) cs) (Behind at)

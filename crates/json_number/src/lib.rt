@@ -1,27 +1,26 @@
 // The numbers of a payload: [ minus ] int [ frac ] [ exp ].
 ghost use Rattle.std.specs.Prelude.{◌≡◌, cond, ◌+◌, ◌<◌, eqb, length, drop};
-ghost use Rattle.bytes_number.specs.Lent.{was};
-ghost use Rattle.json_scan.specs.Scan.{isDigit, isE, isSign, minus, leadingZero, exponent, sign};
+ghost use Rattle.json_scan.specs.Scan.{is_digit, is_e, is_sign, minus, leading_zero, exponent, sign};
 ghost use Rattle.json_scan.specs.WorkingEnds.{end_of};
-ghost use Rattle.json_number.specs.WorkingFigures.{numberEnd, scaleEnd};
+ghost use Rattle.json_number.specs.WorkingFigures.{number_end, scale_end};
 
 use json_scan::{Reached, digits_end, is_digit};
 
 fn is_e(c: u8) -> bool
-    ensures { result ≡ isE c }
+    ensures { result ≡ is_e c }
 {
     c == b'e' || c == b'E'
 }
 
 fn is_sign(c: u8) -> bool
-    ensures { result ≡ isSign c }
+    ensures { result ≡ is_sign c }
 {
     c == b'-' || c == b'+'
 }
 
 // Digits, at least one.
 fn power_end(bytes: &[u8], at: usize) -> Reached
-    ensures { result ≡ numberEnd sign at (drop at (was bytes)) }
+    ensures { result ≡ number_end sign at (drop at bytes.now) }
 {
     let end = digits_end(bytes, at);
     if end == at {
@@ -32,7 +31,7 @@ fn power_end(bytes: &[u8], at: usize) -> Reached
 
 // The exponent behind its e.
 fn exponent_end(bytes: &[u8], at: usize) -> Reached
-    ensures { result ≡ numberEnd exponent at (drop at (was bytes)) }
+    ensures { result ≡ number_end exponent at (drop at bytes.now) }
 {
     if at >= bytes.len() {
         return Reached::Stopped(at);
@@ -45,7 +44,7 @@ fn exponent_end(bytes: &[u8], at: usize) -> Reached
 
 // Behind int, or behind int and frac: an exponent, or the number's end.
 fn scale_end(bytes: &[u8], at: usize) -> Reached
-    ensures { result ≡ scaleEnd at (drop at (was bytes)) }
+    ensures { result ≡ scale_end at (drop at bytes.now) }
 {
     if at >= bytes.len() {
         return Reached::Behind(at);
@@ -58,7 +57,7 @@ fn scale_end(bytes: &[u8], at: usize) -> Reached
 
 // Behind int: a fraction or none, and an exponent or none.
 fn fraction_end(bytes: &[u8], at: usize) -> Reached
-    ensures { result ≡ numberEnd leadingZero at (drop at (was bytes)) }
+    ensures { result ≡ number_end leading_zero at (drop at bytes.now) }
 {
     if at >= bytes.len() {
         return Reached::Behind(at);
@@ -77,7 +76,7 @@ fn fraction_end(bytes: &[u8], at: usize) -> Reached
 // Where int ends that begins with this digit.
 fn int_end(bytes: &[u8], at: usize, first: u8) -> usize
     requires { at < length bytes.now }
-    ensures { result ≡ cond (eqb first 48) (at + 1) (end_of isDigit (was bytes) (at + 1)) }
+    ensures { result ≡ cond (eqb first 48) (at + 1) (end_of is_digit bytes.now (at + 1)) }
 {
     if first == b'0' {
         return at + 1;
@@ -87,7 +86,7 @@ fn int_end(bytes: &[u8], at: usize, first: u8) -> usize
 
 // A number behind its minus, or one that has none.
 pub fn number_end(bytes: &[u8], at: usize) -> Reached
-    ensures { result ≡ numberEnd minus at (drop at (was bytes)) }
+    ensures { result ≡ number_end minus at (drop at bytes.now) }
 {
     if at >= bytes.len() {
         return Reached::Stopped(at);

@@ -5,11 +5,11 @@ use lib.Bits.{bit_and, bit_or, bit_xor, and_mod, or_mod, xor_mod, and_shr, or_sh
 use lib.Count.{count_trailing_zeros}
 use Rattle.bytes_number.specs.Number.{Bytes}
 use Rattle.bytes_number.proofs.Truth.{and_left, and_right}
-use Rattle.json_scan.specs.Scan.{isWithin}
+use Rattle.json_scan.specs.Scan.{is_within}
 use Rattle.json_scan.specs.WorkingEnds.{leading}
 use Rattle.json_plain.specs.WorkingPlain.{is_plain}
-use Rattle.json_plain.specs.WorkingWords.{word_of, lowestMark, Marks}
-use Rattle.json_plain.proofs.Words.{each, each-low, each-high, Less, less-low, less-high, byte_past, byte-here}
+use Rattle.json_plain.specs.WorkingWords.{word_of, lowest_mark, Marks}
+use Rattle.json_plain.proofs.Words.{each, each_low, each_high, Less, less_low, less_high, byte_past, byte_here}
 
 -- the marks on a word by its three differences
 abbrev pub gathered : ℕ → ℕ → ℕ → ℕ → ℕ
@@ -27,19 +27,19 @@ clear c = eqb (mark c) 0 && (leb 32 c && (leb 1 (bit_xor c 34) && leb 1 (bit_xor
 abbrev right : ℕ → Bool
 right c = cond (is_plain c) (clear c) (eqb (mark c) 128)
 
-rightBelow : ℕ → Bool
-rightBelow zero = true
-rightBelow (suc n) = rightBelow n && right n
+right_below : ℕ → Bool
+right_below zero = true
+right_below (suc n) = right_below n && right n
 
-all_right : rightBelow 256 ≡ true
-unfolding rightBelow is_plain isWithin
+all_right : right_below 256 ≡ true
+unfolding right_below is_plain is_within
 all_right = refl
 
-right-at : (n c : ℕ) → c < n → rightBelow n ≡ true → right c ≡ true
-unfolding rightBelow
-right-at zero c l a = absurd (not-suc-le-zero l)
-right-at (suc n) c l a =
-    ⊎_elim (λ e. rw e (and_right (rightBelow n) (right n) a)) (λ m. right-at n c m (and_left (rightBelow n) (right n) a)) (eq-or-lt_of_le (le_of_suc-le-suc l))
+right_at : (n c : ℕ) → c < n → right_below n ≡ true → right c ≡ true
+unfolding right_below
+right_at zero c l a = absurd (not-suc-le-zero l)
+right_at (suc n) c l a =
+    ⊎_elim (λ e. rw e (and_right (right_below n) (right n) a)) (λ m. right_at n c m (and_left (right_below n) (right n) a)) (eq-or-lt_of_le (le_of_suc-le-suc l))
 
 record Clear (c : ℕ) : Type 0 where
   none : mark c ≡ 0
@@ -47,11 +47,11 @@ record Clear (c : ℕ) : Type 0 where
   quote : 1 ≤ bit_xor c 34
   backslash : 1 ≤ bit_xor c 92
 
-plain-clear : (c : ℕ) → c < 256 → is_plain c ≡ true → Clear c
-plain-clear c l e =
+plain_clear : (c : ℕ) → c < 256 → is_plain c ≡ true → Clear c
+plain_clear c l e =
     let q = leb 1 (bit_xor c 34) in
     let b = leb 1 (bit_xor c 92) in
-    let h : clear c ≡ true = ap (λ (p : Bool). cond p (clear c) (eqb (mark c) 128)) (sym e) ∙ right-at 256 c l all_right in
+    let h : clear c ≡ true = ap (λ (p : Bool). cond p (clear c) (eqb (mark c) 128)) (sym e) ∙ right_at 256 c l all_right in
     let h₁ = and_right (eqb (mark c) 0) (leb 32 c && (q && b)) h in
     let h₂ = and_right (leb 32 c) (q && b) h₁ in
     record {
@@ -61,18 +61,18 @@ plain-clear c l e =
       backslash = leb-true 1 (bit_xor c 92) (and_right q b h₂);
     }
 
-other-marked : (c : ℕ) → c < 256 → is_plain c ≡ false → mark c ≡ 128
-other-marked c l e = eqb-true (mark c) 128 (ap (λ (p : Bool). cond p (clear c) (eqb (mark c) 128)) (sym e) ∙ right-at 256 c l all_right)
+other_marked : (c : ℕ) → c < 256 → is_plain c ≡ false → mark c ≡ 128
+other_marked c l e = eqb-true (mark c) 128 (ap (λ (p : Bool). cond p (clear c) (eqb (mark c) 128)) (sym e) ∙ right_at 256 c l all_right)
 
 -- ---- the lowest byte of a word, and the others
 
-gathered-low : (p q r m : ℕ) → gathered p q r m % 256 ≡ gathered (p % 256) (q % 256) (r % 256) (m % 256)
-gathered-low p q r m =
+gathered_low : (p q r m : ℕ) → gathered p q r m % 256 ≡ gathered (p % 256) (q % 256) (r % 256) (m % 256)
+gathered_low p q r m =
     and_mod (bit_or (bit_or p q) r) m 8
     ∙ ap (λ (t : ℕ). bit_and t (m % 256)) (or_mod (bit_or p q) r 8 ∙ ap (λ (t : ℕ). bit_or t (r % 256)) (or_mod p q 8))
 
-gathered-high : (p q r m : ℕ) → gathered p q r m / 256 ≡ gathered (p / 256) (q / 256) (r / 256) (m / 256)
-gathered-high p q r m =
+gathered_high : (p q r m : ℕ) → gathered p q r m / 256 ≡ gathered (p / 256) (q / 256) (r / 256) (m / 256)
+gathered_high p q r m =
     and_shr (bit_or (bit_or p q) r) m 8
     ∙ ap (λ (t : ℕ). bit_and t (m / 256)) (or_shr (bit_or p q) r 8 ∙ ap (λ (t : ℕ). bit_or t (r / 256)) (or_shr p q 8))
 
@@ -82,37 +82,37 @@ Found c k w d = Less 1 k (bit_xor w (each c k)) d
 
 module _ (c k w d : ℕ) (lc : c < 256) (e : Found c (suc k) w d) where
   xor_low : bit_xor w (each c (suc k)) % 256 ≡ bit_xor (w % 256) c
-  xor_low = xor_mod w (each c (suc k)) 8 ∙ ap (bit_xor (w % 256)) (each-low c k lc)
+  xor_low = xor_mod w (each c (suc k)) 8 ∙ ap (bit_xor (w % 256)) (each_low c k lc)
 
-  found-low : d % 256 ≡ (bit_xor (w % 256) c + 255) % 256
-  found-low = less-low 1 k _ d (omega arith) e ∙ ap (λ (n : ℕ). (n + 255) % 256) xor_low
+  found_low : d % 256 ≡ (bit_xor (w % 256) c + 255) % 256
+  found_low = less_low 1 k _ d (omega arith) e ∙ ap (λ (n : ℕ). (n + 255) % 256) xor_low
 
-  found-high : 1 ≤ bit_xor (w % 256) c → Found c k (w / 256) (d / 256)
-  found-high l =
-      less-high 1 k _ d (omega arith) e (omega (arith, xor_low)) ∙ xor_shr w (each c (suc k)) 8 ∙ ap (bit_xor (w / 256)) (each-high c k lc)
+  found_high : 1 ≤ bit_xor (w % 256) c → Found c k (w / 256) (d / 256)
+  found_high l =
+      less_high 1 k _ d (omega arith) e (omega (arith, xor_low)) ∙ xor_shr w (each c (suc k)) 8 ∙ ap (bit_xor (w / 256)) (each_high c k lc)
 
 module _ (k w p q r : ℕ) (dp : Less 32 (suc k) w p) (dq : Found 34 (suc k) w q) (dr : Found 92 (suc k) w r) where
-  marks-low : gathered p q r (each 128 (suc k)) % 256 ≡ mark (w % 256)
-  marks-low =
-      gathered-low p q r (each 128 (suc k))
-      ∙ ap₂ (λ (x y : ℕ). gathered x y (r % 256) (each 128 (suc k) % 256)) (less-low 32 k w p (omega arith) dp) (found-low 34 k w q (omega arith) dq)
-      ∙ ap₂ (λ (x y : ℕ). gathered ((w % 256 + 224) % 256) ((bit_xor (w % 256) 34 + 255) % 256) x y) (found-low 92 k w r (omega arith) dr) (each-low 128 k (omega arith))
+  marks_low : gathered p q r (each 128 (suc k)) % 256 ≡ mark (w % 256)
+  marks_low =
+      gathered_low p q r (each 128 (suc k))
+      ∙ ap₂ (λ (x y : ℕ). gathered x y (r % 256) (each 128 (suc k) % 256)) (less_low 32 k w p (omega arith) dp) (found_low 34 k w q (omega arith) dq)
+      ∙ ap₂ (λ (x y : ℕ). gathered ((w % 256 + 224) % 256) ((bit_xor (w % 256) 34 + 255) % 256) x y) (found_low 92 k w r (omega arith) dr) (each_low 128 k (omega arith))
 
-  marks-high : gathered p q r (each 128 (suc k)) / 256 ≡ gathered (p / 256) (q / 256) (r / 256) (each 128 k)
-  marks-high = gathered-high p q r (each 128 (suc k)) ∙ ap (gathered (p / 256) (q / 256) (r / 256)) (each-high 128 k (omega arith))
+  marks_high : gathered p q r (each 128 (suc k)) / 256 ≡ gathered (p / 256) (q / 256) (r / 256) (each 128 k)
+  marks_high = gathered_high p q r (each 128 (suc k)) ∙ ap (gathered (p / 256) (q / 256) (r / 256)) (each_high 128 k (omega arith))
 
 -- ---- the whole word
 
-abbrev lowestIn : ℕ → ℕ → ℕ
-lowestIn k marks = count_trailing_zeros (k * 8) marks / 8
+abbrev lowest_in : ℕ → ℕ → ℕ
+lowest_in k marks = count_trailing_zeros (k * 8) marks / 8
 
-marks-in :
+marks_in :
     (xs : List ℕ) (w p q r : ℕ) → Bytes xs → w ≡ word_of xs → Less 32 (length xs) w p → Found 34 (length xs) w q → Found 92 (length xs) w r →
-    lowestIn (length xs) (gathered p q r (each 128 (length xs))) ≡ leading is_plain xs
+    lowest_in (length xs) (gathered p q r (each 128 (length xs))) ≡ leading is_plain xs
 unfolding word_of leading count_trailing_zeros
-marks-in [] w p q r b is dp dq dr = refl
-marks-in (x ∷ xs) w p q r b is dp dq dr =
-    go (marks-in xs (w / 256) (p / 256) (q / 256) (r / 256) b.1 (omega (arith, b.0))) (is_plain (w % 256)) refl
+marks_in [] w p q r b is dp dq dr = refl
+marks_in (x ∷ xs) w p q r b is dp dq dr =
+    go (marks_in xs (w / 256) (p / 256) (q / 256) (r / 256) b.1 (omega (arith, b.0))) (is_plain (w % 256)) refl
     ∙ ap (λ (c : ℕ). cond (is_plain c) (suc (leading is_plain xs)) 0) (omega (arith, b.0))
   where
     k : ℕ
@@ -120,16 +120,16 @@ marks-in (x ∷ xs) w p q r b is dp dq dr =
 
     go :
         (Less 32 k (w / 256) (p / 256) → Found 34 k (w / 256) (q / 256) → Found 92 k (w / 256) (r / 256) →
-        lowestIn k (gathered (p / 256) (q / 256) (r / 256) (each 128 k)) ≡ leading is_plain xs) →
-        (t : Bool) → is_plain (w % 256) ≡ t → lowestIn (suc k) (gathered p q r (each 128 (suc k))) ≡ cond t (suc (leading is_plain xs)) 0
+        lowest_in k (gathered (p / 256) (q / 256) (r / 256) (each 128 k)) ≡ leading is_plain xs) →
+        (t : Bool) → is_plain (w % 256) ≡ t → lowest_in (suc k) (gathered p q r (each 128 (suc k))) ≡ cond t (suc (leading is_plain xs)) 0
     go again true e =
-        let u = plain-clear (w % 256) (omega arith) e in
-        byte_past k _ (marks-low k w p q r dp dq dr ∙ u.none)
-        ∙ ap (λ (n : ℕ). suc (lowestIn k n)) (marks-high k w p q r dp dq dr)
-        ∙ ap suc (again (less-high 32 k w p (omega arith) dp u.text) (found-high 34 k w q (omega arith) dq u.quote) (found-high 92 k w r (omega arith) dr u.backslash))
-    go again false e = byte-here k _ (marks-low k w p q r dp dq dr ∙ other-marked (w % 256) (omega arith) e)
+        let u = plain_clear (w % 256) (omega arith) e in
+        byte_past k _ (marks_low k w p q r dp dq dr ∙ u.none)
+        ∙ ap (λ (n : ℕ). suc (lowest_in k n)) (marks_high k w p q r dp dq dr)
+        ∙ ap suc (again (less_high 32 k w p (omega arith) dp u.text) (found_high 34 k w q (omega arith) dq u.quote) (found_high 92 k w r (omega arith) dr u.backslash))
+    go again false e = byte_here k _ (marks_low k w p q r dp dq dr ∙ other_marked (w % 256) (omega arith) e)
 
-pub marks-of : (w p q r : ℕ) → Less 32 8 w p → Found 34 8 w q → Found 92 8 w r → Marks w (gathered p q r (each 128 8))
-unfolding lowestMark
-marks-of w p q r dp dq dr xs b l is =
-    subst (λ (k : ℕ). Less 32 k w p → Found 34 k w q → Found 92 k w r → lowestIn k (gathered p q r (each 128 k)) ≡ leading is_plain xs) l (marks-in xs w p q r b is) dp dq dr
+pub marks_of : (w p q r : ℕ) → Less 32 8 w p → Found 34 8 w q → Found 92 8 w r → Marks w (gathered p q r (each 128 8))
+unfolding lowest_mark
+marks_of w p q r dp dq dr xs b l is =
+    subst (λ (k : ℕ). Less 32 k w p → Found 34 k w q → Found 92 k w r → lowest_in k (gathered p q r (each 128 k)) ≡ leading is_plain xs) l (marks_in xs w p q r b is) dp dq dr

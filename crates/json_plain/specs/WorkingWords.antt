@@ -11,9 +11,9 @@ word_of [] = 0
 word_of (x ∷ xs) = word_of xs * 256 + x
 
 -- which of eight bytes has the lowest mark: 8 if none has one
-unfoldable pub lowestMark : ℕ → ℕ
-lowestMark marks = count_trailing_zeros 64 marks / 8
+unfoldable pub lowest_mark : ℕ → ℕ
+lowest_mark marks = count_trailing_zeros 64 marks / 8
 
 -- the lowest mark is on the first of a word's bytes that does not stand for itself
 abbrev pub Marks : ℕ → ℕ → Type 0
-Marks word marks = (xs : List ℕ) → Bytes xs → length xs ≡ 8 → word ≡ word_of xs → lowestMark marks ≡ leading is_plain xs
+Marks word marks = (xs : List ℕ) → Bytes xs → length xs ≡ 8 → word ≡ word_of xs → lowest_mark marks ≡ leading is_plain xs

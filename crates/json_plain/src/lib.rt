@@ -1,9 +1,8 @@
 // Text that stands for itself, eight bytes at a time as long as there are twice as many.
 ghost use Rattle.std.specs.Prelude.{◌≡◌, ◌+◌, ◌<◌, ◌≤◌, length, take, drop};
-ghost use Rattle.bytes_number.specs.Lent.{was};
 ghost use Rattle.json_scan.specs.WorkingEnds.{end_of};
 ghost use Rattle.json_plain.specs.WorkingPlain.{is_plain};
-ghost use Rattle.json_plain.specs.WorkingWords.{word_of, lowestMark, Marks};
+ghost use Rattle.json_plain.specs.WorkingWords.{word_of, lowest_mark, Marks};
 
 // Bytes of a word, and of two.
 const WORD: usize = 8;
@@ -29,7 +28,7 @@ fn wide(c: u8) -> u64
 // Eight bytes as a number, the first as its lowest byte: the compiler makes one load of it.
 fn word_at(bytes: &[u8], at: usize) -> u64
     requires { at + 8 ≤ length bytes.now }
-    ensures { result ≡ word_of (take 8 (drop at (was bytes))) }
+    ensures { result ≡ word_of (take 8 (drop at bytes.now)) }
 {
     wide(bytes[at])
         + wide(bytes[at + 1]) * 0x100
@@ -53,14 +52,14 @@ fn marks(word: u64) -> u64
 
 // Which byte has the lowest mark.
 fn marked(marks: u64) -> usize
-    ensures { (result ≡ lowestMark marks) × (result ≤ 8) }
+    ensures { (result ≡ lowest_mark marks) × (result ≤ 8) }
 {
     (u64::trailing_zeros(marks) / 8) as usize
 }
 
 // The first place from `at` on whose byte does not stand for itself.
 pub fn plain_end(bytes: &[u8], at: usize) -> usize
-    ensures { result ≡ end_of is_plain (was bytes) at }
+    ensures { result ≡ end_of is_plain bytes.now at }
 {
     let mut i = at;
     if bytes.len() >= WORDS {

@@ -9,86 +9,86 @@ use lib.Dec.{eqb}
 use lib.ListN.{length, drop, get_or, drop_of_length-le}
 use Rattle.bytes_number.proofs.Truth.{or_left, or_right}
 use Rattle.json_scan.specs.declared.Reached.TheVariants.{Stopped}
-use Rattle.json_scan.specs.Scan.{isWithin, isDigit, exactly, holds, inObject, in_array, firstName, firstValue, behind, minus, leadingZero, whole, between, number, text, nowhere, to, valueStep}
-use Rattle.json_scan.specs.WorkingEnds.{restEnd}
-use Rattle.json_scan.proofs.Bytes.{is_within, no_zero}
+use Rattle.json_scan.specs.Scan.{is_within, is_digit, exactly, holds, in_object, in_array, first_name, first_value, behind, minus, leading_zero, whole, between, number, text, nowhere, to, value_step}
+use Rattle.json_scan.specs.WorkingEnds.{rest_end}
+use Rattle.json_scan.proofs.Bytes.{is_within_lem, no_zero_lem}
 use Rattle.json_scan.proofs.Scanning.{drop_at}
-use Rattle.json_number.specs.WorkingFigures.{numberEnd}
-use Rattle.json_number.proofs.Steps.{minus-zero, minus-digit}
-use Rattle.json_number.proofs.Figures.{number-on}
-use Rattle.json_scalar.specs.WorkingScalars.{spelling, scalarOn, scalarEnd}
+use Rattle.json_number.specs.WorkingFigures.{number_end}
+use Rattle.json_number.proofs.Steps.{minus_zero, minus_digit}
+use Rattle.json_number.proofs.Figures.{number_on}
+use Rattle.json_scalar.specs.WorkingScalars.{spelling, scalar_on, scalar_end}
 
 -- ---- the bytes of a name
 
-pub is-exactly : (x c : ℕ) → c ≡ x → holds (exactly x) c ≡ true
+pub is_exactly : (x c : ℕ) → c ≡ x → holds (exactly x) c ≡ true
 unfolding holds
-is-exactly x c e = eq-eqb c x e
+is_exactly x c e = eq-eqb c x e
 
-pub not-exactly : (x c : ℕ) → (c ≡ x → ⊥) → holds (exactly x) c ≡ false
+pub not_exactly : (x c : ℕ) → (c ≡ x → ⊥) → holds (exactly x) c ≡ false
 unfolding holds
-not-exactly x c f = ne_eqb c x f
+not_exactly x c f = ne_eqb c x f
 
 -- ---- the first byte
 
-pub scalar-over : (bytes : List ℕ) (at : ℕ) → length bytes ≤ at → scalarEnd at (drop at bytes) ≡ Stopped at
-unfolding scalarEnd
-scalar-over bytes at l = ap (scalarEnd at) (drop_of_length-le bytes l)
+pub scalar_over : (bytes : List ℕ) (at : ℕ) → length bytes ≤ at → scalar_end at (drop at bytes) ≡ Stopped at
+unfolding scalar_end
+scalar_over bytes at l = ap (scalar_end at) (drop_of_length-le bytes l)
 
 module _ (bytes : List ℕ) (at : ℕ) (l : at < length bytes) where
   abbrev x : ℕ
   x = get_or bytes at 0
 
-  pub scalar-at : scalarEnd at (drop at bytes) ≡ scalarOn at (drop (at + 1) bytes) (valueStep [] x)
-  unfolding scalarEnd
-  scalar-at = ap (scalarEnd at) (drop_at bytes at l)
+  pub scalar_at : scalar_end at (drop at bytes) ≡ scalar_on at (drop (at + 1) bytes) (value_step [] x)
+  unfolding scalar_end
+  scalar_at = ap (scalar_end at) (drop_at bytes at l)
 
   -- a literal name
-  pub scalar-false : x ≡ 102 → scalarEnd at (drop at bytes) ≡ restEnd (spelling (97 ∷ 108 ∷ 115 ∷ 101 ∷ [])) (at + 1) (drop (at + 1) bytes)
-  unfolding valueStep isWithin
-  scalar-false e = scalar-at ∙ ap (λ (c : ℕ). scalarOn at (drop (at + 1) bytes) (valueStep [] c)) e
+  pub scalar_false : x ≡ 102 → scalar_end at (drop at bytes) ≡ rest_end (spelling (97 ∷ 108 ∷ 115 ∷ 101 ∷ [])) (at + 1) (drop (at + 1) bytes)
+  unfolding value_step is_within
+  scalar_false e = scalar_at ∙ ap (λ (c : ℕ). scalar_on at (drop (at + 1) bytes) (value_step [] c)) e
 
-  pub scalar-null : x ≡ 110 → scalarEnd at (drop at bytes) ≡ restEnd (spelling (117 ∷ 108 ∷ 108 ∷ [])) (at + 1) (drop (at + 1) bytes)
-  unfolding valueStep isWithin
-  scalar-null e = scalar-at ∙ ap (λ (c : ℕ). scalarOn at (drop (at + 1) bytes) (valueStep [] c)) e
+  pub scalar_null : x ≡ 110 → scalar_end at (drop at bytes) ≡ rest_end (spelling (117 ∷ 108 ∷ 108 ∷ [])) (at + 1) (drop (at + 1) bytes)
+  unfolding value_step is_within
+  scalar_null e = scalar_at ∙ ap (λ (c : ℕ). scalar_on at (drop (at + 1) bytes) (value_step [] c)) e
 
-  pub scalar-true : x ≡ 116 → scalarEnd at (drop at bytes) ≡ restEnd (spelling (114 ∷ 117 ∷ 101 ∷ [])) (at + 1) (drop (at + 1) bytes)
-  unfolding valueStep isWithin
-  scalar-true e = scalar-at ∙ ap (λ (c : ℕ). scalarOn at (drop (at + 1) bytes) (valueStep [] c)) e
+  pub scalar_true : x ≡ 116 → scalar_end at (drop at bytes) ≡ rest_end (spelling (114 ∷ 117 ∷ 101 ∷ [])) (at + 1) (drop (at + 1) bytes)
+  unfolding value_step is_within
+  scalar_true e = scalar_at ∙ ap (λ (c : ℕ). scalar_on at (drop (at + 1) bytes) (value_step [] c)) e
 
   -- a number, behind its minus or without one: a digit leads into it as it does behind a minus
-  scalar-minus : x ≡ 45 → scalarEnd at (drop at bytes) ≡ numberEnd minus (at + 1) (drop (at + 1) bytes)
-  unfolding valueStep isWithin
-  scalar-minus e = scalar-at ∙ ap (λ (c : ℕ). scalarOn at (drop (at + 1) bytes) (valueStep [] c)) e
+  scalar_minus : x ≡ 45 → scalar_end at (drop at bytes) ≡ number_end minus (at + 1) (drop (at + 1) bytes)
+  unfolding value_step is_within
+  scalar_minus e = scalar_at ∙ ap (λ (c : ℕ). scalar_on at (drop (at + 1) bytes) (value_step [] c)) e
 
-  scalar-zero : x ≡ 48 → scalarEnd at (drop at bytes) ≡ numberEnd minus at (drop at bytes)
-  unfolding valueStep isWithin
-  scalar-zero e =
-      scalar-at ∙ ap (λ (c : ℕ). scalarOn at (drop (at + 1) bytes) (valueStep [] c)) e ∙ sym (number-on minus bytes at leadingZero l (minus-zero [] _ e))
+  scalar_zero : x ≡ 48 → scalar_end at (drop at bytes) ≡ number_end minus at (drop at bytes)
+  unfolding value_step is_within
+  scalar_zero e =
+      scalar_at ∙ ap (λ (c : ℕ). scalar_on at (drop (at + 1) bytes) (value_step [] c)) e ∙ sym (number_on minus bytes at leading_zero l (minus_zero [] _ e))
 
-  scalar-digit : isDigit x ≡ true → (x ≡ 48 → ⊥) → scalarEnd at (drop at bytes) ≡ numberEnd minus at (drop at bytes)
-  unfolding valueStep
-  scalar-digit e z =
-      let w = is_within 48 57 x e in
-      let leads : valueStep [] x ≡ to (number whole) [] =
+  scalar_digit : is_digit x ≡ true → (x ≡ 48 → ⊥) → scalar_end at (drop at bytes) ≡ number_end minus at (drop at bytes)
+  unfolding value_step
+  scalar_digit e z =
+      let w = is_within_lem 48 57 x e in
+      let leads : value_step [] x ≡ to (number whole) [] =
       rw (ne_eqb x 34 (λ q. omega (arith, w.0, q)), ne_eqb x 123 (λ q. omega (arith, w.1, q)), ne_eqb x 91 (λ q. omega (arith, w.1, q)), ne_eqb x 45 (λ q. omega (arith, w.0, q)), ne_eqb x 48 z, e) refl in
-      scalar-at ∙ ap (scalarOn at (drop (at + 1) bytes)) leads ∙ sym (number-on minus bytes at whole l (minus-digit [] _ z e))
+      scalar_at ∙ ap (scalar_on at (drop (at + 1) bytes)) leads ∙ sym (number_on minus bytes at whole l (minus_digit [] _ z e))
 
-  pub scalar-numeral : {j : ℕ} → (eqb x 45 || isDigit x) ≡ true → j ≡ cond (eqb x 45) (at + 1) at → scalarEnd at (drop at bytes) ≡ numberEnd minus j (drop j bytes)
-  scalar-numeral is place = go (eqb x 45) (eqb x 48) refl refl is ∙ ap (λ (i : ℕ). numberEnd minus i (drop i bytes)) (sym place)
+  pub scalar_numeral : {j : ℕ} → (eqb x 45 || is_digit x) ≡ true → j ≡ cond (eqb x 45) (at + 1) at → scalar_end at (drop at bytes) ≡ number_end minus j (drop j bytes)
+  scalar_numeral is place = go (eqb x 45) (eqb x 48) refl refl is ∙ ap (λ (i : ℕ). number_end minus i (drop i bytes)) (sym place)
     where
-      go : (t z : Bool) → eqb x 45 ≡ t → eqb x 48 ≡ z → (t || isDigit x) ≡ true → scalarEnd at (drop at bytes) ≡ numberEnd minus (cond t (at + 1) at) (drop (cond t (at + 1) at) bytes)
-      go true z e f is = scalar-minus (eqb-true x 45 e)
-      go false true e f is = scalar-zero (eqb-true x 48 f)
-      go false false e f is = scalar-digit is (eqb-false x 48 f)
+      go : (t z : Bool) → eqb x 45 ≡ t → eqb x 48 ≡ z → (t || is_digit x) ≡ true → scalar_end at (drop at bytes) ≡ number_end minus (cond t (at + 1) at) (drop (cond t (at + 1) at) bytes)
+      go true z e f is = scalar_minus (eqb-true x 45 e)
+      go false true e f is = scalar_zero (eqb-true x 48 f)
+      go false false e f is = scalar_digit is (eqb-false x 48 f)
 
   -- neither of them
-  pub scalar-none : (eqb x 45 || isDigit x) ≡ false → (x ≡ 102 → ⊥) → (x ≡ 110 → ⊥) → (x ≡ 116 → ⊥) → scalarEnd at (drop at bytes) ≡ Stopped at
-  unfolding valueStep
-  scalar-none is f n t =
-      let e = or_right (eqb x 45) (isDigit x) is in
-      scalar-at ∙ rw (or_left (eqb x 45) (isDigit x) is, ne_eqb x 48 (no_zero x e), e, ne_eqb x 102 f, ne_eqb x 110 n, ne_eqb x 116 t) (go (eqb x 34) (eqb x 123) (eqb x 91))
+  pub scalar_none : (eqb x 45 || is_digit x) ≡ false → (x ≡ 102 → ⊥) → (x ≡ 110 → ⊥) → (x ≡ 116 → ⊥) → scalar_end at (drop at bytes) ≡ Stopped at
+  unfolding value_step
+  scalar_none is f n t =
+      let e = or_right (eqb x 45) (is_digit x) is in
+      scalar_at ∙ rw (or_left (eqb x 45) (is_digit x) is, ne_eqb x 48 (no_zero_lem x e), e, ne_eqb x 102 f, ne_eqb x 110 n, ne_eqb x 116 t) (go (eqb x 34) (eqb x 123) (eqb x 91))
     where
-      go : (a b c : Bool) → scalarOn at (drop (at + 1) bytes) (cond a (to (text behind) []) (cond b (to (between firstName) (inObject ∷ [])) (cond c (to (between firstValue) (in_array ∷ [])) nowhere))) ≡ Stopped at
+      go : (a b c : Bool) → scalar_on at (drop (at + 1) bytes) (cond a (to (text behind) []) (cond b (to (between first_name) (in_object ∷ [])) (cond c (to (between first_value) (in_array ∷ [])) nowhere))) ≡ Stopped at
       go true b c = refl
       go false true c = refl
       go false false true = refl

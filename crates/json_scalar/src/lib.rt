@@ -1,16 +1,15 @@
 // A value that holds no other and is no string: a number or one of the literal names.
 ghost use Rattle.std.specs.Prelude.{◌≡◌, cond, ◌||◌, ◌+◌, ◌<◌, eqb, length, drop, get_or};
-ghost use Rattle.bytes_number.specs.Lent.{was};
-ghost use Rattle.json_scan.specs.Scan.{isDigit};
-ghost use Rattle.json_scan.specs.WorkingEnds.{settledAs, placeLeft, restEnd};
-ghost use Rattle.json_scalar.specs.WorkingScalars.{spelling, scalarEnd};
+ghost use Rattle.json_scan.specs.Scan.{is_digit};
+ghost use Rattle.json_scan.specs.WorkingEnds.{settled_as, place_left, rest_end};
+ghost use Rattle.json_scalar.specs.WorkingScalars.{spelling, scalar_end};
 
 use json_number::number_end;
 use json_scan::{Reached, is_digit, settle};
 
 // These bytes, one after another.
 fn literal_end(bytes: &[u8], at: usize, word: &[u8]) -> Reached
-    ensures { result ≡ restEnd (spelling (was word)) at (drop at (was bytes)) }
+    ensures { result ≡ rest_end (spelling word.now) at (drop at bytes.now) }
 {
     let mut i = at;
     let mut j = 0;
@@ -29,7 +28,7 @@ fn literal_end(bytes: &[u8], at: usize, word: &[u8]) -> Reached
 
 // Whether a number begins so.
 fn is_numeral(c: u8) -> bool
-    ensures { result ≡ (eqb c 45 || isDigit c) }
+    ensures { result ≡ (eqb c 45 || is_digit c) }
 {
     if c == b'-' {
         return true;
@@ -40,7 +39,7 @@ fn is_numeral(c: u8) -> bool
 // Behind the minus that stands at a place, or there if none does.
 fn behind_minus(bytes: &[u8], at: usize) -> usize
     requires { at < length bytes.now }
-    ensures { result ≡ cond (eqb (get_or (was bytes) at 0) 45) (at + 1) at }
+    ensures { result ≡ cond (eqb (get_or bytes.now at 0) 45) (at + 1) at }
 {
     if bytes[at] == b'-' {
         return at + 1;
@@ -50,7 +49,7 @@ fn behind_minus(bytes: &[u8], at: usize) -> usize
 
 // Where a value is due and no string, object or array begins.
 fn scalar_read(bytes: &[u8], at: usize) -> Reached
-    ensures { result ≡ scalarEnd at (drop at (was bytes)) }
+    ensures { result ≡ scalar_end at (drop at bytes.now) }
 {
     if at >= bytes.len() {
         return Reached::Stopped(at);
@@ -69,8 +68,8 @@ fn scalar_read(bytes: &[u8], at: usize) -> Reached
 
 // The same, told as a number.
 pub fn scalar_end(bytes: &[u8], at: usize, place: &mut usize) -> usize
-    ensures told { result ≡ settledAs (scalarEnd at (drop at (was bytes))) }
-    ensures stops { place.new ≡ placeLeft (scalarEnd at (drop at (was bytes))) (was place) }
+    ensures told { result ≡ settled_as (scalar_end at (drop at bytes.now)) }
+    ensures stops { place.new ≡ place_left (scalar_end at (drop at bytes.now)) place.old }
 {
     settle(scalar_read(bytes, at), place)
 }

@@ -7,9 +7,9 @@ use native.Mathlib.Omega.{arith}
 use native.Mathlib.Nat.{le_of_suc-le-suc}
 use lib.ListN.{length, drop, get_or, drop_of_length-le, length-drop}
 use lib.Seq.{drop-drop, get_or-drop}
-use Rattle.json_scan.specs.Scan.{Kind, State, to, move_of, goOn, scan}
+use Rattle.json_scan.specs.Scan.{Kind, State, to, move_of, go_on, scan}
 use Rattle.json_scan.specs.WorkingEnds.{leading, end_of}
-use Rattle.json_scan.proofs.Scanning.{drop_at, go_on}
+use Rattle.json_scan.proofs.Scanning.{drop_at, go_on_lem}
 
 -- the byte there passes
 pub end_more : (test : ℕ → Bool) (bytes : List ℕ) (at : ℕ) → at < length bytes → test (get_or bytes at 0) ≡ true → end_of test bytes at ≡ end_of test bytes (at + 1)
@@ -20,16 +20,16 @@ end_more test bytes at l e =
     omega (arith, step)
 
 -- it does not, or there is none
-pub end-here : (test : ℕ → Bool) (bytes : List ℕ) (at : ℕ) → at < length bytes → test (get_or bytes at 0) ≡ false → end_of test bytes at ≡ at
+pub end_here : (test : ℕ → Bool) (bytes : List ℕ) (at : ℕ) → at < length bytes → test (get_or bytes at 0) ≡ false → end_of test bytes at ≡ at
 unfolding leading
-end-here test bytes at l e =
+end_here test bytes at l e =
     let stop : leading test (drop at bytes) ≡ 0 =
     ap (leading test) (drop_at bytes at l) ∙ ap (λ (t : Bool). cond t (suc (leading test (drop (at + 1) bytes))) 0) e in
     omega (arith, stop)
 
-pub end-over : (test : ℕ → Bool) (bytes : List ℕ) (at : ℕ) → length bytes ≤ at → end_of test bytes at ≡ at
+pub end_over : (test : ℕ → Bool) (bytes : List ℕ) (at : ℕ) → length bytes ≤ at → end_of test bytes at ≡ at
 unfolding leading
-end-over test bytes at l =
+end_over test bytes at l =
     let stop : leading test (drop at bytes) ≡ 0 = ap (leading test) (drop_of_length-le bytes l) in
     omega (arith, stop)
 
@@ -46,8 +46,8 @@ stops test (x ∷ xs) l = go (λ m. stops test xs m) (test x) refl l
     go again true e l = again (le_of_suc-le-suc l)
     go again false e l = e
 
-pub end-stops : (test : ℕ → Bool) (bytes : List ℕ) (at : ℕ) → end_of test bytes at < length bytes → test (get_or bytes (end_of test bytes at) 0) ≡ false
-end-stops test bytes at l =
+pub end_stops : (test : ℕ → Bool) (bytes : List ℕ) (at : ℕ) → end_of test bytes at < length bytes → test (get_or bytes (end_of test bytes at) 0) ≡ false
+end_stops test bytes at l =
     ap test (sym (get_or-drop at bytes (leading test (drop at bytes)) 0))
     ∙ stops test (drop at bytes) (omega (arith, length-drop at bytes))
 
@@ -63,36 +63,36 @@ passes f test same at (x ∷ xs) = go (passes f test same (at + 1) xs) (test x) 
     go again true e = same at x xs e ∙ again ∙ ap (λ (i : ℕ). f i (drop (leading test xs) xs)) (omega arith)
     go again false e = ap (λ (i : ℕ). f i (x ∷ xs)) (omega arith)
 
-pub passes-to :
+pub passes_to :
     {A : Type 0} (f : ℕ → List ℕ → A) (test : ℕ → Bool) → ((at c : ℕ) (cs : List ℕ) → test c ≡ true → f at (c ∷ cs) ≡ f (at + 1) cs) → (bytes : List ℕ) (at : ℕ) →
     f at (drop at bytes) ≡ f (end_of test bytes at) (drop (end_of test bytes at) bytes)
-passes-to f test same bytes at = passes f test same at (drop at bytes) ∙ ap (f (end_of test bytes at)) (drop-drop (leading test (drop at bytes)) at bytes)
+passes_to f test same bytes at = passes f test same at (drop at bytes) ∙ ap (f (end_of test bytes at)) (drop-drop (leading test (drop at bytes)) at bytes)
 
 -- so it is with bytes that leave the reading where it stands
-pub scan-passes :
+pub scan_passes :
     (most : ℕ) (state : State) (around : List Kind) (test : ℕ → Bool) (bytes : List ℕ) (at : ℕ) → ((c : ℕ) → test c ≡ true → move_of state around c ≡ to state around) →
     length around ≤ most → scan most state around at (drop at bytes) ≡ scan most state around (end_of test bytes at) (drop (end_of test bytes at) bytes)
 unfolding scan
-scan-passes most state around test bytes at stays room =
-    passes-to (scan most state around) test
+scan_passes most state around test bytes at stays room =
+    passes_to (scan most state around) test
     (λ i c cs e.
-    ap (goOn most i (λ state₁ around₁. scan most state₁ around₁ (i + 1) cs)) (stays c e) ∙ go_on most i (λ state₁ around₁. scan most state₁ around₁ (i + 1) cs) state around room)
+    ap (go_on most i (λ state₁ around₁. scan most state₁ around₁ (i + 1) cs)) (stays c e) ∙ go_on_lem most i (λ state₁ around₁. scan most state₁ around₁ (i + 1) cs) state around room)
     bytes at
 
 -- ---- so many of them, and then the others
 
-pub leading-past : (test : ℕ → Bool) (xs : List ℕ) (n : ℕ) → n ≤ leading test xs → leading test xs ≡ n + leading test (drop n xs)
+pub leading_past : (test : ℕ → Bool) (xs : List ℕ) (n : ℕ) → n ≤ leading test xs → leading test xs ≡ n + leading test (drop n xs)
 unfolding leading
-leading-past test xs zero l = omega arith
-leading-past test [] (suc n) l = absurd (omega (arith, l))
-leading-past test (x ∷ xs) (suc n) l = go (λ m. leading-past test xs n m) (test x) l
+leading_past test xs zero l = omega arith
+leading_past test [] (suc n) l = absurd (omega (arith, l))
+leading_past test (x ∷ xs) (suc n) l = go (λ m. leading_past test xs n m) (test x) l
   where
     go : (n ≤ leading test xs → leading test xs ≡ n + leading test (drop n xs)) → (t : Bool) → suc n ≤ cond t (suc (leading test xs)) 0 → cond t (suc (leading test xs)) 0 ≡ suc n + leading test (drop n xs)
     go again true m = let e = again (le_of_suc-le-suc m) in omega (arith, e)
     go again false m = absurd (omega (arith, m))
 
-pub end-past : (test : ℕ → Bool) (bytes : List ℕ) (at n : ℕ) → n ≤ leading test (drop at bytes) → end_of test bytes at ≡ end_of test bytes (at + n)
-end-past test bytes at n l =
-    let e = leading-past test (drop at bytes) n l in
+pub end_past : (test : ℕ → Bool) (bytes : List ℕ) (at n : ℕ) → n ≤ leading test (drop at bytes) → end_of test bytes at ≡ end_of test bytes (at + n)
+end_past test bytes at n l =
+    let e = leading_past test (drop at bytes) n l in
     let d : leading test (drop n (drop at bytes)) ≡ leading test (drop (at + n) bytes) = ap (leading test) (drop-drop n at bytes) in
     omega (arith, e, d)

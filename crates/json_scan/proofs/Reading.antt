@@ -12,11 +12,11 @@ use Rattle.bytes_number.proofs.Truth.{outcome}
 use Rattle.json_scan.specs.declared.Verdict.TheVariants.{Json, NotJson}
 use Rattle.json_scan.specs.declared.Reached.{Reached}
 use Rattle.json_scan.specs.declared.Reached.TheVariants as told
-use Rattle.json_scan.specs.Scan.{Class, Kind, Due, State, nowhere, to, remaining, move_of, isEnded, goOn, scan}
+use Rattle.json_scan.specs.Scan.{Class, Kind, Due, State, nowhere, to, remaining, move_of, is_ended, go_on, scan}
 use Rattle.json_scan.specs.WorkingEnds.{end_of, followed}
 use Rattle.json_scan.specs.WorkingReads.{Came, Behind, Stopped, Deeper, place_of, came, ReadsOn}
-use Rattle.json_scan.proofs.Scanning.{scan-at, scan-over, go_on}
-use Rattle.json_scan.proofs.Leading.{scan-passes}
+use Rattle.json_scan.proofs.Scanning.{scan_at, scan_over, go_on_lem}
+use Rattle.json_scan.proofs.Leading.{scan_passes}
 
 -- a token, however many levels are left
 abbrev pub ReadsToken : List ℕ → ℕ → State → State → Came → Type 0
@@ -49,36 +49,36 @@ pub reads_more :
 reads_more {bytes} {room} {at} {state} {next} {r} state₁ l e rest =
     record {
       same = λ around.
-          scan-at (length around + room) state around bytes at l
-          ∙ ap (goOn (length around + room) at (λ state₂ around₂. scan (length around + room) state₂ around₂ (at + 1) (drop (at + 1) bytes))) (e around)
-          ∙ go_on (length around + room) at (λ state₂ around₂. scan (length around + room) state₂ around₂ (at + 1) (drop (at + 1) bytes)) state₁ around (omega arith)
+          scan_at (length around + room) state around bytes at l
+          ∙ ap (go_on (length around + room) at (λ state₂ around₂. scan (length around + room) state₂ around₂ (at + 1) (drop (at + 1) bytes))) (e around)
+          ∙ go_on_lem (length around + room) at (λ state₂ around₂. scan (length around + room) state₂ around₂ (at + 1) (drop (at + 1) bytes)) state₁ around (omega arith)
           ∙ rest.same around;
       onward = omega (arith, rest.onward);
     }
 
 -- the byte is the last one
-pub reads-last :
+pub reads_last :
     {bytes : List ℕ} {room at : ℕ} {state next : State} →
     at < length bytes → ((around : List Kind) → move_of state around (get_or bytes at 0) ≡ to next around) → ReadsOn bytes room at state next (Behind (at + 1))
-reads-last {next = next} l e = reads_more next l e reads_none
+reads_last {next = next} l e = reads_more next l e reads_none
 
 -- the byte leads nowhere
-pub reads-wrong :
+pub reads_wrong :
     {bytes : List ℕ} {room at : ℕ} {state next : State} →
     at < length bytes → ((around : List Kind) → move_of state around (get_or bytes at 0) ≡ nowhere) → ReadsOn bytes room at state next (Stopped at)
-reads-wrong {bytes} {room} {at} {state} l e =
+reads_wrong {bytes} {room} {at} {state} l e =
     record {
       same = λ around.
-          scan-at (length around + room) state around bytes at l
-          ∙ ap (goOn (length around + room) at (λ state₂ around₂. scan (length around + room) state₂ around₂ (at + 1) (drop (at + 1) bytes))) (e around);
+          scan_at (length around + room) state around bytes at l
+          ∙ ap (go_on (length around + room) at (λ state₂ around₂. scan (length around + room) state₂ around₂ (at + 1) (drop (at + 1) bytes))) (e around);
       onward = omega arith;
     }
 
 -- no byte is left
-pub reads_over : {bytes : List ℕ} {room at : ℕ} {state next : State} → length bytes ≤ at → isEnded state ≡ false → ReadsOn bytes room at state next (Stopped at)
+pub reads_over : {bytes : List ℕ} {room at : ℕ} {state next : State} → length bytes ≤ at → is_ended state ≡ false → ReadsOn bytes room at state next (Stopped at)
 reads_over {bytes} {room} {at} {state} l e =
     record {
-      same = λ around. scan-over (length around + room) state around bytes at l ∙ ap (λ (t : Bool). cond t Json (NotJson at)) e;
+      same = λ around. scan_over (length around + room) state around bytes at l ∙ ap (λ (t : Bool). cond t Json (NotJson at)) e;
       onward = omega arith;
     }
 
@@ -88,15 +88,15 @@ pub reads_then :
 reads_then one two = record { same = λ around. one.same around ∙ two.same around; onward = omega (arith, one.onward, two.onward) }
 
 -- a reader that came behind what it read took something
-pub takes-from : {at : ℕ} (i : ℕ) (r : Came) → at < i → i ≤ place_of r → Takes at r
-takes-from i (Behind j) l m = omega arith
-takes-from i (Stopped j) l m = tt
-takes-from i (Deeper j) l m = tt
+pub takes_from : {at : ℕ} (i : ℕ) (r : Came) → at < i → i ≤ place_of r → Takes at r
+takes_from i (Behind j) l m = omega arith
+takes_from i (Stopped j) l m = tt
+takes_from i (Deeper j) l m = tt
 
-pub takes-more : {at : ℕ} (i : ℕ) (r : Came) → at ≤ i → Takes i r → Takes at r
-takes-more i (Behind j) l t = omega (arith, l, t)
-takes-more i (Stopped j) l t = tt
-takes-more i (Deeper j) l t = tt
+pub takes_more : {at : ℕ} (i : ℕ) (r : Came) → at ≤ i → Takes i r → Takes at r
+takes_more i (Behind j) l t = omega (arith, l, t)
+takes_more i (Stopped j) l t = tt
+takes_more i (Deeper j) l t = tt
 
 -- one that did not: whatever was to come then
 abbrev pub Fails : Came → Type 0
@@ -104,57 +104,57 @@ Fails (Behind i) = ⊥
 Fails (Stopped i) = Unit {0}
 Fails (Deeper i) = Unit {0}
 
-pub reads-failed : {bytes : List ℕ} {room at : ℕ} {state middle next : State} (r : Came) → Fails r → ReadsOn bytes room at state middle r → ReadsOn bytes room at state next r
-reads-failed (Behind j) fails one = absurd fails
-reads-failed (Stopped j) fails one = record { same = λ around. one.same around; onward = one.onward }
-reads-failed (Deeper j) fails one = record { same = λ around. one.same around; onward = one.onward }
+pub reads_failed : {bytes : List ℕ} {room at : ℕ} {state middle next : State} (r : Came) → Fails r → ReadsOn bytes room at state middle r → ReadsOn bytes room at state next r
+reads_failed (Behind j) fails one = absurd fails
+reads_failed (Stopped j) fails one = record { same = λ around. one.same around; onward = one.onward }
+reads_failed (Deeper j) fails one = record { same = λ around. one.same around; onward = one.onward }
 
 -- a second one behind the first, as long as that does not stop
 pub reads_followed :
     {bytes : List ℕ} {room at : ℕ} {state middle next : State} (r : Reached) (f : ℕ → Reached) → ReadsOn bytes room at state middle (came r) → ((i : ℕ) → r ≡ told.Behind i → ReadsOn bytes room i middle next (came (f i))) →
     ReadsOn bytes room at state next (came (followed r f))
 reads_followed (told.Behind i) f one two = reads_then one (two i refl)
-reads_followed (told.Stopped i) f one two = reads-failed (Stopped i) tt one
+reads_followed (told.Stopped i) f one two = reads_failed (Stopped i) tt one
 
-pub takes-followed : (at : ℕ) (r : Reached) (f : ℕ → Reached) → ((i : ℕ) → r ≡ told.Behind i → Takes at (came (f i))) → Takes at (came (followed r f))
-takes-followed at (told.Behind i) f two = two i refl
-takes-followed at (told.Stopped i) f two = tt
+pub takes_followed : (at : ℕ) (r : Reached) (f : ℕ → Reached) → ((i : ℕ) → r ≡ told.Behind i → Takes at (came (f i))) → Takes at (came (followed r f))
+takes_followed at (told.Behind i) f two = two i refl
+takes_followed at (told.Stopped i) f two = tt
 
 -- bytes at the front that leave the reading where it stands
-pub reads-passes :
+pub reads_passes :
     {bytes : List ℕ} {room at : ℕ} {state next : State} {r : Came} (test : ℕ → Bool) → ((around : List Kind) (c : ℕ) → test c ≡ true → move_of state around c ≡ to state around) →
     ReadsOn bytes room (end_of test bytes at) state next r → ReadsOn bytes room at state next r
-reads-passes {bytes} {room} {at} {state} test stays rest =
+reads_passes {bytes} {room} {at} {state} test stays rest =
     record {
-      same = λ around. scan-passes (length around + room) state around test bytes at (stays around) (omega arith) ∙ rest.same around;
+      same = λ around. scan_passes (length around + room) state around test bytes at (stays around) (omega arith) ∙ rest.same around;
       onward = omega (arith, rest.onward);
     }
 
 -- two states that the byte at the place leads alike, or that stop alike where there is none
-pub scan-alike :
-    (bytes : List ℕ) (at most : ℕ) (state state₁ : State) (around : List Kind) → isEnded state ≡ isEnded state₁ →
+pub scan_alike :
+    (bytes : List ℕ) (at most : ℕ) (state state₁ : State) (around : List Kind) → is_ended state ≡ is_ended state₁ →
     (at < length bytes → move_of state around (get_or bytes at 0) ≡ move_of state₁ around (get_or bytes at 0)) → scan most state around at (drop at bytes) ≡ scan most state₁ around at (drop at bytes)
-scan-alike bytes at most state state₁ around e f = ⊎_elim (λ t. here (ltb-true at (length bytes) t)) (λ t. over (ltb-false at (length bytes) t)) (outcome (ltb at (length bytes)))
+scan_alike bytes at most state state₁ around e f = ⊎_elim (λ t. here (ltb-true at (length bytes) t)) (λ t. over (ltb-false at (length bytes) t)) (outcome (ltb at (length bytes)))
   where
     here : at < length bytes → scan most state around at (drop at bytes) ≡ scan most state₁ around at (drop at bytes)
     here l =
-        scan-at most state around bytes at l
-        ∙ ap (goOn most at (λ state₂ around₂. scan most state₂ around₂ (at + 1) (drop (at + 1) bytes))) (f l)
-        ∙ sym (scan-at most state₁ around bytes at l)
+        scan_at most state around bytes at l
+        ∙ ap (go_on most at (λ state₂ around₂. scan most state₂ around₂ (at + 1) (drop (at + 1) bytes))) (f l)
+        ∙ sym (scan_at most state₁ around bytes at l)
 
     over : length bytes ≤ at → scan most state around at (drop at bytes) ≡ scan most state₁ around at (drop at bytes)
-    over l = scan-over most state around bytes at l ∙ ap (λ (t : Bool). cond t Json (NotJson at)) e ∙ sym (scan-over most state₁ around bytes at l)
+    over l = scan_over most state around bytes at l ∙ ap (λ (t : Bool). cond t Json (NotJson at)) e ∙ sym (scan_over most state₁ around bytes at l)
 
-pub reads-alike :
-    {bytes : List ℕ} {room at : ℕ} {state next : State} {r : Came} (state₁ : State) → isEnded state ≡ isEnded state₁ →
+pub reads_alike :
+    {bytes : List ℕ} {room at : ℕ} {state next : State} {r : Came} (state₁ : State) → is_ended state ≡ is_ended state₁ →
     (at < length bytes → (around : List Kind) → move_of state around (get_or bytes at 0) ≡ move_of state₁ around (get_or bytes at 0)) →
     ReadsOn bytes room at state₁ next r → ReadsOn bytes room at state next r
-reads-alike {bytes} {room} {at} {state} state₁ e f rest =
-    record { same = λ around. scan-alike bytes at (length around + room) state state₁ around e (λ l. f l around) ∙ rest.same around; onward = rest.onward }
+reads_alike {bytes} {room} {at} {state} state₁ e f rest =
+    record { same = λ around. scan_alike bytes at (length around + room) state state₁ around e (λ l. f l around) ∙ rest.same around; onward = rest.onward }
 
 -- the byte at the place leads nowhere, or there is none
-pub reads-stuck :
-    {bytes : List ℕ} {room at : ℕ} {state next : State} → isEnded state ≡ false → (at < length bytes → (around : List Kind) → move_of state around (get_or bytes at 0) ≡ nowhere) →
+pub reads_stuck :
+    {bytes : List ℕ} {room at : ℕ} {state next : State} → is_ended state ≡ false → (at < length bytes → (around : List Kind) → move_of state around (get_or bytes at 0) ≡ nowhere) →
     ReadsOn bytes room at state next (Stopped at)
-reads-stuck {bytes} {at = at} e f =
-    ⊎_elim (λ t. let l = ltb-true at (length bytes) t in reads-wrong l (f l)) (λ t. reads_over (ltb-false at (length bytes) t) e) (outcome (ltb at (length bytes)))
+reads_stuck {bytes} {at = at} e f =
+    ⊎_elim (λ t. let l = ltb-true at (length bytes) t in reads_wrong l (f l)) (λ t. reads_over (ltb-false at (length bytes) t) e) (outcome (ltb at (length bytes)))

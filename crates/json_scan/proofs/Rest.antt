@@ -11,72 +11,72 @@ use lib.ListN.{length, drop, get_or, replicate, drop_of_length-le}
 use Rattle.bytes_number.proofs.Truth.{outcome, clash}
 use Rattle.json_scan.specs.declared.Reached.{Reached}
 use Rattle.json_scan.specs.declared.Reached.TheVariants.{Behind, Stopped}
-use Rattle.json_scan.specs.Scan.{Class, holds, Kind, State, rest, ended, nowhere, to, remaining, restMove, move_of}
-use Rattle.json_scan.specs.WorkingEnds.{restEnd}
+use Rattle.json_scan.specs.Scan.{Class, holds, Kind, State, rest, ended, nowhere, to, remaining, rest_move, move_of}
+use Rattle.json_scan.specs.WorkingEnds.{rest_end}
 use Rattle.json_scan.specs.WorkingReads.{place_of, came, ReadsOn}
 use Rattle.json_scan.proofs.Scanning.{drop_at, inside}
-use Rattle.json_scan.proofs.Reading.{ReadsRest, reads_none, reads_more, reads-wrong, reads_over}
+use Rattle.json_scan.proofs.Reading.{ReadsRest, reads_none, reads_more, reads_wrong, reads_over}
 
 -- ---- one byte of it
 
 -- there is none
-pub rest_over : (k : Class) (ks : List Class) (bytes : List ℕ) (at : ℕ) → length bytes ≤ at → restEnd (k ∷ ks) at (drop at bytes) ≡ Stopped at
-unfolding restEnd
-rest_over k ks bytes at l = ap (restEnd (k ∷ ks) at) (drop_of_length-le bytes l)
+pub rest_over : (k : Class) (ks : List Class) (bytes : List ℕ) (at : ℕ) → length bytes ≤ at → rest_end (k ∷ ks) at (drop at bytes) ≡ Stopped at
+unfolding rest_end
+rest_over k ks bytes at l = ap (rest_end (k ∷ ks) at) (drop_of_length-le bytes l)
 
 -- it may come, or not
 module _ (k : Class) (ks : List Class) (bytes : List ℕ) (at : ℕ) (l : at < length bytes) where
-  first : restEnd (k ∷ ks) at (drop at bytes) ≡ cond (holds k (get_or bytes at 0)) (restEnd ks (at + 1) (drop (at + 1) bytes)) (Stopped at)
-  unfolding restEnd
-  first = ap (restEnd (k ∷ ks) at) (drop_at bytes at l)
+  first : rest_end (k ∷ ks) at (drop at bytes) ≡ cond (holds k (get_or bytes at 0)) (rest_end ks (at + 1) (drop (at + 1) bytes)) (Stopped at)
+  unfolding rest_end
+  first = ap (rest_end (k ∷ ks) at) (drop_at bytes at l)
 
-  pub rest_more : holds k (get_or bytes at 0) ≡ true → restEnd (k ∷ ks) at (drop at bytes) ≡ restEnd ks (at + 1) (drop (at + 1) bytes)
-  rest_more e = first ∙ ap (λ (t : Bool). cond t (restEnd ks (at + 1) (drop (at + 1) bytes)) (Stopped at)) e
+  pub rest_more : holds k (get_or bytes at 0) ≡ true → rest_end (k ∷ ks) at (drop at bytes) ≡ rest_end ks (at + 1) (drop (at + 1) bytes)
+  rest_more e = first ∙ ap (λ (t : Bool). cond t (rest_end ks (at + 1) (drop (at + 1) bytes)) (Stopped at)) e
 
-  pub rest-wrong : holds k (get_or bytes at 0) ≡ false → restEnd (k ∷ ks) at (drop at bytes) ≡ Stopped at
-  rest-wrong e = first ∙ ap (λ (t : Bool). cond t (restEnd ks (at + 1) (drop (at + 1) bytes)) (Stopped at)) e
+  pub rest_wrong : holds k (get_or bytes at 0) ≡ false → rest_end (k ∷ ks) at (drop at bytes) ≡ Stopped at
+  rest_wrong e = first ∙ ap (λ (t : Bool). cond t (rest_end ks (at + 1) (drop (at + 1) bytes)) (Stopped at)) e
 
 -- ---- so far it was read
 
 -- of what was still to come at a place, so much is still to come further on
 pub record Passed (bytes : List ℕ) (at : ℕ) (ks : List Class) (i : ℕ) (left : List Class) : Type 0 where
-  pub same : restEnd ks at (drop at bytes) ≡ restEnd left i (drop i bytes)
+  pub same : rest_end ks at (drop at bytes) ≡ rest_end left i (drop i bytes)
 
 pub passed_none : {bytes : List ℕ} {at : ℕ} {ks : List Class} → Passed bytes at ks at ks
 passed_none = record { same = refl }
 
-pub passed-more :
+pub passed_more :
     {bytes : List ℕ} {at : ℕ} {ks : List Class} {i : ℕ} {k : Class} {left : List Class} →
     Passed bytes at ks i (k ∷ left) → i < length bytes → holds k (get_or bytes i 0) ≡ true → Passed bytes at ks (i + 1) left
-passed-more {bytes} {i = i} {k = k} {left = left} p l e = record { same = p.same ∙ rest_more k left bytes i l e }
+passed_more {bytes} {i = i} {k = k} {left = left} p l e = record { same = p.same ∙ rest_more k left bytes i l e }
 
-pub passed-wrong :
+pub passed_wrong :
     {bytes : List ℕ} {at : ℕ} {ks : List Class} {i : ℕ} {k : Class} {left : List Class} →
-    Passed bytes at ks i (k ∷ left) → i < length bytes → holds k (get_or bytes i 0) ≡ false → Stopped i ≡ restEnd ks at (drop at bytes)
-passed-wrong {bytes} {i = i} {k = k} {left = left} p l e = sym (p.same ∙ rest-wrong k left bytes i l e)
+    Passed bytes at ks i (k ∷ left) → i < length bytes → holds k (get_or bytes i 0) ≡ false → Stopped i ≡ rest_end ks at (drop at bytes)
+passed_wrong {bytes} {i = i} {k = k} {left = left} p l e = sym (p.same ∙ rest_wrong k left bytes i l e)
 
 pub passed_over :
     {bytes : List ℕ} {at : ℕ} {ks : List Class} {i : ℕ} {k : Class} {left : List Class} →
-    Passed bytes at ks i (k ∷ left) → length bytes ≤ i → Stopped i ≡ restEnd ks at (drop at bytes)
+    Passed bytes at ks i (k ∷ left) → length bytes ≤ i → Stopped i ≡ rest_end ks at (drop at bytes)
 passed_over {bytes} {i = i} {k = k} {left = left} p l = sym (p.same ∙ rest_over k left bytes i l)
 
 -- the same where the byte was had as `byte_at` has it: no 0 may come
-pub passed-held :
+pub passed_held :
     {bytes : List ℕ} {at : ℕ} {ks : List Class} {i : ℕ} {k : Class} {left : List Class} →
     holds k 0 ≡ false → Passed bytes at ks i (k ∷ left) → holds k (get_or bytes i 0) ≡ true → (i < length bytes) × Passed bytes at ks (i + 1) left
-passed-held {bytes} {i = i} {k = k} z p e =
+passed_held {bytes} {i = i} {k = k} z p e =
     let l = inside bytes i (λ none. clash (holds k (get_or bytes i 0)) e (ap (holds k) none ∙ z)) in
-    (l, passed-more p l e)
+    (l, passed_more p l e)
 
-pub passed-stuck :
+pub passed_stuck :
     {bytes : List ℕ} {at : ℕ} {ks : List Class} {i : ℕ} {k : Class} {left : List Class} →
-    Passed bytes at ks i (k ∷ left) → holds k (get_or bytes i 0) ≡ false → Stopped i ≡ restEnd ks at (drop at bytes)
-passed-stuck {bytes} {i = i} p e =
-    ⊎_elim (λ t. passed-wrong p (ltb-true i (length bytes) t) e) (λ t. passed_over p (ltb-false i (length bytes) t)) (outcome (ltb i (length bytes)))
+    Passed bytes at ks i (k ∷ left) → holds k (get_or bytes i 0) ≡ false → Stopped i ≡ rest_end ks at (drop at bytes)
+passed_stuck {bytes} {i = i} p e =
+    ⊎_elim (λ t. passed_wrong p (ltb-true i (length bytes) t) e) (λ t. passed_over p (ltb-false i (length bytes) t)) (outcome (ltb i (length bytes)))
 
-pub passed-all : {bytes : List ℕ} {at : ℕ} {ks : List Class} {i j : ℕ} → Passed bytes at ks i [] → j ≡ i → Behind j ≡ restEnd ks at (drop at bytes)
-unfolding restEnd
-passed-all p is = ap Behind is ∙ sym p.same
+pub passed_all : {bytes : List ℕ} {at : ℕ} {ks : List Class} {i j : ℕ} → Passed bytes at ks i [] → j ≡ i → Behind j ≡ rest_end ks at (drop at bytes)
+unfolding rest_end
+passed_all p is = ap Behind is ∙ sym p.same
 
 -- ---- where all that is still to come is of one kind
 
@@ -93,39 +93,39 @@ pub at_least_one :
     {bytes : List ℕ} {at : ℕ} {ks : List Class} {i : ℕ} (k : Class) (n : ℕ) → 0 < n → Passed bytes at ks i (replicate n k) → Passed bytes at ks i (k ∷ replicate (n - 1) k)
 at_least_one {bytes} {at} {ks} {i} k n l p = subst (λ (left : List Class). Passed bytes at ks i left) (some_left k n l) p
 
-pub no_more : {bytes : List ℕ} {at : ℕ} {ks : List Class} {i j : ℕ} (k : Class) (n : ℕ) → n ≤ 0 → Passed bytes at ks i (replicate n k) → j ≡ i → Behind j ≡ restEnd ks at (drop at bytes)
-no_more {bytes} {at} {ks} {i} k n l p is = passed-all (subst (λ (left : List Class). Passed bytes at ks i left) (none_left k n l) p) is
+pub no_more : {bytes : List ℕ} {at : ℕ} {ks : List Class} {i j : ℕ} (k : Class) (n : ℕ) → n ≤ 0 → Passed bytes at ks i (replicate n k) → j ≡ i → Behind j ≡ rest_end ks at (drop at bytes)
+no_more {bytes} {at} {ks} {i} k n l p is = passed_all (subst (λ (left : List Class). Passed bytes at ks i left) (none_left k n l) p) is
 
 -- ---- it reads on
 
-pub rest-on : (k : Class) (ks : List Class) (next : State) (around : List Kind) (c : ℕ) → holds k c ≡ true → move_of (rest k ks next) around c ≡ to (remaining ks next) around
-unfolding move_of restMove
-rest-on k ks next around c e = ap (λ (t : Bool). cond t (to (remaining ks next) around) nowhere) e
+pub rest_on : (k : Class) (ks : List Class) (next : State) (around : List Kind) (c : ℕ) → holds k c ≡ true → move_of (rest k ks next) around c ≡ to (remaining ks next) around
+unfolding move_of rest_move
+rest_on k ks next around c e = ap (λ (t : Bool). cond t (to (remaining ks next) around) nowhere) e
 
-pub rest-off : (k : Class) (ks : List Class) (next : State) (around : List Kind) (c : ℕ) → holds k c ≡ false → move_of (rest k ks next) around c ≡ nowhere
-unfolding move_of restMove
-rest-off k ks next around c e = ap (λ (t : Bool). cond t (to (remaining ks next) around) nowhere) e
+pub rest_off : (k : Class) (ks : List Class) (next : State) (around : List Kind) (c : ℕ) → holds k c ≡ false → move_of (rest k ks next) around c ≡ nowhere
+unfolding move_of rest_move
+rest_off k ks next around c e = ap (λ (t : Bool). cond t (to (remaining ks next) around) nowhere) e
 
 step :
-    (bytes : List ℕ) (k : Class) (ks : List Class) (at : ℕ) (next : State) (room : ℕ) → ReadsOn bytes room (at + 1) (remaining ks next) next (came (restEnd ks (at + 1) (drop (at + 1) bytes))) →
-    ReadsOn bytes room at (rest k ks next) next (came (restEnd (k ∷ ks) at (drop at bytes)))
+    (bytes : List ℕ) (k : Class) (ks : List Class) (at : ℕ) (next : State) (room : ℕ) → ReadsOn bytes room (at + 1) (remaining ks next) next (came (rest_end ks (at + 1) (drop (at + 1) bytes))) →
+    ReadsOn bytes room at (rest k ks next) next (came (rest_end (k ∷ ks) at (drop at bytes)))
 step bytes k ks at next room again =
     ⊎_elim
     (λ t. let l = ltb-true at (length bytes) t in
     ⊎_elim
-    (λ e. by (rest_more k ks bytes at l e) (reads_more (remaining ks next) l (λ around. rest-on k ks next around (get_or bytes at 0) e) again))
-    (λ e. by (rest-wrong k ks bytes at l e) (reads-wrong l (λ around. rest-off k ks next around (get_or bytes at 0) e)))
+    (λ e. by (rest_more k ks bytes at l e) (reads_more (remaining ks next) l (λ around. rest_on k ks next around (get_or bytes at 0) e) again))
+    (λ e. by (rest_wrong k ks bytes at l e) (reads_wrong l (λ around. rest_off k ks next around (get_or bytes at 0) e)))
     (outcome (holds k (get_or bytes at 0))))
     (λ t. let l = ltb-false at (length bytes) t in by (rest_over k ks bytes at l) (reads_over l refl))
     (outcome (ltb at (length bytes)))
   where
-    by : {r : Reached} → restEnd (k ∷ ks) at (drop at bytes) ≡ r → ReadsOn bytes room at (rest k ks next) next (came r) → ReadsOn bytes room at (rest k ks next) next (came (restEnd (k ∷ ks) at (drop at bytes)))
+    by : {r : Reached} → rest_end (k ∷ ks) at (drop at bytes) ≡ r → ReadsOn bytes room at (rest k ks next) next (came r) → ReadsOn bytes room at (rest k ks next) next (came (rest_end (k ∷ ks) at (drop at bytes)))
     by e = subst⁻¹ (λ (r : Reached). ReadsOn bytes room at (rest k ks next) next (came r)) e
 
-pub rest-reads : (bytes : List ℕ) (ks : List Class) (at : ℕ) → ReadsRest bytes at ks (came (restEnd ks at (drop at bytes)))
-unfolding restEnd
-rest-reads bytes [] at next room = reads_none
-rest-reads bytes (k ∷ ks) at next room = step bytes k ks at next room (rest-reads bytes ks (at + 1) next room)
+pub rest_reads : (bytes : List ℕ) (ks : List Class) (at : ℕ) → ReadsRest bytes at ks (came (rest_end ks at (drop at bytes)))
+unfolding rest_end
+rest_reads bytes [] at next room = reads_none
+rest_reads bytes (k ∷ ks) at next room = step bytes k ks at next room (rest_reads bytes ks (at + 1) next room)
 
-pub rest-onward : (bytes : List ℕ) (ks : List Class) (at : ℕ) → at ≤ place_of (came (restEnd ks at (drop at bytes)))
-rest-onward bytes ks at = (rest-reads bytes ks at ended 0).onward
+pub rest_onward : (bytes : List ℕ) (ks : List Class) (at : ℕ) → at ≤ place_of (came (rest_end ks at (drop at bytes)))
+rest_onward bytes ks at = (rest_reads bytes ks at ended 0).onward

@@ -9,7 +9,7 @@ use borrow.Author.Tests.{lt-ltb, le-ltb}
 use lib.ListN.{length, drop, get_or, drop_of_length-le}
 use Rattle.json_scan.specs.declared.Verdict.{Verdict}
 use Rattle.json_scan.specs.declared.Verdict.TheVariants.{Json, NotJson, TooDeep}
-use Rattle.json_scan.specs.Scan.{Kind, State, to, move_of, isEnded, goOn, scan}
+use Rattle.json_scan.specs.Scan.{Kind, State, to, move_of, is_ended, go_on, scan}
 
 far : (i : ℕ) → suc (i + 1) ≡ suc i + 1
 far i = omega arith
@@ -26,22 +26,22 @@ inside [] i f = absurd (f refl)
 inside (x ∷ xs) zero f = omega arith
 inside (x ∷ xs) (suc i) f = suc-le-suc (inside xs i f)
 
-pub scan-at :
+pub scan_at :
     (most : ℕ) (state : State) (around : List Kind) (bytes : List ℕ) (at : ℕ) → at < length bytes →
-    scan most state around at (drop at bytes) ≡ goOn most at (λ state₁ around₁. scan most state₁ around₁ (at + 1) (drop (at + 1) bytes)) (move_of state around (get_or bytes at 0))
+    scan most state around at (drop at bytes) ≡ go_on most at (λ state₁ around₁. scan most state₁ around₁ (at + 1) (drop (at + 1) bytes)) (move_of state around (get_or bytes at 0))
 unfolding scan
-scan-at most state around bytes at l = ap (scan most state around at) (drop_at bytes at l)
+scan_at most state around bytes at l = ap (scan most state around at) (drop_at bytes at l)
 
 -- no byte is left
-pub scan-over :
+pub scan_over :
     (most : ℕ) (state : State) (around : List Kind) (bytes : List ℕ) (at : ℕ) → length bytes ≤ at →
-    scan most state around at (drop at bytes) ≡ cond (isEnded state) Json (NotJson at)
+    scan most state around at (drop at bytes) ≡ cond (is_ended state) Json (NotJson at)
 unfolding scan
-scan-over most state around bytes at l = ap (scan most state around at) (drop_of_length-le bytes l)
+scan_over most state around bytes at l = ap (scan most state around at) (drop_of_length-le bytes l)
 
 -- no level too many, and one too many
-pub go_on : (most at : ℕ) (next : State → List Kind → Verdict) (state : State) (around : List Kind) → length around ≤ most → goOn most at next (to state around) ≡ next state around
-go_on most at next state around l = ap (λ (t : Bool). cond t (TooDeep at) (next state around)) (le-ltb most (length around) l)
+pub go_on_lem : (most at : ℕ) (next : State → List Kind → Verdict) (state : State) (around : List Kind) → length around ≤ most → go_on most at next (to state around) ≡ next state around
+go_on_lem most at next state around l = ap (λ (t : Bool). cond t (TooDeep at) (next state around)) (le-ltb most (length around) l)
 
-pub go-deeper : (most at : ℕ) (next : State → List Kind → Verdict) (state : State) (around : List Kind) → most < length around → goOn most at next (to state around) ≡ TooDeep at
-go-deeper most at next state around l = ap (λ (t : Bool). cond t (TooDeep at) (next state around)) (lt-ltb most (length around) l)
+pub go_deeper : (most at : ℕ) (next : State → List Kind → Verdict) (state : State) (around : List Kind) → most < length around → go_on most at next (to state around) ≡ TooDeep at
+go_deeper most at next state around l = ap (λ (t : Bool). cond t (TooDeep at) (next state around)) (lt-ltb most (length around) l)

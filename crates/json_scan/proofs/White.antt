@@ -11,110 +11,110 @@ use lib.ListN.{length, drop, get_or, get_or-eq_default}
 use Rattle.bytes_number.proofs.Truth.{outcome}
 use Rattle.json_scan.specs.declared.Verdict.{Verdict}
 use Rattle.json_scan.specs.declared.Verdict.TheVariants.{NotJson}
-use Rattle.json_scan.specs.Scan.{isWhite, Kind, Due, State, between, nowhere, to, tokenMove, betweenMove, move_of, goOn, scan}
-use Rattle.json_scan.specs.WorkingEnds.{end_of, tokenAt}
+use Rattle.json_scan.specs.Scan.{is_white, Kind, Due, State, between, nowhere, to, token_move, between_move, move_of, go_on, scan}
+use Rattle.json_scan.specs.WorkingEnds.{end_of, token_at}
 use Rattle.json_scan.specs.WorkingReads.{Came, Stopped, ReadsOn}
 use Rattle.json_scan.specs.declared.Token.{Token}
-use Rattle.json_scan.proofs.Leading.{end-here, end-stops, scan-passes}
-use Rattle.json_scan.proofs.Bytes.{white-none}
-use Rattle.json_scan.proofs.Scanning.{inside, scan-at, scan-over, go_on}
-use Rattle.json_scan.proofs.Reading.{reads-passes}
+use Rattle.json_scan.proofs.Leading.{end_here, end_stops, scan_passes}
+use Rattle.json_scan.proofs.Bytes.{white_none}
+use Rattle.json_scan.proofs.Scanning.{inside, scan_at, scan_over, go_on_lem}
+use Rattle.json_scan.proofs.Reading.{reads_passes}
 
-white-stays : (due : Due) (around : List Kind) (c : ℕ) → isWhite c ≡ true → move_of (between due) around c ≡ to (between due) around
-unfolding move_of betweenMove
-white-stays due around c e = ap (λ (t : Bool). cond t (to (between due) around) (tokenMove due around c)) e
+white_stays : (due : Due) (around : List Kind) (c : ℕ) → is_white c ≡ true → move_of (between due) around c ≡ to (between due) around
+unfolding move_of between_move
+white_stays due around c e = ap (λ (t : Bool). cond t (to (between due) around) (token_move due around c)) e
 
 -- a byte that is none begins a token
-pub token_begins : (due : Due) (around : List Kind) (c : ℕ) → isWhite c ≡ false → move_of (between due) around c ≡ tokenMove due around c
-unfolding move_of betweenMove
-token_begins due around c e = ap (λ (t : Bool). cond t (to (between due) around) (tokenMove due around c)) e
+pub token_begins : (due : Due) (around : List Kind) (c : ℕ) → is_white c ≡ false → move_of (between due) around c ≡ token_move due around c
+unfolding move_of between_move
+token_begins due around c e = ap (λ (t : Bool). cond t (to (between due) around) (token_move due around c)) e
 
 -- where the white space ends that begins at a place
-pub reads-white :
-    {bytes : List ℕ} {room at i : ℕ} {due : Due} {next : State} {r : Came} → i ≡ end_of isWhite bytes at → ReadsOn bytes room i (between due) next r → ReadsOn bytes room at (between due) next r
-reads-white {bytes} {room} {due = due} {next = next} {r = r} end rest = reads-passes isWhite (white-stays due) (subst (λ (j : ℕ). ReadsOn bytes room j (between due) next r) end rest)
+pub reads_white :
+    {bytes : List ℕ} {room at i : ℕ} {due : Due} {next : State} {r : Came} → i ≡ end_of is_white bytes at → ReadsOn bytes room i (between due) next r → ReadsOn bytes room at (between due) next r
+reads_white {bytes} {room} {due = due} {next = next} {r = r} end rest = reads_passes is_white (white_stays due) (subst (λ (j : ℕ). ReadsOn bytes room j (between due) next r) end rest)
 
-module _ (bytes : List ℕ) (at i : ℕ) (end : i ≡ end_of isWhite bytes at) where
-  pub white-further : at ≤ i
-  white-further = omega (arith, end)
+module _ (bytes : List ℕ) (at i : ℕ) (end : i ≡ end_of is_white bytes at) where
+  pub white_further : at ≤ i
+  white_further = omega (arith, end)
 
-  pub dark-at : i < length bytes → isWhite (get_or bytes i 0) ≡ false
-  dark-at l = subst⁻¹ (λ (j : ℕ). isWhite (get_or bytes j 0) ≡ false) end (end-stops isWhite bytes at (omega (arith, end, l)))
+  pub dark_at : i < length bytes → is_white (get_or bytes i 0) ≡ false
+  dark_at l = subst⁻¹ (λ (j : ℕ). is_white (get_or bytes j 0) ≡ false) end (end_stops is_white bytes at (omega (arith, end, l)))
 
-  pub scan-white : (most : ℕ) (due : Due) (around : List Kind) → length around ≤ most → scan most (between due) around at (drop at bytes) ≡ scan most (between due) around i (drop i bytes)
-  scan-white most due around l =
-      scan-passes most (between due) around isWhite bytes at (white-stays due around) l
+  pub scan_white : (most : ℕ) (due : Due) (around : List Kind) → length around ≤ most → scan most (between due) around at (drop at bytes) ≡ scan most (between due) around i (drop i bytes)
+  scan_white most due around l =
+      scan_passes most (between due) around is_white bytes at (white_stays due around) l
       ∙ ap (λ (j : ℕ). scan most (between due) around j (drop j bytes)) (sym end)
 
 -- a byte above them is none
-pub white-above : (bytes : List ℕ) (at : ℕ) → 32 < get_or bytes at 0 → at ≡ end_of isWhite bytes at
-white-above bytes at l =
+pub white_above : (bytes : List ℕ) (at : ℕ) → 32 < get_or bytes at 0 → at ≡ end_of is_white bytes at
+white_above bytes at l =
     let c = get_or bytes at 0 in
-    sym (end-here isWhite bytes at (inside bytes at (λ e. omega (arith, l, e))) (sym (white-none c (λ e. omega (arith, l, e)) (λ e. omega (arith, l, e)) (λ e. omega (arith, l, e)) (λ e. omega (arith, l, e)))))
+    sym (end_here is_white bytes at (inside bytes at (λ e. omega (arith, l, e))) (sym (white_none c (λ e. omega (arith, l, e)) (λ e. omega (arith, l, e)) (λ e. omega (arith, l, e)) (λ e. omega (arith, l, e)))))
 
 -- ---- a place where a token may begin, with the byte there
 
 pub record TokenAt (bytes : List ℕ) (from : ℕ) (t : Token) : Type 0 where
-  pub end : t.at ≡ end_of isWhite bytes from
+  pub end : t.at ≡ end_of is_white bytes from
   pub there : t.byte ≡ get_or bytes t.at 0
 
-pub token-is : (bytes : List ℕ) (from : ℕ) {at byte : ℕ} → at ≡ end_of isWhite bytes from → byte ≡ get_or bytes at 0 → record { at = at; byte = byte } ≡ tokenAt bytes from
-unfolding tokenAt
-token-is bytes from end there = let is = there ∙ ap (λ (j : ℕ). get_or bytes j 0) end in λ i. record { at = end i; byte = is i }
+pub token_is : (bytes : List ℕ) (from : ℕ) {at byte : ℕ} → at ≡ end_of is_white bytes from → byte ≡ get_or bytes at 0 → record { at = at; byte = byte } ≡ token_at bytes from
+unfolding token_at
+token_is bytes from end there = let is = there ∙ ap (λ (j : ℕ). get_or bytes j 0) end in λ i. record { at = end i; byte = is i }
 
-pub token-told : (bytes : List ℕ) (from : ℕ) {t : Token} → t ≡ tokenAt bytes from → TokenAt bytes from t
-unfolding tokenAt
-token-told bytes from {t} e =
-    let end : t.at ≡ end_of isWhite bytes from = ap (λ (x : Token). x.at) e in
+pub token_told : (bytes : List ℕ) (from : ℕ) {t : Token} → t ≡ token_at bytes from → TokenAt bytes from t
+unfolding token_at
+token_told bytes from {t} e =
+    let end : t.at ≡ end_of is_white bytes from = ap (λ (x : Token). x.at) e in
     record { end = end; there = ap (λ (x : Token). x.byte) e ∙ ap (λ (j : ℕ). get_or bytes j 0) (sym end) }
 
 module _ {bytes : List ℕ} {from : ℕ} {t : Token} (b : TokenAt bytes from t) where
-  pub token-further : from ≤ t.at
-  token-further = white-further bytes from t.at b.end
+  pub token_further : from ≤ t.at
+  token_further = white_further bytes from t.at b.end
 
-  pub token-there : (t.byte ≡ 0 → ⊥) → t.at < length bytes
-  token-there f = inside bytes t.at (λ e. f (b.there ∙ e))
+  pub token_there : (t.byte ≡ 0 → ⊥) → t.at < length bytes
+  token_there f = inside bytes t.at (λ e. f (b.there ∙ e))
 
-  pub token-over : length bytes ≤ t.at → t.byte ≡ 0
-  token-over l = b.there ∙ get_or-eq_default bytes 0 l
+  pub token_over : length bytes ≤ t.at → t.byte ≡ 0
+  token_over l = b.there ∙ get_or-eq_default bytes 0 l
 
-  pub token-dark : t.at < length bytes → isWhite t.byte ≡ false
-  token-dark l = ap isWhite b.there ∙ dark-at bytes from t.at b.end l
+  pub token_dark : t.at < length bytes → is_white t.byte ≡ false
+  token_dark l = ap is_white b.there ∙ dark_at bytes from t.at b.end l
 
   -- the byte leads on
-  pub scan-on :
+  pub scan_on :
       (most : ℕ) (due : Due) (around : List Kind) (state₁ : State) (around₁ : List Kind) → length around ≤ most → length around₁ ≤ most → t.at < length bytes →
       move_of (between due) around t.byte ≡ to state₁ around₁ → scan most (between due) around from (drop from bytes) ≡ scan most state₁ around₁ (t.at + 1) (drop (t.at + 1) bytes)
-  scan-on most due around state₁ around₁ l m h e =
+  scan_on most due around state₁ around₁ l m h e =
       let next : State → List Kind → Verdict = λ state₂ around₂. scan most state₂ around₂ (t.at + 1) (drop (t.at + 1) bytes) in
-      scan-white bytes from t.at b.end most due around l
-      ∙ scan-at most (between due) around bytes t.at h
-      ∙ ap (λ (c : ℕ). goOn most t.at next (move_of (between due) around c)) (sym b.there)
-      ∙ ap (goOn most t.at next) e
-      ∙ go_on most t.at next state₁ around₁ m
+      scan_white bytes from t.at b.end most due around l
+      ∙ scan_at most (between due) around bytes t.at h
+      ∙ ap (λ (c : ℕ). go_on most t.at next (move_of (between due) around c)) (sym b.there)
+      ∙ ap (go_on most t.at next) e
+      ∙ go_on_lem most t.at next state₁ around₁ m
 
   -- it leads nowhere, or there is none
-  pub scan-stuck :
-      (most : ℕ) (due : Due) (around : List Kind) → length around ≤ most → (isWhite t.byte ≡ false → move_of (between due) around t.byte ≡ nowhere) →
+  pub scan_stuck :
+      (most : ℕ) (due : Due) (around : List Kind) → length around ≤ most → (is_white t.byte ≡ false → move_of (between due) around t.byte ≡ nowhere) →
       scan most (between due) around from (drop from bytes) ≡ NotJson t.at
-  scan-stuck most due around l e =
-      scan-white bytes from t.at b.end most due around l
-      ∙ ⊎_elim (λ u. here (ltb-true t.at (length bytes) u)) (λ u. scan-over most (between due) around bytes t.at (ltb-false t.at (length bytes) u)) (outcome (ltb t.at (length bytes)))
+  scan_stuck most due around l e =
+      scan_white bytes from t.at b.end most due around l
+      ∙ ⊎_elim (λ u. here (ltb-true t.at (length bytes) u)) (λ u. scan_over most (between due) around bytes t.at (ltb-false t.at (length bytes) u)) (outcome (ltb t.at (length bytes)))
     where
       here : t.at < length bytes → scan most (between due) around t.at (drop t.at bytes) ≡ NotJson t.at
       here m =
-          scan-at most (between due) around bytes t.at m
-          ∙ ap (goOn most t.at (λ state₂ around₂. scan most state₂ around₂ (t.at + 1) (drop (t.at + 1) bytes))) (ap (move_of (between due) around) (sym b.there) ∙ e (token-dark m))
+          scan_at most (between due) around bytes t.at m
+          ∙ ap (go_on most t.at (λ state₂ around₂. scan most state₂ around₂ (t.at + 1) (drop (t.at + 1) bytes))) (ap (move_of (between due) around) (sym b.there) ∙ e (token_dark m))
 
   -- the same of a reader: the rest is read from there
-  pub token-on :
+  pub token_on :
       {room : ℕ} {due : Due} {next : State} {r : Came} (state₁ : State) → (t.byte ≡ 0 → ⊥) → ((around : List Kind) → move_of (between due) around t.byte ≡ to state₁ around) →
       ReadsOn bytes room (t.at + 1) state₁ next r → ReadsOn bytes room from (between due) next r
-  token-on {room} {due} state₁ f e rest =
+  token_on {room} {due} state₁ f e rest =
       record {
-        same = λ around. scan-on (length around + room) due around state₁ around (omega arith) (omega arith) (token-there f) (e around) ∙ rest.same around;
-        onward = omega (arith, token-further, rest.onward);
+        same = λ around. scan_on (length around + room) due around state₁ around (omega arith) (omega arith) (token_there f) (e around) ∙ rest.same around;
+        onward = omega (arith, token_further, rest.onward);
       }
 
-  pub token-stuck : {room : ℕ} {due : Due} {next : State} → (isWhite t.byte ≡ false → (around : List Kind) → move_of (between due) around t.byte ≡ nowhere) → ReadsOn bytes room from (between due) next (Stopped t.at)
-  token-stuck {room} {due} e = record { same = λ around. scan-stuck (length around + room) due around (omega arith) (λ dark. e dark around); onward = token-further }
+  pub token_stuck : {room : ℕ} {due : Due} {next : State} → (is_white t.byte ≡ false → (around : List Kind) → move_of (between due) around t.byte ≡ nowhere) → ReadsOn bytes room from (between due) next (Stopped t.at)
+  token_stuck {room} {due} e = record { same = λ around. scan_stuck (length around + room) due around (omega arith) (λ dark. e dark around); onward = token_further }

@@ -7,27 +7,27 @@ use Rattle.json_scan.specs.declared.Verdict.TheVariants.{Json, NotJson, TooDeep}
 -- ---- bytes
 
 -- "White space is 20, 09, 0A, 0D."
-unfoldable pub isWhite : ℕ → Bool
-isWhite c = eqb c 32 || eqb c 9 || eqb c 10 || eqb c 13
+unfoldable pub is_white : ℕ → Bool
+is_white c = eqb c 32 || eqb c 9 || eqb c 10 || eqb c 13
 
-unfoldable pub isWithin : ℕ → ℕ → ℕ → Bool
-isWithin first last c = leb first c && leb c last
+unfoldable pub is_within : ℕ → ℕ → ℕ → Bool
+is_within first last c = leb first c && leb c last
 
-abbrev pub isDigit : ℕ → Bool
-isDigit c = isWithin 48 57 c
+abbrev pub is_digit : ℕ → Bool
+is_digit c = is_within 48 57 c
 
-abbrev pub isE : ℕ → Bool
-isE c = eqb c 101 || eqb c 69
+abbrev pub is_e : ℕ → Bool
+is_e c = eqb c 101 || eqb c 69
 
-abbrev pub isSign : ℕ → Bool
-isSign c = eqb c 45 || eqb c 43
+abbrev pub is_sign : ℕ → Bool
+is_sign c = eqb c 45 || eqb c 43
 
-unfoldable pub isHexDigit : ℕ → Bool
-isHexDigit c = isDigit c || isWithin 65 70 c || isWithin 97 102 c
+unfoldable pub is_hex_digit : ℕ → Bool
+is_hex_digit c = is_digit c || is_within 65 70 c || is_within 97 102 c
 
 -- an escape of one byte behind the backslash
-unfoldable pub isEscape : ℕ → Bool
-isEscape c = eqb c 34 || eqb c 92 || eqb c 47 || eqb c 98 || eqb c 102 || eqb c 110 || eqb c 114 || eqb c 116
+unfoldable pub is_escape : ℕ → Bool
+is_escape c = eqb c 34 || eqb c 92 || eqb c 47 || eqb c 98 || eqb c 102 || eqb c 110 || eqb c 114 || eqb c 116
 
 -- which bytes may come next within a token
 pub data Class : Type 0 where
@@ -35,37 +35,37 @@ pub data Class : Type 0 where
   hex : Class
   -- in UTF-8: a tail; and the tails that may stand behind E0, ED, F0 and F4
   tail : Class
-  tailE0 : Class
-  tailED : Class
-  tailF0 : Class
-  tailF4 : Class
+  tail_E0 : Class
+  tail_ED : Class
+  tail_F0 : Class
+  tail_F4 : Class
 
 unfoldable pub holds : Class → ℕ → Bool
 holds (exactly x) c = eqb c x
-holds hex c = isHexDigit c
-holds tail c = isWithin 128 191 c
-holds tailE0 c = isWithin 160 191 c
-holds tailED c = isWithin 128 159 c
-holds tailF0 c = isWithin 144 191 c
-holds tailF4 c = isWithin 128 143 c
+holds hex c = is_hex_digit c
+holds tail c = is_within 128 191 c
+holds tail_E0 c = is_within 160 191 c
+holds tail_ED c = is_within 128 159 c
+holds tail_F0 c = is_within 144 191 c
+holds tail_F4 c = is_within 128 143 c
 
 -- the second byte of a character, by its first
 unfoldable pub second_of : ℕ → Class
-second_of c = cond (eqb c 224) tailE0 (cond (eqb c 237) tailED (cond (eqb c 240) tailF0 (cond (eqb c 244) tailF4 tail)))
+second_of c = cond (eqb c 224) tail_E0 (cond (eqb c 237) tail_ED (cond (eqb c 240) tail_F0 (cond (eqb c 244) tail_F4 tail)))
 
 -- what comes behind the first byte of a character of two bytes or more; nothing if it is no such byte
-unfoldable pub tailsOf : ℕ → List Class
-tailsOf c =
-    cond (isWithin 194 223 c) (second_of c ∷ [])
-    (cond (isWithin 224 239 c) (second_of c ∷ tail ∷ [])
-    (cond (isWithin 240 244 c) (second_of c ∷ tail ∷ tail ∷ [])
+unfoldable pub tails_of : ℕ → List Class
+tails_of c =
+    cond (is_within 194 223 c) (second_of c ∷ [])
+    (cond (is_within 224 239 c) (second_of c ∷ tail ∷ [])
+    (cond (is_within 240 244 c) (second_of c ∷ tail ∷ tail ∷ [])
     []))
 
 -- ---- where a reading stands
 
 -- what is open
 pub data Kind : Type 0 where
-  inObject : Kind
+  in_object : Kind
   in_array : Kind
 
 -- between two tokens, where white space may stand: what is due
@@ -73,8 +73,8 @@ pub data Due : Type 0 where
   -- the outer object
   outer : Due
   -- behind the opening byte of an object or an array
-  firstName : Due
-  firstValue : Due
+  first_name : Due
+  first_value : Due
   -- a name behind a comma, its colon, a value
   name : Due
   colon : Due
@@ -86,7 +86,7 @@ pub data Due : Type 0 where
 -- digits of exp
 pub data Figure : Type 0 where
   minus : Figure
-  leadingZero : Figure
+  leading_zero : Figure
   whole : Figure
   point : Figure
   fraction : Figure
@@ -111,114 +111,114 @@ pub data Move : Type 0 where
   to : State → List Kind → Move
 
 -- the first byte of a value
-unfoldable pub valueStep : List Kind → ℕ → Move
-valueStep around c =
+unfoldable pub value_step : List Kind → ℕ → Move
+value_step around c =
     cond (eqb c 34) (to (text behind) around)
-    (cond (eqb c 123) (to (between firstName) (inObject ∷ around))
-    (cond (eqb c 91) (to (between firstValue) (in_array ∷ around))
+    (cond (eqb c 123) (to (between first_name) (in_object ∷ around))
+    (cond (eqb c 91) (to (between first_value) (in_array ∷ around))
     (cond (eqb c 45) (to (number minus) around)
-    (cond (eqb c 48) (to (number leadingZero) around)
-    (cond (isDigit c) (to (number whole) around)
+    (cond (eqb c 48) (to (number leading_zero) around)
+    (cond (is_digit c) (to (number whole) around)
     (cond (eqb c 102) (to (rest (exactly 97) (exactly 108 ∷ exactly 115 ∷ exactly 101 ∷ []) (between behind)) around)
     (cond (eqb c 110) (to (rest (exactly 117) (exactly 108 ∷ exactly 108 ∷ []) (between behind)) around)
     (cond (eqb c 116) (to (rest (exactly 114) (exactly 117 ∷ exactly 101 ∷ []) (between behind)) around)
     nowhere))))))))
 
 -- the quotation mark of a name
-abbrev pub nameStep : List Kind → ℕ → Move
-nameStep around c = cond (eqb c 34) (to (text colon) around) nowhere
+abbrev pub name_step : List Kind → ℕ → Move
+name_step around c = cond (eqb c 34) (to (text colon) around) nowhere
 
 -- behind a value
-unfoldable pub behindStep : List Kind → ℕ → Move
-behindStep [] c = cond (eqb c 0) (to ended []) nowhere
-behindStep (inObject ∷ around) c = cond (eqb c 44) (to (between name) (inObject ∷ around)) (cond (eqb c 125) (to (between behind) around) nowhere)
-behindStep (in_array ∷ around) c = cond (eqb c 44) (to (between value) (in_array ∷ around)) (cond (eqb c 93) (to (between behind) around) nowhere)
+unfoldable pub behind_step : List Kind → ℕ → Move
+behind_step [] c = cond (eqb c 0) (to ended []) nowhere
+behind_step (in_object ∷ around) c = cond (eqb c 44) (to (between name) (in_object ∷ around)) (cond (eqb c 125) (to (between behind) around) nowhere)
+behind_step (in_array ∷ around) c = cond (eqb c 44) (to (between value) (in_array ∷ around)) (cond (eqb c 93) (to (between behind) around) nowhere)
 
 -- a byte that is no white space, where a token is due
-unfoldable pub tokenMove : Due → List Kind → ℕ → Move
-tokenMove outer around c = cond (eqb c 123) (to (between firstName) (inObject ∷ [])) nowhere
-tokenMove firstName around c = cond (eqb c 125) (behindStep around c) (nameStep around c)
-tokenMove firstValue around c = cond (eqb c 93) (behindStep around c) (valueStep around c)
-tokenMove name around c = nameStep around c
-tokenMove colon around c = cond (eqb c 58) (to (between value) around) nowhere
-tokenMove value around c = valueStep around c
-tokenMove behind around c = behindStep around c
+unfoldable pub token_move : Due → List Kind → ℕ → Move
+token_move outer around c = cond (eqb c 123) (to (between first_name) (in_object ∷ [])) nowhere
+token_move first_name around c = cond (eqb c 125) (behind_step around c) (name_step around c)
+token_move first_value around c = cond (eqb c 93) (behind_step around c) (value_step around c)
+token_move name around c = name_step around c
+token_move colon around c = cond (eqb c 58) (to (between value) around) nowhere
+token_move value around c = value_step around c
+token_move behind around c = behind_step around c
 
-unfoldable pub betweenMove : Due → List Kind → ℕ → Move
-betweenMove due around c = cond (isWhite c) (to (between due) around) (tokenMove due around c)
+unfoldable pub between_move : Due → List Kind → ℕ → Move
+between_move due around c = cond (is_white c) (to (between due) around) (token_move due around c)
 
 -- "A number's end is seen at the byte behind it"
-unfoldable pub numberMove : Figure → List Kind → ℕ → Move
-numberMove minus around c = cond (eqb c 48) (to (number leadingZero) around) (cond (isDigit c) (to (number whole) around) nowhere)
-numberMove leadingZero around c =
-    cond (eqb c 46) (to (number point) around) (cond (isE c) (to (number exponent) around) (betweenMove behind around c))
-numberMove whole around c =
-    cond (isDigit c) (to (number whole) around)
-    (cond (eqb c 46) (to (number point) around) (cond (isE c) (to (number exponent) around) (betweenMove behind around c)))
-numberMove point around c = cond (isDigit c) (to (number fraction) around) nowhere
-numberMove fraction around c =
-    cond (isDigit c) (to (number fraction) around) (cond (isE c) (to (number exponent) around) (betweenMove behind around c))
-numberMove exponent around c = cond (isSign c) (to (number sign) around) (cond (isDigit c) (to (number power) around) nowhere)
-numberMove sign around c = cond (isDigit c) (to (number power) around) nowhere
-numberMove power around c = cond (isDigit c) (to (number power) around) (betweenMove behind around c)
+unfoldable pub number_move : Figure → List Kind → ℕ → Move
+number_move minus around c = cond (eqb c 48) (to (number leading_zero) around) (cond (is_digit c) (to (number whole) around) nowhere)
+number_move leading_zero around c =
+    cond (eqb c 46) (to (number point) around) (cond (is_e c) (to (number exponent) around) (between_move behind around c))
+number_move whole around c =
+    cond (is_digit c) (to (number whole) around)
+    (cond (eqb c 46) (to (number point) around) (cond (is_e c) (to (number exponent) around) (between_move behind around c)))
+number_move point around c = cond (is_digit c) (to (number fraction) around) nowhere
+number_move fraction around c =
+    cond (is_digit c) (to (number fraction) around) (cond (is_e c) (to (number exponent) around) (between_move behind around c))
+number_move exponent around c = cond (is_sign c) (to (number sign) around) (cond (is_digit c) (to (number power) around) nowhere)
+number_move sign around c = cond (is_digit c) (to (number power) around) nowhere
+number_move power around c = cond (is_digit c) (to (number power) around) (between_move behind around c)
 
 -- what is still to come behind a first byte, if that is one
-abbrev pub tailMove : List Class → State → List Kind → Move
-tailMove [] next around = nowhere
-tailMove (k ∷ ks) next around = to (rest k ks next) around
+abbrev pub tail_move : List Class → State → List Kind → Move
+tail_move [] next around = nowhere
+tail_move (k ∷ ks) next around = to (rest k ks next) around
 
-unfoldable pub textMove : Due → List Kind → ℕ → Move
-textMove due around c =
+unfoldable pub text_move : Due → List Kind → ℕ → Move
+text_move due around c =
     cond (eqb c 34) (to (between due) around)
     (cond (eqb c 92) (to (escape due) around)
-    (cond (isWithin 32 127 c) (to (text due) around)
-    (tailMove (tailsOf c) (text due) around)))
+    (cond (is_within 32 127 c) (to (text due) around)
+    (tail_move (tails_of c) (text due) around)))
 
 -- "`\u` takes hex digits of either case"
-unfoldable pub escapeMove : Due → List Kind → ℕ → Move
-escapeMove due around c =
-    cond (isEscape c) (to (text due) around) (cond (eqb c 117) (to (rest hex (hex ∷ hex ∷ hex ∷ []) (text due)) around) nowhere)
+unfoldable pub escape_move : Due → List Kind → ℕ → Move
+escape_move due around c =
+    cond (is_escape c) (to (text due) around) (cond (eqb c 117) (to (rest hex (hex ∷ hex ∷ hex ∷ []) (text due)) around) nowhere)
 
 -- where it stands when these are still to come
 abbrev pub remaining : List Class → State → State
 remaining [] next = next
 remaining (k ∷ ks) next = rest k ks next
 
-unfoldable pub restMove : Class → List Class → State → List Kind → ℕ → Move
-restMove k ks next around c = cond (holds k c) (to (remaining ks next) around) nowhere
+unfoldable pub rest_move : Class → List Class → State → List Kind → ℕ → Move
+rest_move k ks next around c = cond (holds k c) (to (remaining ks next) around) nowhere
 
 -- one byte
 unfoldable pub move_of : State → List Kind → ℕ → Move
-move_of (between due) around c = betweenMove due around c
-move_of (number figure) around c = numberMove figure around c
-move_of (text due) around c = textMove due around c
-move_of (escape due) around c = escapeMove due around c
-move_of (rest k ks next) around c = restMove k ks next around c
+move_of (between due) around c = between_move due around c
+move_of (number figure) around c = number_move figure around c
+move_of (text due) around c = text_move due around c
+move_of (escape due) around c = escape_move due around c
+move_of (rest k ks next) around c = rest_move k ks next around c
 move_of ended around c = nowhere
 
 -- ---- a whole payload
 
-abbrev pub isEnded : State → Bool
-isEnded (between due) = false
-isEnded (number figure) = false
-isEnded (text due) = false
-isEnded (escape due) = false
-isEnded (rest k ks next) = false
-isEnded ended = true
+abbrev pub is_ended : State → Bool
+is_ended (between due) = false
+is_ended (number figure) = false
+is_ended (text due) = false
+is_ended (escape due) = false
+is_ended (rest k ks next) = false
+is_ended ended = true
 
 -- "deeper is 26, whatever follows"; a byte that leads nowhere is the place of a no
-abbrev pub goOn : ℕ → ℕ → (State → List Kind → Verdict) → Move → Verdict
-goOn most at next nowhere = NotJson at
-goOn most at next (to state around) = cond (ltb most (length around)) (TooDeep at) (next state around)
+abbrev pub go_on : ℕ → ℕ → (State → List Kind → Verdict) → Move → Verdict
+go_on most at next nowhere = NotJson at
+go_on most at next (to state around) = cond (ltb most (length around)) (TooDeep at) (next state around)
 
 -- the bytes from a place on: "or the length if it stops early"
 unfoldable pub scan : ℕ → State → List Kind → ℕ → List ℕ → Verdict
-scan most state around at [] = cond (isEnded state) Json (NotJson at)
-scan most state around at (c ∷ cs) = goOn most at (λ state₁ open₁. scan most state₁ open₁ (at + 1) cs) (move_of state around c)
+scan most state around at [] = cond (is_ended state) Json (NotJson at)
+scan most state around at (c ∷ cs) = go_on most at (λ state₁ open₁. scan most state₁ open₁ (at + 1) cs) (move_of state around c)
 
 -- a payload: "at most 32 deep with the outer object as 1"
-abbrev pub depthLimit : ℕ
-depthLimit = 32
+abbrev pub depth_limit : ℕ
+depth_limit = 32
 
-unfoldable pub verdictOf : List ℕ → Verdict
-verdictOf payload = scan depthLimit (between outer) [] 0 payload
+unfoldable pub verdict_of : List ℕ → Verdict
+verdict_of payload = scan depth_limit (between outer) [] 0 payload

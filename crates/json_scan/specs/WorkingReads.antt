@@ -23,8 +23,8 @@ came (told.Behind i) = Behind i
 came (told.Stopped i) = Stopped i
 
 -- the same of a value by the number that its reader tells and the place that it leaves: 0 says that it stopped, and 1 that it came to a level too many
-unfoldable pub valueBy : ℕ → ℕ → Came
-valueBy r place = cond (eqb r 1) (Deeper place) (cond (eqb r 0) (Stopped place) (Behind r))
+unfoldable pub value_by : ℕ → ℕ → Came
+value_by r place = cond (eqb r 1) (Deeper place) (cond (eqb r 0) (Stopped place) (Behind r))
 
 -- what the whole comes to, if behind the token it is read on so
 abbrev pub resumed : List ℕ → (ℕ → List ℕ → Verdict) → Came → Verdict

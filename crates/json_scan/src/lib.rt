@@ -1,8 +1,7 @@
 // A payload read one byte after another: what it comes to, and how far a reader of one of its tokens came.
 ghost use Rattle.std.specs.Prelude.{◌≡◌};
-ghost use Rattle.bytes_number.specs.Lent.{was};
-ghost use Rattle.json_scan.specs.Scan.{isWhite, isDigit};
-ghost use Rattle.json_scan.specs.WorkingEnds.{end_of, tokenAt, settledAs, placeLeft};
+ghost use Rattle.json_scan.specs.Scan.{is_white, is_digit};
+ghost use Rattle.json_scan.specs.WorkingEnds.{end_of, token_at, settled_as, place_left};
 
 use bytes_number::byte_at;
 
@@ -24,8 +23,8 @@ pub enum Reached {
 // The same as a number, for readers that are called and not made part of their caller, so that it need not go through memory: the place behind what was
 // read, or 0, and then it is left where it stopped.
 pub fn settle(reached: Reached, place: &mut usize) -> usize
-    ensures told { result ≡ settledAs reached }
-    ensures stops { place.new ≡ placeLeft reached (was place) }
+    ensures told { result ≡ settled_as reached }
+    ensures stops { place.new ≡ place_left reached place.old }
 {
     match reached {
         Reached::Behind(at) => at,
@@ -37,7 +36,7 @@ pub fn settle(reached: Reached, place: &mut usize) -> usize
 }
 
 fn is_white(c: u8) -> bool
-    ensures { result ≡ isWhite c }
+    ensures { result ≡ is_white c }
 {
     if c > b' ' {
         return false;
@@ -49,14 +48,14 @@ fn is_white(c: u8) -> bool
 }
 
 pub fn is_digit(c: u8) -> bool
-    ensures { result ≡ isDigit c }
+    ensures { result ≡ is_digit c }
 {
     c >= b'0' && c <= b'9'
 }
 
 // The first place from `at` on that has no white space.
 pub fn white_end(bytes: &[u8], at: usize) -> usize
-    ensures { result ≡ end_of isWhite (was bytes) at }
+    ensures { result ≡ end_of is_white bytes.now at }
 {
     let mut i = at;
     while i < bytes.len() {
@@ -70,7 +69,7 @@ pub fn white_end(bytes: &[u8], at: usize) -> usize
 
 // The first place from `at` on that has no digit.
 pub fn digits_end(bytes: &[u8], at: usize) -> usize
-    ensures { result ≡ end_of isDigit (was bytes) at }
+    ensures { result ≡ end_of is_digit bytes.now at }
 {
     let mut j = at;
     while j < bytes.len() {
@@ -91,7 +90,7 @@ pub struct Token {
 
 // The first place from `at` on that has no white space. Mostly that is `at` itself.
 pub fn token_at(bytes: &[u8], at: usize) -> Token
-    ensures { result ≡ tokenAt (was bytes) at }
+    ensures { result ≡ token_at bytes.now at }
 {
     let byte = byte_at(bytes, at);
     if byte > b' ' {

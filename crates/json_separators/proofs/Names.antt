@@ -12,99 +12,99 @@ use Rattle.bytes_number.proofs.Truth.{outcome}
 use Rattle.json_scan.specs.declared.Reached.{Reached}
 use Rattle.json_scan.specs.declared.Reached.TheVariants.{Behind, Stopped}
 use Rattle.json_scan.specs.declared.Token.{Token}
-use Rattle.json_scan.specs.Scan.{isWhite, Kind, Due, name, colon, value, State, between, text, nowhere, to, move_of}
-use Rattle.json_scan.specs.WorkingEnds.{tokenAt, followed}
+use Rattle.json_scan.specs.Scan.{is_white, Kind, Due, name, colon, value, State, between, text, nowhere, to, move_of}
+use Rattle.json_scan.specs.WorkingEnds.{token_at, followed}
 use Rattle.json_scan.specs.WorkingReads.{came, ReadsOn}
-use Rattle.json_scan.proofs.Reading.{Takes, ReadsToken, reads_none, reads_followed, takes-followed, takes-more}
-use Rattle.json_scan.proofs.Settled.{Told, settled-place, reads-place, reads-stop}
-use Rattle.json_scan.proofs.White.{token-told, token-further, token-on, token-stuck}
-use Rattle.json_string.specs.WorkingText.{textEnd}
-use Rattle.json_string.proofs.Texts.{text-reads, text-takes}
-use Rattle.json_separators.specs.WorkingSeparators.{markEnd, nameEnd}
-use Rattle.json_separators.proofs.Steps.{name-begins, no_name, colon-stands, no-colon}
+use Rattle.json_scan.proofs.Reading.{Takes, ReadsToken, reads_none, reads_followed, takes_followed, takes_more}
+use Rattle.json_scan.proofs.Settled.{Told, settled_place, reads_place, reads_stop}
+use Rattle.json_scan.proofs.White.{token_told, token_further, token_on, token_stuck}
+use Rattle.json_string.specs.WorkingText.{text_end}
+use Rattle.json_string.proofs.Texts.{text_reads, text_takes}
+use Rattle.json_separators.specs.WorkingSeparators.{mark_end, name_end}
+use Rattle.json_separators.proofs.Steps.{name_begins, no_name, colon_stands, no_colon}
 
 -- ---- one byte behind white space
 
-module _ (mark : ℕ) (bytes : List ℕ) (at : ℕ) {t : Token} (b : t ≡ tokenAt bytes at) where
-  mark-at : markEnd mark bytes at ≡ cond (eqb t.byte mark) (Behind (t.at + 1)) (Stopped t.at)
-  unfolding markEnd
-  mark-at = ap (λ (x : Token). cond (eqb x.byte mark) (Behind (x.at + 1)) (Stopped x.at)) (sym b)
+module _ (mark : ℕ) (bytes : List ℕ) (at : ℕ) {t : Token} (b : t ≡ token_at bytes at) where
+  mark_at : mark_end mark bytes at ≡ cond (eqb t.byte mark) (Behind (t.at + 1)) (Stopped t.at)
+  unfolding mark_end
+  mark_at = ap (λ (x : Token). cond (eqb x.byte mark) (Behind (x.at + 1)) (Stopped x.at)) (sym b)
 
-  pub mark-stands : t.byte ≡ mark → markEnd mark bytes at ≡ Behind (t.at + 1)
-  mark-stands e = mark-at ∙ ap (λ (u : Bool). cond u (Behind (t.at + 1)) (Stopped t.at)) (eq-eqb t.byte mark e)
+  pub mark_stands : t.byte ≡ mark → mark_end mark bytes at ≡ Behind (t.at + 1)
+  mark_stands e = mark_at ∙ ap (λ (u : Bool). cond u (Behind (t.at + 1)) (Stopped t.at)) (eq-eqb t.byte mark e)
 
-  pub mark-missing : (t.byte ≡ mark → ⊥) → markEnd mark bytes at ≡ Stopped t.at
-  mark-missing f = mark-at ∙ ap (λ (u : Bool). cond u (Behind (t.at + 1)) (Stopped t.at)) (ne_eqb t.byte mark f)
+  pub mark_missing : (t.byte ≡ mark → ⊥) → mark_end mark bytes at ≡ Stopped t.at
+  mark_missing f = mark_at ∙ ap (λ (u : Bool). cond u (Behind (t.at + 1)) (Stopped t.at)) (ne_eqb t.byte mark f)
 
 module _ (mark : ℕ) (bytes : List ℕ) (at : ℕ) where
   abbrev there : Token
-  there = tokenAt bytes at
+  there = token_at bytes at
 
-  mark-takes : Takes at (came (markEnd mark bytes at))
-  mark-takes =
+  mark_takes : Takes at (came (mark_end mark bytes at))
+  mark_takes =
       ⊎_elim
-      (λ t. subst⁻¹ (λ (r : Reached). Takes at (came r)) (mark-stands mark bytes at refl (eqb-true there.byte mark t)) (omega (arith, token-further (token-told bytes at refl))))
-      (λ t. subst⁻¹ (λ (r : Reached). Takes at (came r)) (mark-missing mark bytes at refl (eqb-false there.byte mark t)) tt)
+      (λ t. subst⁻¹ (λ (r : Reached). Takes at (came r)) (mark_stands mark bytes at refl (eqb-true there.byte mark t)) (omega (arith, token_further (token_told bytes at refl))))
+      (λ t. subst⁻¹ (λ (r : Reached). Takes at (came r)) (mark_missing mark bytes at refl (eqb-false there.byte mark t)) tt)
       (outcome (eqb there.byte mark))
 
   -- if it is what is due, and not the byte behind the end
-  mark-reads :
+  mark_reads :
       (due : Due) (next : State) → (mark ≡ 0 → ⊥) → ((around : List Kind) (c : ℕ) → c ≡ mark → move_of (between due) around c ≡ to next around) →
-      ((around : List Kind) (c : ℕ) → isWhite c ≡ false → (c ≡ mark → ⊥) → move_of (between due) around c ≡ nowhere) → ReadsToken bytes at (between due) next (came (markEnd mark bytes at))
-  mark-reads due next some leads stuck room =
-      let b = token-told bytes at refl in
+      ((around : List Kind) (c : ℕ) → is_white c ≡ false → (c ≡ mark → ⊥) → move_of (between due) around c ≡ nowhere) → ReadsToken bytes at (between due) next (came (mark_end mark bytes at))
+  mark_reads due next some leads stuck room =
+      let b = token_told bytes at refl in
       ⊎_elim
-      (λ t. let e = eqb-true there.byte mark t in by (mark-stands mark bytes at refl e) (token-on b next (λ z. some (sym e ∙ z)) (λ around. leads around there.byte e) reads_none))
-      (λ t. let f = eqb-false there.byte mark t in by (mark-missing mark bytes at refl f) (token-stuck b (λ dark around. stuck around there.byte dark f)))
+      (λ t. let e = eqb-true there.byte mark t in by (mark_stands mark bytes at refl e) (token_on b next (λ z. some (sym e ∙ z)) (λ around. leads around there.byte e) reads_none))
+      (λ t. let f = eqb-false there.byte mark t in by (mark_missing mark bytes at refl f) (token_stuck b (λ dark around. stuck around there.byte dark f)))
       (outcome (eqb there.byte mark))
     where
-      by : {r : Reached} → markEnd mark bytes at ≡ r → ReadsOn bytes room at (between due) next (came r) → ReadsOn bytes room at (between due) next (came (markEnd mark bytes at))
+      by : {r : Reached} → mark_end mark bytes at ≡ r → ReadsOn bytes room at (between due) next (came r) → ReadsOn bytes room at (between due) next (came (mark_end mark bytes at))
       by e = subst⁻¹ (λ (r : Reached). ReadsOn bytes room at (between due) next (came r)) e
 
 -- ---- a name
 
 module _ (bytes : List ℕ) (at : ℕ) where
-  abbrev behind-text : ℕ → Reached
-  behind-text j = markEnd 58 bytes j
+  abbrev behind_text : ℕ → Reached
+  behind_text j = mark_end 58 bytes j
 
-  abbrev behind-mark : ℕ → Reached
-  behind-mark i = followed (textEnd i (drop i bytes)) behind-text
+  abbrev behind_mark : ℕ → Reached
+  behind_mark i = followed (text_end i (drop i bytes)) behind_text
 
   -- how it ends, by how its mark and its text do
-  pub name-unmarked : {i : ℕ} → markEnd 34 bytes at ≡ Stopped i → nameEnd bytes at ≡ Stopped i
-  unfolding nameEnd
-  name-unmarked e = ap (λ (r : Reached). followed r behind-mark) e
+  pub name_unmarked : {i : ℕ} → mark_end 34 bytes at ≡ Stopped i → name_end bytes at ≡ Stopped i
+  unfolding name_end
+  name_unmarked e = ap (λ (r : Reached). followed r behind_mark) e
 
-  pub name-marked : {i : ℕ} {r : Reached} → markEnd 34 bytes at ≡ Behind i → textEnd i (drop i bytes) ≡ r → nameEnd bytes at ≡ followed r behind-text
-  unfolding nameEnd
-  name-marked e f = ap (λ (r : Reached). followed r behind-mark) e ∙ ap (λ (r : Reached). followed r behind-text) f
+  pub name_marked : {i : ℕ} {r : Reached} → mark_end 34 bytes at ≡ Behind i → text_end i (drop i bytes) ≡ r → name_end bytes at ≡ followed r behind_text
+  unfolding name_end
+  name_marked e f = ap (λ (r : Reached). followed r behind_mark) e ∙ ap (λ (r : Reached). followed r behind_text) f
 
   -- it is read on from there
-  pub name-reads : ReadsToken bytes at (between name) (between value) (came (nameEnd bytes at))
-  unfolding nameEnd
-  name-reads room =
-      reads_followed (markEnd 34 bytes at) behind-mark (mark-reads 34 bytes at name (text colon) (λ z. omega (arith, z)) name-begins no_name room)
-      (λ i e. reads_followed (textEnd i (drop i bytes)) behind-text (text-reads bytes i colon room)
-      (λ j f. mark-reads 58 bytes j colon (between value) (λ z. omega (arith, z)) colon-stands no-colon room))
+  pub name_reads : ReadsToken bytes at (between name) (between value) (came (name_end bytes at))
+  unfolding name_end
+  name_reads room =
+      reads_followed (mark_end 34 bytes at) behind_mark (mark_reads 34 bytes at name (text colon) (λ z. omega (arith, z)) name_begins no_name room)
+      (λ i e. reads_followed (text_end i (drop i bytes)) behind_text (text_reads bytes i colon room)
+      (λ j f. mark_reads 58 bytes j colon (between value) (λ z. omega (arith, z)) colon_stands no_colon room))
 
-  pub name-takes : Takes (at + 1) (came (nameEnd bytes at))
-  unfolding nameEnd
-  name-takes =
-      takes-followed (at + 1) (markEnd 34 bytes at) behind-mark
-      (λ i e. let one : at < i = subst (λ (r : Reached). Takes at (came r)) e (mark-takes 34 bytes at) in
-      takes-followed (at + 1) (textEnd i (drop i bytes)) behind-text
-      (λ j f. let two : i < j = subst (λ (r : Reached). Takes i (came r)) f (text-takes bytes i) in
-      takes-more j (came (behind-text j)) (omega arith) (mark-takes 58 bytes j)))
+  pub name_takes : Takes (at + 1) (came (name_end bytes at))
+  unfolding name_end
+  name_takes =
+      takes_followed (at + 1) (mark_end 34 bytes at) behind_mark
+      (λ i e. let one : at < i = subst (λ (r : Reached). Takes at (came r)) e (mark_takes 34 bytes at) in
+      takes_followed (at + 1) (text_end i (drop i bytes)) behind_text
+      (λ j f. let two : i < j = subst (λ (r : Reached). Takes i (came r)) f (text_takes bytes i) in
+      takes_more j (came (behind_text j)) (omega arith) (mark_takes 58 bytes j)))
 
 -- ---- as it is told
 
-module _ (bytes : List ℕ) (at r before after : ℕ) (t : Told (nameEnd bytes at) r before after) where
-  pub name-stops : {next : State} → r ≡ 0 → ReadsToken bytes at (between name) next (came (Stopped after))
-  name-stops z room = reads-stop (nameEnd bytes at) r before after (takes-more (at + 1) (came (nameEnd bytes at)) (omega arith) (name-takes bytes at)) t z (name-reads bytes at room)
+module _ (bytes : List ℕ) (at r before after : ℕ) (t : Told (name_end bytes at) r before after) where
+  pub name_stops : {next : State} → r ≡ 0 → ReadsToken bytes at (between name) next (came (Stopped after))
+  name_stops z room = reads_stop (name_end bytes at) r before after (takes_more (at + 1) (came (name_end bytes at)) (omega arith) (name_takes bytes at)) t z (name_reads bytes at room)
 
-  pub name-placed : 0 < r → ReadsToken bytes at (between name) (between value) (came (Behind r))
-  name-placed l room = reads-place (nameEnd bytes at) r before after t l (name-reads bytes at room)
+  pub name_placed : 0 < r → ReadsToken bytes at (between name) (between value) (came (Behind r))
+  name_placed l room = reads_place (name_end bytes at) r before after t l (name_reads bytes at room)
 
   -- behind two bytes at least
-  pub name-further : 0 < r → at + 1 < r
-  name-further l = subst (λ (x : Reached). Takes (at + 1) (came x)) (settled-place (nameEnd bytes at) r before after t l).0 (name-takes bytes at)
+  pub name_further : 0 < r → at + 1 < r
+  name_further l = subst (λ (x : Reached). Takes (at + 1) (came x)) (settled_place (name_end bytes at) r before after t l).0 (name_takes bytes at)

@@ -13,41 +13,41 @@ use Rattle.json_scan.specs.declared.Verdict.{Verdict}
 use Rattle.json_scan.specs.declared.Verdict.TheVariants.{NotJson}
 use Rattle.json_scan.specs.declared.Token.{Token}
 use Rattle.json_scan.specs.Scan.{Kind, behind, between, scan}
-use Rattle.json_scan.specs.WorkingEnds.{tokenAt}
+use Rattle.json_scan.specs.WorkingEnds.{token_at}
 use Rattle.json_scan.proofs.Scanning.{drop_at}
-use Rattle.json_scan.proofs.White.{TokenAt, token-told, token-further, token-over, scan-on, scan-stuck}
+use Rattle.json_scan.proofs.White.{TokenAt, token_told, token_further, token_over, scan_on, scan_stuck}
 use Rattle.json_separators.specs.declared.Next.{Next}
 use Rattle.json_separators.specs.declared.Next.TheVariants.{More, Closed, Neither}
 use Rattle.json_separators.specs.WorkingSeparators.{next_at, next_of}
-use Rattle.json_separators.proofs.Steps.{closing, again, comma, closes, neither, no-zero-closes}
+use Rattle.json_separators.proofs.Steps.{closing, again, comma, closes, neither, no_zero_closes}
 
 -- ---- what stands there
 
-module _ (close : ℕ) (bytes : List ℕ) (at : ℕ) {t : Token} (e : t ≡ tokenAt bytes at) where
+module _ (close : ℕ) (bytes : List ℕ) (at : ℕ) {t : Token} (e : t ≡ token_at bytes at) where
   next_here : next_of close bytes at ≡ next_at close t.at (drop t.at bytes)
   unfolding next_of
-  next_here = ap (λ (i : ℕ). next_at close i (drop i bytes)) (sym (token-told bytes at e).end)
+  next_here = ap (λ (i : ℕ). next_at close i (drop i bytes)) (sym (token_told bytes at e).end)
 
-  pub next-over : {k : ℕ} → length bytes ≤ t.at → k ≡ t.at → Neither k ≡ next_of close bytes at
+  pub next_over : {k : ℕ} → length bytes ≤ t.at → k ≡ t.at → Neither k ≡ next_of close bytes at
   unfolding next_at
-  next-over l is = ap Neither is ∙ sym (next_here ∙ ap (next_at close t.at) (drop_of_length-le bytes l))
+  next_over l is = ap Neither is ∙ sym (next_here ∙ ap (next_at close t.at) (drop_of_length-le bytes l))
 
   module _ (l : t.at < length bytes) where
-    next-by : next_of close bytes at ≡ cond (eqb t.byte close) (Closed (t.at + 1)) (cond (eqb t.byte 44) (More (t.at + 1)) (Neither t.at))
+    next_by : next_of close bytes at ≡ cond (eqb t.byte close) (Closed (t.at + 1)) (cond (eqb t.byte 44) (More (t.at + 1)) (Neither t.at))
     unfolding next_at
-    next-by =
+    next_by =
         next_here
         ∙ ap (next_at close t.at) (drop_at bytes t.at l)
-        ∙ ap (λ (c : ℕ). cond (eqb c close) (Closed (t.at + 1)) (cond (eqb c 44) (More (t.at + 1)) (Neither t.at))) (sym (token-told bytes at e).there)
+        ∙ ap (λ (c : ℕ). cond (eqb c close) (Closed (t.at + 1)) (cond (eqb c 44) (More (t.at + 1)) (Neither t.at))) (sym (token_told bytes at e).there)
 
-    pub next-closed : {k : ℕ} → t.byte ≡ close → k ≡ t.at + 1 → Closed k ≡ next_of close bytes at
-    next-closed e is = ap Closed is ∙ sym (next-by ∙ rw (eq-eqb t.byte close e) refl)
+    pub next_closed : {k : ℕ} → t.byte ≡ close → k ≡ t.at + 1 → Closed k ≡ next_of close bytes at
+    next_closed e is = ap Closed is ∙ sym (next_by ∙ rw (eq-eqb t.byte close e) refl)
 
     pub next_more : {k : ℕ} → (t.byte ≡ close → ⊥) → t.byte ≡ 44 → k ≡ t.at + 1 → More k ≡ next_of close bytes at
-    next_more f e is = ap More is ∙ sym (next-by ∙ rw (ne_eqb t.byte close f, eq-eqb t.byte 44 e) refl)
+    next_more f e is = ap More is ∙ sym (next_by ∙ rw (ne_eqb t.byte close f, eq-eqb t.byte 44 e) refl)
 
-    pub next-neither : {k : ℕ} → (t.byte ≡ close → ⊥) → (t.byte ≡ 44 → ⊥) → k ≡ t.at → Neither k ≡ next_of close bytes at
-    next-neither f g is = ap Neither is ∙ sym (next-by ∙ rw (ne_eqb t.byte close f, ne_eqb t.byte 44 g) refl)
+    pub next_neither : {k : ℕ} → (t.byte ≡ close → ⊥) → (t.byte ≡ 44 → ⊥) → k ≡ t.at → Neither k ≡ next_of close bytes at
+    next_neither f g is = ap Neither is ∙ sym (next_by ∙ rw (ne_eqb t.byte close f, ne_eqb t.byte 44 g) refl)
 
 -- ---- what the whole comes to then
 
@@ -71,49 +71,49 @@ pub record Separates (bytes : List ℕ) (at close : ℕ) (r : Next) : Type 0 whe
 
 -- what that comes to, from where a token may begin
 module _ {bytes : List ℕ} {at : ℕ} {t : Token} (close : ℕ) (b : TokenAt bytes at t) where
-  marks-more : t.at < length bytes → t.byte ≡ 44 → Separates bytes at close (More (t.at + 1))
-  marks-more l e =
+  marks_more : t.at < length bytes → t.byte ≡ 44 → Separates bytes at close (More (t.at + 1))
+  marks_more l e =
       record {
-        same = λ kind is room around. scan-on b (length (kind ∷ around) + room) behind (kind ∷ around) (between (again kind)) (kind ∷ around) (omega arith) (omega arith) l (comma kind around t.byte e);
-        further = (omega (arith, token-further b), omega (arith, l));
+        same = λ kind is room around. scan_on b (length (kind ∷ around) + room) behind (kind ∷ around) (between (again kind)) (kind ∷ around) (omega arith) (omega arith) l (comma kind around t.byte e);
+        further = (omega (arith, token_further b), omega (arith, l));
       }
 
-  marks-closed : t.at < length bytes → t.byte ≡ close → Separates bytes at close (Closed (t.at + 1))
-  marks-closed l e =
+  marks_closed : t.at < length bytes → t.byte ≡ close → Separates bytes at close (Closed (t.at + 1))
+  marks_closed l e =
       record {
-        same = λ kind is room around. scan-on b (length (kind ∷ around) + room) behind (kind ∷ around) (between behind) around (omega arith) (omega arith) l (closes kind around t.byte (e ∙ is));
-        further = omega (arith, token-further b);
+        same = λ kind is room around. scan_on b (length (kind ∷ around) + room) behind (kind ∷ around) (between behind) around (omega arith) (omega arith) l (closes kind around t.byte (e ∙ is));
+        further = omega (arith, token_further b);
       }
 
-  marks-neither : (t.byte ≡ 44 → ⊥) → ((kind : Kind) → close ≡ closing kind → t.byte ≡ closing kind → ⊥) → Separates bytes at close (Neither t.at)
-  marks-neither f g =
+  marks_neither : (t.byte ≡ 44 → ⊥) → ((kind : Kind) → close ≡ closing kind → t.byte ≡ closing kind → ⊥) → Separates bytes at close (Neither t.at)
+  marks_neither f g =
       record {
-        same = λ kind is room around. scan-stuck b (length (kind ∷ around) + room) behind (kind ∷ around) (omega arith) (λ dark. neither kind around t.byte dark f (g kind is));
-        further = token-further b;
+        same = λ kind is room around. scan_stuck b (length (kind ∷ around) + room) behind (kind ∷ around) (omega arith) (λ dark. neither kind around t.byte dark f (g kind is));
+        further = token_further b;
       }
 
-pub next-separates : (close : ℕ) (bytes : List ℕ) (at : ℕ) → Separates bytes at close (next_of close bytes at)
-next-separates close bytes at =
-    let t = tokenAt bytes at in
-    let b = token-told bytes at refl in
+pub next_separates : (close : ℕ) (bytes : List ℕ) (at : ℕ) → Separates bytes at close (next_of close bytes at)
+next_separates close bytes at =
+    let t = token_at bytes at in
+    let b = token_told bytes at refl in
     ⊎_elim
     (λ u. let l = ltb-true t.at (length bytes) u in
     ⊎_elim
-    (λ v. let is = eqb-true t.byte close v in by (next-closed close bytes at refl l is refl) (marks-closed close b l is))
+    (λ v. let is = eqb-true t.byte close v in by (next_closed close bytes at refl l is refl) (marks_closed close b l is))
     (λ v. let f = eqb-false t.byte close v in
     ⊎_elim
-    (λ w. let is = eqb-true t.byte 44 w in by (next_more close bytes at refl l f is refl) (marks-more close b l is))
-    (λ w. let g = eqb-false t.byte 44 w in by (next-neither close bytes at refl l f g refl) (marks-neither close b g (λ kind is e. f (e ∙ sym is))))
+    (λ w. let is = eqb-true t.byte 44 w in by (next_more close bytes at refl l f is refl) (marks_more close b l is))
+    (λ w. let g = eqb-false t.byte 44 w in by (next_neither close bytes at refl l f g refl) (marks_neither close b g (λ kind is e. f (e ∙ sym is))))
     (outcome (eqb t.byte 44)))
     (outcome (eqb t.byte close)))
     (λ u. let l = ltb-false t.at (length bytes) u in
-    let none = token-over b l in
-    by (next-over close bytes at refl l refl) (marks-neither close b (λ e. omega (arith, none, e)) (λ kind is. no-zero-closes kind none)))
+    let none = token_over b l in
+    by (next_over close bytes at refl l refl) (marks_neither close b (λ e. omega (arith, none, e)) (λ kind is. no_zero_closes kind none)))
     (outcome (ltb t.at (length bytes)))
   where
     by : {r : Next} → r ≡ next_of close bytes at → Separates bytes at close r → Separates bytes at close (next_of close bytes at)
     by e = subst (Separates bytes at close) e
 
 -- the same of what was told
-pub next-told : (close : ℕ) (bytes : List ℕ) (at : ℕ) {r s : Next} → r ≡ next_of close bytes at → r ≡ s → Separates bytes at close s
-next-told close bytes at told e = subst (Separates bytes at close) (sym told ∙ e) (next-separates close bytes at)
+pub next_told : (close : ℕ) (bytes : List ℕ) (at : ℕ) {r s : Next} → r ≡ next_of close bytes at → r ≡ s → Separates bytes at close s
+next_told close bytes at told e = subst (Separates bytes at close) (sym told ∙ e) (next_separates close bytes at)

@@ -1,8 +1,7 @@
 // What stands between the values of an object or an array: names with their colons, commas and closing bytes.
 ghost use Rattle.std.specs.Prelude.{◌≡◌};
-ghost use Rattle.bytes_number.specs.Lent.{was};
-ghost use Rattle.json_scan.specs.WorkingEnds.{settledAs, placeLeft};
-ghost use Rattle.json_separators.specs.WorkingSeparators.{nameEnd, next_of};
+ghost use Rattle.json_scan.specs.WorkingEnds.{settled_as, place_left};
+ghost use Rattle.json_separators.specs.WorkingSeparators.{name_end, next_of};
 
 use json_scan::{Reached, settle, token_at};
 use json_string::text_end;
@@ -17,8 +16,8 @@ pub enum Next {
 
 // The name of a member and the colon behind it.
 pub fn name_end(bytes: &[u8], at: usize, place: &mut usize) -> usize
-    ensures told { result ≡ settledAs (nameEnd (was bytes) at) }
-    ensures stops { place.new ≡ placeLeft (nameEnd (was bytes) at) (was place) }
+    ensures told { result ≡ settled_as (name_end bytes.now at) }
+    ensures stops { place.new ≡ place_left (name_end bytes.now at) place.old }
 {
     let first = token_at(bytes, at);
     let from = first.at;
@@ -39,7 +38,7 @@ pub fn name_end(bytes: &[u8], at: usize, place: &mut usize) -> usize
 
 // What comes behind a value, where this byte closes what it stands in.
 pub fn next_value(bytes: &[u8], at: usize, close: u8) -> Next
-    ensures { result ≡ next_of close (was bytes) at }
+    ensures { result ≡ next_of close bytes.now at }
 {
     let mark = token_at(bytes, at);
     let i = mark.at;

@@ -6,26 +6,26 @@ use Rattle.json_grammar.specs.Language.{Language, nothing, ◌then◌, many}
 
 module _ {one two : Language} {c : ℕ} {ys : List ℕ} where
   -- a byte that begins the first part
-  pub in-front : {more : Language} → ((word : List ℕ) → one word → more (c ∷ word)) → (one then two) ys → (more then two) (c ∷ ys)
-  in-front f t = record { front = c ∷ t.front; rest = t.rest; whole = ap (λ (xs : List ℕ). c ∷ xs) t.whole; first = f t.front t.first; second = t.second }
+  pub in_front : {more : Language} → ((word : List ℕ) → one word → more (c ∷ word)) → (one then two) ys → (more then two) (c ∷ ys)
+  in_front f t = record { front = c ∷ t.front; rest = t.rest; whole = ap (λ (xs : List ℕ). c ∷ xs) t.whole; first = f t.front t.first; second = t.second }
 
   -- a byte that is the first part
-  pub begin-with : one (c ∷ []) → two ys → (one then two) (c ∷ ys)
-  begin-with p q = record { front = c ∷ []; rest = ys; whole = refl; first = p; second = q }
+  pub begin_with : one (c ∷ []) → two ys → (one then two) (c ∷ ys)
+  begin_with p q = record { front = c ∷ []; rest = ys; whole = refl; first = p; second = q }
 
 module _ {one two : Language} {word : List ℕ} where
   -- nothing in the first part, or in the second
-  pub leave-out : one [] → two word → (one then two) word
-  leave-out p q = record { front = []; rest = word; whole = refl; first = p; second = q }
+  pub leave_out : one [] → two word → (one then two) word
+  leave_out p q = record { front = []; rest = word; whole = refl; first = p; second = q }
 
-  pub onto-first : {other : Language} → ((w : List ℕ) → one w → other w) → (one then two) word → (other then two) word
-  onto-first f t = record { front = t.front; rest = t.rest; whole = t.whole; first = f t.front t.first; second = t.second }
+  pub onto_first : {other : Language} → ((w : List ℕ) → one w → other w) → (one then two) word → (other then two) word
+  onto_first f t = record { front = t.front; rest = t.rest; whole = t.whole; first = f t.front t.first; second = t.second }
 
-  pub onto-second : {other : Language} → ((w : List ℕ) → two w → other w) → (one then two) word → (one then other) word
-  onto-second f t = record { front = t.front; rest = t.rest; whole = t.whole; first = t.first; second = f t.rest t.second }
+  pub onto_second : {other : Language} → ((w : List ℕ) → two w → other w) → (one then two) word → (one then other) word
+  onto_second f t = record { front = t.front; rest = t.rest; whole = t.whole; first = t.first; second = f t.rest t.second }
 
-pub end-here : {one : Language} {word : List ℕ} → (one then nothing) word → one word
-end-here {one} t = subst one (sym (t.whole ∙ ap (λ (xs : List ℕ). t.front ++ xs) t.second ∙ append-nil t.front)) t.first
+pub end_here : {one : Language} {word : List ℕ} → (one then nothing) word → one word
+end_here {one} t = subst one (sym (t.whole ∙ ap (λ (xs : List ℕ). t.front ++ xs) t.second ∙ append-nil t.front)) t.first
 
 module _ {one two three : Language} {word : List ℕ} where
   pub regroup : ((one then two) then three) word → (one then (two then three)) word
@@ -60,4 +60,4 @@ many_more t = record { count = suc t.second.count; all = record { front = t.fron
 
 -- once more, in front of what comes behind
 pub once_more : {one two : Language} {word : List ℕ} → (one then (many one then two)) word → (many one then two) word
-once_more t = onto-first (λ w m. many_more m) (ungroup t)
+once_more t = onto_first (λ w m. many_more m) (ungroup t)

@@ -18,11 +18,11 @@ reach most state around [] = to state around
 reach most state around (c ∷ cs) = goes most (λ state₁ around₁. reach most state₁ around₁ cs) (move_of state around c)
 
 -- one byte that leads on
-pub reach-on :
+pub reach_on :
     (most : ℕ) (state : State) (around : List Kind) (c : ℕ) (cs : List ℕ) (state₁ : State) (around₁ : List Kind) → move_of state around c ≡ to state₁ around₁ → length around₁ ≤ most →
     reach most state around (c ∷ cs) ≡ reach most state₁ around₁ cs
 unfolding reach
-reach-on most state around c cs state₁ around₁ e l =
+reach_on most state around c cs state₁ around₁ e l =
     ap (goes most (λ state₂ around₂. reach most state₂ around₂ cs)) e
     ∙ ap (λ (t : Bool). cond t nowhere (reach most state₁ around₁ cs)) (le-ltb most (length around₁) l)
 
@@ -52,15 +52,15 @@ split most (x ∷ xs) ys state around = by (λ state₂ around₂. split most xs
     by again nowhere = refl
     by again (to state₂ around₂) = test (reach most state₂ around₂ (xs ++ ys)) (reach most state₂ around₂ xs) (again state₂ around₂) (ltb most (length around₂))
 
-pub reach-append :
+pub reach_append :
     (most : ℕ) (state : State) (around : List Kind) (xs ys : List ℕ) {state₁ : State} {around₁ : List Kind} → reach most state around xs ≡ to state₁ around₁ →
     reach most state around (xs ++ ys) ≡ reach most state₁ around₁ ys
-reach-append most state around xs ys e = split most xs ys state around ∙ ap (onto (λ state₂ around₂. reach most state₂ around₂ ys)) e
+reach_append most state around xs ys e = split most xs ys state around ∙ ap (onto (λ state₂ around₂. reach most state₂ around₂ ys)) e
 
 -- ---- where a step leads
 
-pub nowhere-else : {state : State} {around : List Kind} → nowhere ≡ to state around → ⊥
-nowhere-else e = let z : ◌≡◌ {A = ℕ} 0 1 = cc in omega arith
+pub nowhere_else : {state : State} {around : List Kind} → nowhere ≡ to state around → ⊥
+nowhere_else e = let z : ◌≡◌ {A = ℕ} 0 1 = cc in omega arith
 
-pub same-state : {state state₁ : State} {around around₁ : List Kind} → to state around ≡ to state₁ around₁ → state ≡ state₁
-same-state e = cc
+pub same_state : {state state₁ : State} {around around₁ : List Kind} → to state around ≡ to state₁ around₁ → state ≡ state₁
+same_state e = cc

@@ -7,11 +7,11 @@ use native.Mathlib.Omega.{arith}
 use borrow.Author.Tests.{ltb-true, ltb-false}
 use lib.Dec.{ltb}
 use lib.ListN.{length, take, get_or}
-use Rattle.bytes_number.proofs.Truth.{true-false}
+use Rattle.bytes_number.proofs.Truth.{true_false}
 use Rattle.json_scan.specs.declared.Verdict.{Verdict}
 use Rattle.json_scan.specs.declared.Verdict.TheVariants.{Json, NotJson, TooDeep}
-use Rattle.json_scan.specs.Scan.{Kind, State, between, number, text, escape, rest, ended, Move, nowhere, to, move_of, isEnded, goOn, scan}
-use Rattle.json_sound.proofs.Reach.{goes, reach, reach-on, nowhere-else, same-state}
+use Rattle.json_scan.specs.Scan.{Kind, State, between, number, text, escape, rest, ended, Move, nowhere, to, move_of, is_ended, go_on, scan}
+use Rattle.json_sound.proofs.Reach.{goes, reach, reach_on, nowhere_else, same_state}
 
 -- ---- a yes
 
@@ -28,7 +28,7 @@ pub record Stops (most : ℕ) (state : State) (around : List Kind) (xs : List �
   pub room : length held ≤ most
   pub front : reach most state around (take count xs) ≡ to stood held
   pub wrong : count < length xs → move_of stood held (get_or xs count 0) ≡ nowhere
-  pub early : count ≡ length xs → isEnded stood ≡ false
+  pub early : count ≡ length xs → is_ended stood ≡ false
 
 -- ---- too deep: so many bytes were read, and the next one opens a level too many
 
@@ -41,7 +41,7 @@ pub record Deepens (most : ℕ) (state : State) (around : List Kind) (xs : List 
   pub next : State
   pub deeper : List Kind
   pub opens : move_of stood held (get_or xs count 0) ≡ to next deeper
-  pub too-deep : most < length deeper
+  pub too_deep : most < length deeper
 
 -- ---- which it is, by the scan's verdict
 
@@ -51,28 +51,28 @@ Says most state around at xs (NotJson place) = (count : ℕ) × ((place ≡ at +
 Says most state around at xs (TooDeep place) = (count : ℕ) × ((place ≡ at + count) × Deepens most state around xs count)
 
 -- at the end
-ended_is : (state : State) → isEnded state ≡ true → state ≡ ended
-ended_is (between due) e = absurd (true-false (sym e))
-ended_is (number figure) e = absurd (true-false (sym e))
-ended_is (text due) e = absurd (true-false (sym e))
-ended_is (escape due) e = absurd (true-false (sym e))
-ended_is (rest k ks next) e = absurd (true-false (sym e))
+ended_is : (state : State) → is_ended state ≡ true → state ≡ ended
+ended_is (between due) e = absurd (true_false (sym e))
+ended_is (number figure) e = absurd (true_false (sym e))
+ended_is (text due) e = absurd (true_false (sym e))
+ended_is (escape due) e = absurd (true_false (sym e))
+ended_is (rest k ks next) e = absurd (true_false (sym e))
 ended_is ended e = refl
 
-says-over : (most : ℕ) (state : State) (around : List Kind) (at : ℕ) → length around ≤ most → Says most state around at [] (cond (isEnded state) Json (NotJson at))
+says_over : (most : ℕ) (state : State) (around : List Kind) (at : ℕ) → length around ≤ most → Says most state around at [] (cond (is_ended state) Json (NotJson at))
 unfolding reach
-says-over most state around at l = go (isEnded state) refl
+says_over most state around at l = go (is_ended state) refl
   where
-    go : (t : Bool) → isEnded state ≡ t → Says most state around at [] (cond t Json (NotJson at))
+    go : (t : Bool) → is_ended state ≡ t → Says most state around at [] (cond t Json (NotJson at))
     go true e = record { left = around; ends = ap (λ (s : State). to s around) (ended_is state e) }
     go false e = (0, (omega arith, record { within = omega arith; stood = state; held = around; room = l; front = refl; wrong = λ m. absurd (omega arith); early = λ m. e }))
 
 -- a byte more in front
-says-more :
+says_more :
     (most : ℕ) (state : State) (around : List Kind) (at x : ℕ) (xs : List ℕ) (state₁ : State) (around₁ : List Kind) → move_of state around x ≡ to state₁ around₁ → length around₁ ≤ most →
     (v : Verdict) → Says most state₁ around₁ (at + 1) xs v → Says most state around at (x ∷ xs) v
-says-more most state around at x xs state₁ around₁ e l Json s = record { left = s.left; ends = reach-on most state around x xs state₁ around₁ e l ∙ s.ends }
-says-more most state around at x xs state₁ around₁ e l (NotJson place) s =
+says_more most state around at x xs state₁ around₁ e l Json s = record { left = s.left; ends = reach_on most state around x xs state₁ around₁ e l ∙ s.ends }
+says_more most state around at x xs state₁ around₁ e l (NotJson place) s =
     let d = s.1.1 in (
       suc s.0,
       (
@@ -82,13 +82,13 @@ says-more most state around at x xs state₁ around₁ e l (NotJson place) s =
           stood = d.stood;
           held = d.held;
           room = d.room;
-          front = reach-on most state around x (take s.0 xs) state₁ around₁ e l ∙ d.front;
+          front = reach_on most state around x (take s.0 xs) state₁ around₁ e l ∙ d.front;
           wrong = λ m. d.wrong (omega (arith, m));
           early = λ m. d.early (omega (arith, m));
         },
       ),
     )
-says-more most state around at x xs state₁ around₁ e l (TooDeep place) s =
+says_more most state around at x xs state₁ around₁ e l (TooDeep place) s =
     let d = s.1.1 in (
       suc s.0,
       (
@@ -98,23 +98,23 @@ says-more most state around at x xs state₁ around₁ e l (TooDeep place) s =
           stood = d.stood;
           held = d.held;
           room = d.room;
-          front = reach-on most state around x (take s.0 xs) state₁ around₁ e l ∙ d.front;
+          front = reach_on most state around x (take s.0 xs) state₁ around₁ e l ∙ d.front;
           next = d.next;
           deeper = d.deeper;
           opens = d.opens;
-          too-deep = d.too-deep;
+          too_deep = d.too_deep;
         },
       ),
     )
 
-pub scan-says : (most : ℕ) (xs : List ℕ) (state : State) (around : List Kind) (at : ℕ) → length around ≤ most → Says most state around at xs (scan most state around at xs)
+pub scan_says : (most : ℕ) (xs : List ℕ) (state : State) (around : List Kind) (at : ℕ) → length around ≤ most → Says most state around at xs (scan most state around at xs)
 unfolding scan reach
-scan-says most [] state around at l = says-over most state around at l
-scan-says most (x ∷ xs) state around at l = by (λ state₁ around₁ m. scan-says most xs state₁ around₁ (at + 1) m) (move_of state around x) refl
+scan_says most [] state around at l = says_over most state around at l
+scan_says most (x ∷ xs) state around at l = by (λ state₁ around₁ m. scan_says most xs state₁ around₁ (at + 1) m) (move_of state around x) refl
   where
     by :
         ((state₁ : State) (around₁ : List Kind) → length around₁ ≤ most → Says most state₁ around₁ (at + 1) xs (scan most state₁ around₁ (at + 1) xs)) → (s : Move) → move_of state around x ≡ s →
-        Says most state around at (x ∷ xs) (goOn most at (λ state₁ around₁. scan most state₁ around₁ (at + 1) xs) s)
+        Says most state around at (x ∷ xs) (go_on most at (λ state₁ around₁. scan most state₁ around₁ (at + 1) xs) s)
     by again nowhere e = (0, (omega arith, record { within = omega arith; stood = state; held = around; room = l; front = refl; wrong = λ m. e; early = λ m. absurd (omega (arith, m)) }))
     by again (to state₁ around₁) e = test (ltb most (length around₁)) refl
       where
@@ -132,27 +132,27 @@ scan-says most (x ∷ xs) state around at l = by (λ state₁ around₁ m. scan-
               next = state₁;
               deeper = around₁;
               opens = e;
-              too-deep = ltb-true most (length around₁) d;
+              too_deep = ltb-true most (length around₁) d;
             },
           ),
         )
         test false d =
             let m = ltb-false most (length around₁) d in
-            says-more most state around at x xs state₁ around₁ e m (scan most state₁ around₁ (at + 1) xs) (again state₁ around₁ m)
+            says_more most state around at x xs state₁ around₁ e m (scan most state₁ around₁ (at + 1) xs) (again state₁ around₁ m)
 
 -- ---- and the other way for a yes
 
-pub reached-scan : (most : ℕ) (xs : List ℕ) (state : State) (around left : List Kind) (at : ℕ) → reach most state around xs ≡ to ended left → scan most state around at xs ≡ Json
+pub reached_scan : (most : ℕ) (xs : List ℕ) (state : State) (around left : List Kind) (at : ℕ) → reach most state around xs ≡ to ended left → scan most state around at xs ≡ Json
 unfolding scan reach
-reached-scan most [] state around left at e = ap (λ (s : State). cond (isEnded s) Json (NotJson at)) (same-state e)
-reached-scan most (x ∷ xs) state around left at e = by (λ state₁ around₁. reached-scan most xs state₁ around₁ left (at + 1)) (move_of state around x) e
+reached_scan most [] state around left at e = ap (λ (s : State). cond (is_ended s) Json (NotJson at)) (same_state e)
+reached_scan most (x ∷ xs) state around left at e = by (λ state₁ around₁. reached_scan most xs state₁ around₁ left (at + 1)) (move_of state around x) e
   where
     by :
         ((state₁ : State) (around₁ : List Kind) → reach most state₁ around₁ xs ≡ to ended left → scan most state₁ around₁ (at + 1) xs ≡ Json) → (s : Move) →
-        goes most (λ state₁ around₁. reach most state₁ around₁ xs) s ≡ to ended left → goOn most at (λ state₁ around₁. scan most state₁ around₁ (at + 1) xs) s ≡ Json
-    by again nowhere e = absurd (nowhere-else e)
+        goes most (λ state₁ around₁. reach most state₁ around₁ xs) s ≡ to ended left → go_on most at (λ state₁ around₁. scan most state₁ around₁ (at + 1) xs) s ≡ Json
+    by again nowhere e = absurd (nowhere_else e)
     by again (to state₁ around₁) e = test (ltb most (length around₁)) e
       where
         test : (t : Bool) → cond t nowhere (reach most state₁ around₁ xs) ≡ to ended left → cond t (TooDeep at) (scan most state₁ around₁ (at + 1) xs) ≡ Json
-        test true e = absurd (nowhere-else e)
+        test true e = absurd (nowhere_else e)
         test false e = again state₁ around₁ e

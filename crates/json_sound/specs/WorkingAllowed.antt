@@ -1,8 +1,8 @@
 -- The other half of "Say yes exactly for those": what is read to its end the grammar allows, no deeper than there were levels.
 use Rattle.std.specs.Prelude.{◌≡◌, List, [], ℕ}
-use Rattle.json_grammar.specs.Json.{payloadTo}
+use Rattle.json_grammar.specs.Json.{payload_to}
 use Rattle.json_scan.specs.declared.Verdict.TheVariants.{Json}
 use Rattle.json_scan.specs.Scan.{outer, between, scan}
 
 abbrev pub Allowed : Type 0
-Allowed = (most : ℕ) (payload : List ℕ) → scan most (between outer) [] 0 payload ≡ Json → payloadTo most payload
+Allowed = (most : ℕ) (payload : List ℕ) → scan most (between outer) [] 0 payload ≡ Json → payload_to most payload

@@ -11,115 +11,115 @@ use lib.ListN.{length, drop, get_or, replicate, drop_of_length-le}
 use Rattle.bytes_number.proofs.Truth.{outcome}
 use Rattle.json_scan.specs.declared.Reached.{Reached}
 use Rattle.json_scan.specs.declared.Reached.TheVariants.{Behind, Stopped}
-use Rattle.json_scan.specs.Scan.{isWithin, isEscape, Class, hex, tail, holds, second_of, tailsOf, Kind, Due, behind, State, between, text, escape, rest, nowhere, to, textMove, escapeMove, remaining, move_of, isEnded}
-use Rattle.json_scan.specs.WorkingEnds.{end_of, restEnd, followed}
+use Rattle.json_scan.specs.Scan.{is_within, is_escape, Class, hex, tail, holds, second_of, tails_of, Kind, Due, behind, State, between, text, escape, rest, nowhere, to, text_move, escape_move, remaining, move_of, is_ended}
+use Rattle.json_scan.specs.WorkingEnds.{end_of, rest_end, followed}
 use Rattle.json_scan.specs.WorkingReads.{place_of, came, ReadsOn}
 use Rattle.json_scan.proofs.Scanning.{drop_at}
-use Rattle.json_scan.proofs.Leading.{passes-to}
-use Rattle.json_scan.proofs.Reading.{Takes, ReadsText, reads-last, reads_more, reads-wrong, reads_over, takes-more}
-use Rattle.json_scan.proofs.Rest.{rest_more, rest-wrong, rest_over, rest-on, rest-off, rest-onward}
+use Rattle.json_scan.proofs.Leading.{passes_to}
+use Rattle.json_scan.proofs.Reading.{Takes, ReadsText, reads_last, reads_more, reads_wrong, reads_over, takes_more}
+use Rattle.json_scan.proofs.Rest.{rest_more, rest_wrong, rest_over, rest_on, rest_off, rest_onward}
 use Rattle.json_plain.specs.WorkingPlain.{is_plain}
-use Rattle.json_string.specs.WorkingText.{isBetween, textOn, textFrom, textEnd, Escaped}
-use Rattle.json_string.proofs.Steps.{text-plain, text-backslash, text-lead}
+use Rattle.json_string.specs.WorkingText.{is_between, text_on, text_from, text_end, Escaped}
+use Rattle.json_string.proofs.Steps.{text_plain, text_backslash, text_lead}
 
 -- ---- one byte, from a place on
 
-pub from-over : (state : State) (bytes : List ℕ) (at : ℕ) → length bytes ≤ at → textFrom state at (drop at bytes) ≡ Stopped at
-unfolding textFrom
-from-over state bytes at l = ap (textFrom state at) (drop_of_length-le bytes l)
+pub from_over : (state : State) (bytes : List ℕ) (at : ℕ) → length bytes ≤ at → text_from state at (drop at bytes) ≡ Stopped at
+unfolding text_from
+from_over state bytes at l = ap (text_from state at) (drop_of_length-le bytes l)
 
 module _ (state : State) (bytes : List ℕ) (at : ℕ) (l : at < length bytes) where
   abbrev onward : State → Reached
-  onward state₁ = textFrom state₁ (at + 1) (drop (at + 1) bytes)
+  onward state₁ = text_from state₁ (at + 1) (drop (at + 1) bytes)
 
-  first : textFrom state at (drop at bytes) ≡ textOn at onward (move_of state [] (get_or bytes at 0))
-  unfolding textFrom
-  first = ap (textFrom state at) (drop_at bytes at l)
+  first : text_from state at (drop at bytes) ≡ text_on at onward (move_of state [] (get_or bytes at 0))
+  unfolding text_from
+  first = ap (text_from state at) (drop_at bytes at l)
 
   -- it leads on in the string
-  pub from_on : (state₁ : State) → isBetween state₁ ≡ false → move_of state [] (get_or bytes at 0) ≡ to state₁ [] → textFrom state at (drop at bytes) ≡ textFrom state₁ (at + 1) (drop (at + 1) bytes)
-  from_on state₁ within e = first ∙ ap (textOn at onward) e ∙ ap (λ (t : Bool). cond t (Behind (at + 1)) (onward state₁)) within
+  pub from_on : (state₁ : State) → is_between state₁ ≡ false → move_of state [] (get_or bytes at 0) ≡ to state₁ [] → text_from state at (drop at bytes) ≡ text_from state₁ (at + 1) (drop (at + 1) bytes)
+  from_on state₁ within e = first ∙ ap (text_on at onward) e ∙ ap (λ (t : Bool). cond t (Behind (at + 1)) (onward state₁)) within
 
   -- it is the closing mark
-  pub from-closed : (due : Due) → move_of state [] (get_or bytes at 0) ≡ to (between due) [] → textFrom state at (drop at bytes) ≡ Behind (at + 1)
-  from-closed due e = first ∙ ap (textOn at onward) e
+  pub from_closed : (due : Due) → move_of state [] (get_or bytes at 0) ≡ to (between due) [] → text_from state at (drop at bytes) ≡ Behind (at + 1)
+  from_closed due e = first ∙ ap (text_on at onward) e
 
-  pub from_wrong : move_of state [] (get_or bytes at 0) ≡ nowhere → textFrom state at (drop at bytes) ≡ Stopped at
-  from_wrong e = first ∙ ap (textOn at onward) e
+  pub from_wrong : move_of state [] (get_or bytes at 0) ≡ nowhere → text_from state at (drop at bytes) ≡ Stopped at
+  from_wrong e = first ∙ ap (text_on at onward) e
 
 -- it leads nowhere, or there is none
-pub from-stuck : (state : State) (bytes : List ℕ) (at : ℕ) → (at < length bytes → move_of state [] (get_or bytes at 0) ≡ nowhere) → textFrom state at (drop at bytes) ≡ Stopped at
-from-stuck state bytes at e =
-    ⊎_elim (λ t. let l = ltb-true at (length bytes) t in from_wrong state bytes at l (e l)) (λ t. from-over state bytes at (ltb-false at (length bytes) t)) (outcome (ltb at (length bytes)))
+pub from_stuck : (state : State) (bytes : List ℕ) (at : ℕ) → (at < length bytes → move_of state [] (get_or bytes at 0) ≡ nowhere) → text_from state at (drop at bytes) ≡ Stopped at
+from_stuck state bytes at e =
+    ⊎_elim (λ t. let l = ltb-true at (length bytes) t in from_wrong state bytes at l (e l)) (λ t. from_over state bytes at (ltb-false at (length bytes) t)) (outcome (ltb at (length bytes)))
 
 -- ---- several bytes
 
 -- those that stand for themselves
-pub text-passes : (bytes : List ℕ) (at : ℕ) → textEnd at (drop at bytes) ≡ textEnd (end_of is_plain bytes at) (drop (end_of is_plain bytes at) bytes)
-unfolding textFrom
-text-passes = passes-to (textFrom (text behind)) is_plain (λ at c cs e. ap (textOn at (λ state₁. textFrom state₁ (at + 1) cs)) (text-plain behind [] c e))
+pub text_passes : (bytes : List ℕ) (at : ℕ) → text_end at (drop at bytes) ≡ text_end (end_of is_plain bytes at) (drop (end_of is_plain bytes at) bytes)
+unfolding text_from
+text_passes = passes_to (text_from (text behind)) is_plain (λ at c cs e. ap (text_on at (λ state₁. text_from state₁ (at + 1) cs)) (text_plain behind [] c e))
 
 -- those that are still to come of a character or an escape
-within : (ks : List Class) → isBetween (remaining ks (text behind)) ≡ false
+within : (ks : List Class) → is_between (remaining ks (text behind)) ≡ false
 within [] = refl
 within (k ∷ ks) = refl
 
 module _ (bytes : List ℕ) where
   -- behind those the string goes on
   abbrev next : ℕ → Reached
-  next i = textEnd i (drop i bytes)
+  next i = text_end i (drop i bytes)
 
   one_more :
-      (k : Class) (ks : List Class) (at : ℕ) → textFrom (remaining ks (text behind)) (at + 1) (drop (at + 1) bytes) ≡ followed (restEnd ks (at + 1) (drop (at + 1) bytes)) next →
-      textFrom (rest k ks (text behind)) at (drop at bytes) ≡ followed (restEnd (k ∷ ks) at (drop at bytes)) next
+      (k : Class) (ks : List Class) (at : ℕ) → text_from (remaining ks (text behind)) (at + 1) (drop (at + 1) bytes) ≡ followed (rest_end ks (at + 1) (drop (at + 1) bytes)) next →
+      text_from (rest k ks (text behind)) at (drop at bytes) ≡ followed (rest_end (k ∷ ks) at (drop at bytes)) next
   one_more k ks at again =
       ⊎_elim
       (λ t. let l = ltb-true at (length bytes) t in
       ⊎_elim
-      (λ e. from_on _ bytes at l (remaining ks (text behind)) (within ks) (rest-on k ks (text behind) [] _ e) ∙ again ∙ by (rest_more k ks bytes at l e))
-      (λ e. from_wrong _ bytes at l (rest-off k ks (text behind) [] _ e) ∙ by (rest-wrong k ks bytes at l e))
+      (λ e. from_on _ bytes at l (remaining ks (text behind)) (within ks) (rest_on k ks (text behind) [] _ e) ∙ again ∙ by (rest_more k ks bytes at l e))
+      (λ e. from_wrong _ bytes at l (rest_off k ks (text behind) [] _ e) ∙ by (rest_wrong k ks bytes at l e))
       (outcome (holds k (get_or bytes at 0))))
-      (λ t. let l = ltb-false at (length bytes) t in from-over _ bytes at l ∙ by (rest_over k ks bytes at l))
+      (λ t. let l = ltb-false at (length bytes) t in from_over _ bytes at l ∙ by (rest_over k ks bytes at l))
       (outcome (ltb at (length bytes)))
     where
-      by : {r : Reached} → restEnd (k ∷ ks) at (drop at bytes) ≡ r → followed r next ≡ followed (restEnd (k ∷ ks) at (drop at bytes)) next
+      by : {r : Reached} → rest_end (k ∷ ks) at (drop at bytes) ≡ r → followed r next ≡ followed (rest_end (k ∷ ks) at (drop at bytes)) next
       by e = ap (λ (x : Reached). followed x next) (sym e)
 
-  pub text-rest : (ks : List Class) (at : ℕ) → textFrom (remaining ks (text behind)) at (drop at bytes) ≡ followed (restEnd ks at (drop at bytes)) next
-  unfolding restEnd
-  text-rest [] at = refl
-  text-rest (k ∷ ks) at = one_more k ks at (text-rest ks (at + 1))
+  pub text_rest : (ks : List Class) (at : ℕ) → text_from (remaining ks (text behind)) at (drop at bytes) ≡ followed (rest_end ks at (drop at bytes)) next
+  unfolding rest_end
+  text_rest [] at = refl
+  text_rest (k ∷ ks) at = one_more k ks at (text_rest ks (at + 1))
 
 -- ---- an escape and a character, from the first byte on
 
 -- how far it came, and how the string goes on there
 pub record Goes (bytes : List ℕ) (at : ℕ) (r : Reached) : Type 0 where
-  pub same : textEnd at (drop at bytes) ≡ followed r (next bytes)
+  pub same : text_end at (drop at bytes) ≡ followed r (next bytes)
   pub onward : at < place_of (came r)
 
 module _ {bytes : List ℕ} {r : Reached} (at : ℕ) {n : ℕ} (is : n ≡ at + 1) (l : at < length bytes) where
-  pub text-escaped : get_or bytes at 0 ≡ 92 → Escaped bytes n r → Goes bytes at r
-  text-escaped mark e =
+  pub text_escaped : get_or bytes at 0 ≡ 92 → Escaped bytes n r → Goes bytes at r
+  text_escaped mark e =
       record {
         same =
-            from_on (text behind) bytes at l (escape behind) refl (text-backslash behind [] _ mark)
-            ∙ ap (λ (j : ℕ). textFrom (escape behind) j (drop j bytes)) (sym is)
+            from_on (text behind) bytes at l (escape behind) refl (text_backslash behind [] _ mark)
+            ∙ ap (λ (j : ℕ). text_from (escape behind) j (drop j bytes)) (sym is)
             ∙ e.same;
         onward = omega (arith, is, e.onward);
       }
 
-  pub text-wide : (more : ℕ) → 127 < get_or bytes at 0 → length (tailsOf (get_or bytes at 0)) ≡ more + 1 → r ≡ restEnd (second_of (get_or bytes at 0) ∷ replicate more tail) n (drop n bytes) → Goes bytes at r
-  text-wide more high tails e =
+  pub text_wide : (more : ℕ) → 127 < get_or bytes at 0 → length (tails_of (get_or bytes at 0)) ≡ more + 1 → r ≡ rest_end (second_of (get_or bytes at 0) ∷ replicate more tail) n (drop n bytes) → Goes bytes at r
+  text_wide more high tails e =
       let lead = get_or bytes at 0 in
       let ks = second_of lead ∷ replicate more tail in
-      let on : n ≤ place_of (came r) = subst⁻¹ (λ (x : Reached). n ≤ place_of (came x)) e (rest-onward bytes ks n) in
-      let so : length (tailsOf lead) - 1 ≡ more = omega (arith, tails) in
+      let on : n ≤ place_of (came r) = subst⁻¹ (λ (x : Reached). n ≤ place_of (came x)) e (rest_onward bytes ks n) in
+      let so : length (tails_of lead) - 1 ≡ more = omega (arith, tails) in
       record {
         same =
             from_on (text behind) bytes at l (rest (second_of lead) (replicate more tail) (text behind)) refl
-            (text-lead behind [] lead high (omega (arith, tails)) ∙ ap (λ (m : ℕ). to (rest (second_of lead) (replicate m tail) (text behind)) []) so)
-            ∙ ap (λ (j : ℕ). textFrom (remaining ks (text behind)) j (drop j bytes)) (sym is)
-            ∙ text-rest bytes ks n
+            (text_lead behind [] lead high (omega (arith, tails)) ∙ ap (λ (m : ℕ). to (rest (second_of lead) (replicate m tail) (text behind)) []) so)
+            ∙ ap (λ (j : ℕ). text_from (remaining ks (text behind)) j (drop j bytes)) (sym is)
+            ∙ text_rest bytes ks n
             ∙ ap (λ (x : Reached). followed x (next bytes)) (sym e);
         onward = omega (arith, is, on);
       }
@@ -137,12 +137,12 @@ state_of whole due = text due
 state_of marked due = escape due
 state_of (broken k ks) due = rest k ks (text due)
 
-going : (p : Part) (due : Due) → isEnded (state_of p due) ≡ false
+going : (p : Part) (due : Due) → is_ended (state_of p due) ≡ false
 going whole due = refl
 going marked due = refl
 going (broken k ks) due = refl
 
-inside : (p : Part) (due : Due) → isBetween (state_of p due) ≡ false
+inside : (p : Part) (due : Due) → is_between (state_of p due) ≡ false
 inside whole due = refl
 inside marked due = refl
 inside (broken k ks) due = refl
@@ -153,39 +153,39 @@ data Turn (p : Part) (c : ℕ) : Type 0 where
   closed : ((due : Due) (around : List Kind) → move_of (state_of p due) around c ≡ to (between due) around) → Turn p c
   stuck : ((due : Due) (around : List Kind) → move_of (state_of p due) around c ≡ nowhere) → Turn p c
 
-turn-text : (c : ℕ) → Turn whole c
-unfolding move_of textMove
-turn-text c = go (eqb c 34) (eqb c 92) (isWithin 32 127 c) (tailsOf c) refl refl refl refl
+turn_text : (c : ℕ) → Turn whole c
+unfolding move_of text_move
+turn_text c = go (eqb c 34) (eqb c 92) (is_within 32 127 c) (tails_of c) refl refl refl refl
   where
-    go : (q b w : Bool) (ks : List Class) → eqb c 34 ≡ q → eqb c 92 ≡ b → isWithin 32 127 c ≡ w → tailsOf c ≡ ks → Turn whole c
+    go : (q b w : Bool) (ks : List Class) → eqb c 34 ≡ q → eqb c 92 ≡ b → is_within 32 127 c ≡ w → tails_of c ≡ ks → Turn whole c
     go true b w ks e f g h = closed (λ due around. rw e refl)
     go false true w ks e f g h = on marked (λ due around. rw (e, f) refl)
     go false false true ks e f g h = on whole (λ due around. rw (e, f, g) refl)
     go false false false [] e f g h = stuck (λ due around. rw (e, f, g, h) refl)
     go false false false (k ∷ ks) e f g h = on (broken k ks) (λ due around. rw (e, f, g, h) refl)
 
-turn-escape : (c : ℕ) → Turn marked c
-unfolding move_of escapeMove
-turn-escape c = go (isEscape c) (eqb c 117) refl refl
+turn_escape : (c : ℕ) → Turn marked c
+unfolding move_of escape_move
+turn_escape c = go (is_escape c) (eqb c 117) refl refl
   where
-    go : (t u : Bool) → isEscape c ≡ t → eqb c 117 ≡ u → Turn marked c
+    go : (t u : Bool) → is_escape c ≡ t → eqb c 117 ≡ u → Turn marked c
     go true u e f = on whole (λ due around. rw e refl)
     go false true e f = on (broken hex (hex ∷ hex ∷ hex ∷ [])) (λ due around. rw (e, f) refl)
     go false false e f = stuck (λ due around. rw (e, f) refl)
 
-turn-rest : (k : Class) (ks : List Class) (c : ℕ) → Turn (broken k ks) c
-turn-rest k ks c = go ks (holds k c) refl
+turn_rest : (k : Class) (ks : List Class) (c : ℕ) → Turn (broken k ks) c
+turn_rest k ks c = go ks (holds k c) refl
   where
     go : (ks : List Class) (t : Bool) → holds k c ≡ t → Turn (broken k ks) c
-    go [] true e = on whole (λ due around. rest-on k [] (text due) around c e)
-    go (k₁ ∷ ks₁) true e = on (broken k₁ ks₁) (λ due around. rest-on k (k₁ ∷ ks₁) (text due) around c e)
-    go [] false e = stuck (λ due around. rest-off k [] (text due) around c e)
-    go (k₁ ∷ ks₁) false e = stuck (λ due around. rest-off k (k₁ ∷ ks₁) (text due) around c e)
+    go [] true e = on whole (λ due around. rest_on k [] (text due) around c e)
+    go (k₁ ∷ ks₁) true e = on (broken k₁ ks₁) (λ due around. rest_on k (k₁ ∷ ks₁) (text due) around c e)
+    go [] false e = stuck (λ due around. rest_off k [] (text due) around c e)
+    go (k₁ ∷ ks₁) false e = stuck (λ due around. rest_off k (k₁ ∷ ks₁) (text due) around c e)
 
 turn : (p : Part) (c : ℕ) → Turn p c
-turn whole c = turn-text c
-turn marked c = turn-escape c
-turn (broken k ks) c = turn-rest k ks c
+turn whole c = turn_text c
+turn marked c = turn_escape c
+turn (broken k ks) c = turn_rest k ks c
 
 module _ (bytes : List ℕ) where
   -- from a place on, and so much was read
@@ -193,7 +193,7 @@ module _ (bytes : List ℕ) where
   Reads p at r = ((due : Due) (room : ℕ) → ReadsOn bytes room at (state_of p due) (between due) (came r)) × Takes at (came r)
 
   abbrev from : Part → ℕ → Reached
-  from p at = textFrom (state_of p behind) at (drop at bytes)
+  from p at = text_from (state_of p behind) at (drop at bytes)
 
   by : (p : Part) (at : ℕ) {r : Reached} → from p at ≡ r → Reads p at r → Reads p at (from p at)
   by p at e = subst⁻¹ (Reads p at) e
@@ -201,22 +201,22 @@ module _ (bytes : List ℕ) where
   at_byte : (p : Part) (at : ℕ) → at < length bytes → ((q : Part) → Reads q (at + 1) (from q (at + 1))) → Turn p (get_or bytes at 0) → Reads p at (from p at)
   at_byte p at l again (on q e) =
       by p at (from_on (state_of p behind) bytes at l (state_of q behind) (inside q behind) (e behind []))
-      (λ due room. reads_more (state_of q due) l (e due) ((again q).0 due room), takes-more (at + 1) (came (from q (at + 1))) (omega arith) (again q).1)
-  at_byte p at l again (closed e) = by p at (from-closed (state_of p behind) bytes at l behind (e behind [])) (λ due room. reads-last l (e due), omega arith)
-  at_byte p at l again (stuck e) = by p at (from_wrong (state_of p behind) bytes at l (e behind [])) (λ due room. reads-wrong l (e due), tt)
+      (λ due room. reads_more (state_of q due) l (e due) ((again q).0 due room), takes_more (at + 1) (came (from q (at + 1))) (omega arith) (again q).1)
+  at_byte p at l again (closed e) = by p at (from_closed (state_of p behind) bytes at l behind (e behind [])) (λ due room. reads_last l (e due), omega arith)
+  at_byte p at l again (stuck e) = by p at (from_wrong (state_of p behind) bytes at l (e behind [])) (λ due room. reads_wrong l (e due), tt)
 
   -- with at most so many bytes left
   reads : (n : ℕ) (p : Part) (at : ℕ) → length bytes ≤ at + n → Reads p at (from p at)
   reads zero p at few = let over : length bytes ≤ at = omega arith in
-      by p at (from-over (state_of p behind) bytes at over) (λ due room. reads_over over (going p due), tt)
+      by p at (from_over (state_of p behind) bytes at over) (λ due room. reads_over over (going p due), tt)
   reads (suc n) p at few =
       ⊎_elim
       (λ t. at_byte p at (ltb-true at (length bytes) t) (λ q. reads n q (at + 1) (omega arith)) (turn p (get_or bytes at 0)))
-      (λ t. let over = ltb-false at (length bytes) t in by p at (from-over (state_of p behind) bytes at over) (λ due room. reads_over over (going p due), tt))
+      (λ t. let over = ltb-false at (length bytes) t in by p at (from_over (state_of p behind) bytes at over) (λ due room. reads_over over (going p due), tt))
       (outcome (ltb at (length bytes)))
 
-  pub text-reads : (at : ℕ) → ReadsText bytes at text between (came (textEnd at (drop at bytes)))
-  text-reads at = (reads (length bytes) whole at (omega arith)).0
+  pub text_reads : (at : ℕ) → ReadsText bytes at text between (came (text_end at (drop at bytes)))
+  text_reads at = (reads (length bytes) whole at (omega arith)).0
 
-  pub text-takes : (at : ℕ) → Takes at (came (textEnd at (drop at bytes)))
-  text-takes at = (reads (length bytes) whole at (omega arith)).1
+  pub text_takes : (at : ℕ) → Takes at (came (text_end at (drop at bytes)))
+  text_takes at = (reads (length bytes) whole at (omega arith)).1

@@ -7,29 +7,29 @@ use Rattle.json_scan.specs.WorkingEnds.{followed}
 use Rattle.json_scan.specs.WorkingReads.{place_of, came}
 
 -- between two tokens a string is over
-abbrev pub isBetween : State → Bool
-isBetween (between due) = true
-isBetween (number figure) = false
-isBetween (text due) = false
-isBetween (escape due) = false
-isBetween (rest k ks next) = false
-isBetween ended = false
+abbrev pub is_between : State → Bool
+is_between (between due) = true
+is_between (number figure) = false
+is_between (text due) = false
+is_between (escape due) = false
+is_between (rest k ks next) = false
+is_between ended = false
 
 -- a byte leads nowhere, out of the string, or on in it
-abbrev pub textOn : ℕ → (State → Reached) → Move → Reached
-textOn at next nowhere = Stopped at
-textOn at next (to state around) = cond (isBetween state) (Behind (at + 1)) (next state)
+abbrev pub text_on : ℕ → (State → Reached) → Move → Reached
+text_on at next nowhere = Stopped at
+text_on at next (to state around) = cond (is_between state) (Behind (at + 1)) (next state)
 
 -- from a place on, in this state within a string
-unfoldable pub textFrom : State → ℕ → List ℕ → Reached
-textFrom state at [] = Stopped at
-textFrom state at (c ∷ cs) = textOn at (λ state₁. textFrom state₁ (at + 1) cs) (move_of state [] c)
+unfoldable pub text_from : State → ℕ → List ℕ → Reached
+text_from state at [] = Stopped at
+text_from state at (c ∷ cs) = text_on at (λ state₁. text_from state₁ (at + 1) cs) (move_of state [] c)
 
 -- what stands between the quotation marks, and the closing one. What is open around a string and due behind it does not matter.
-abbrev pub textEnd : ℕ → List ℕ → Reached
-textEnd at xs = textFrom (text behind) at xs
+abbrev pub text_end : ℕ → List ℕ → Reached
+text_end at xs = text_from (text behind) at xs
 
 -- what stands behind a backslash: behind that the string goes on
 pub record Escaped (bytes : List ℕ) (at : ℕ) (r : Reached) : Type 0 where
-  pub same : textFrom (escape behind) at (drop at bytes) ≡ followed r (λ i. textEnd i (drop i bytes))
+  pub same : text_from (escape behind) at (drop at bytes) ≡ followed r (λ i. text_end i (drop i bytes))
   pub onward : at ≤ place_of (came r)

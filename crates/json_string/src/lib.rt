@@ -1,16 +1,15 @@
 // The strings of a payload: what stands between the quotation marks is escapes and UTF-8, with no control byte.
 ghost use Rattle.std.specs.Prelude.{◌≡◌, drop, replicate};
-ghost use Rattle.bytes_number.specs.Lent.{was};
-ghost use Rattle.json_scan.specs.Scan.{isHexDigit, isEscape, hex};
-ghost use Rattle.json_scan.specs.WorkingEnds.{settledAs, placeLeft, restEnd};
-ghost use Rattle.json_string.specs.WorkingText.{textEnd, Escaped};
+ghost use Rattle.json_scan.specs.Scan.{is_hex_digit, is_escape, hex};
+ghost use Rattle.json_scan.specs.WorkingEnds.{settled_as, place_left, rest_end};
+ghost use Rattle.json_string.specs.WorkingText.{text_end, Escaped};
 
 use bytes_number::byte_at;
 use json_plain::plain_end;
 use json_scan::{Reached, settle};
 
 fn is_hex(c: u8) -> bool
-    ensures { result ≡ isHexDigit c }
+    ensures { result ≡ is_hex_digit c }
 {
     if c >= b'a' {
         return c <= b'f';
@@ -22,7 +21,7 @@ fn is_hex(c: u8) -> bool
 }
 
 fn is_escape(c: u8) -> bool
-    ensures { result ≡ isEscape c }
+    ensures { result ≡ is_escape c }
 {
     match c {
         b'"' | b'\\' | b'/' | b'b' | b'f' | b'n' | b'r' | b't' => true,
@@ -32,7 +31,7 @@ fn is_escape(c: u8) -> bool
 
 // So many hex digits.
 fn hex_end(bytes: &[u8], at: usize, count: u8) -> Reached
-    ensures { result ≡ restEnd (replicate count hex) at (drop at (was bytes)) }
+    ensures { result ≡ rest_end (replicate count hex) at (drop at bytes.now) }
 {
     let mut i = at;
     let mut left = count;
@@ -51,7 +50,7 @@ fn hex_end(bytes: &[u8], at: usize, count: u8) -> Reached
 
 // What stands behind a backslash.
 fn escape_end(bytes: &[u8], at: usize) -> Reached
-    ensures { Escaped (was bytes) at result }
+    ensures { Escaped bytes.now at result }
 {
     if at >= bytes.len() {
         return Reached::Stopped(at);
@@ -68,8 +67,8 @@ fn escape_end(bytes: &[u8], at: usize) -> Reached
 
 // What stands between the quotation marks, and the closing one.
 pub fn text_end(bytes: &[u8], at: usize, place: &mut usize) -> usize
-    ensures told { result ≡ settledAs (textEnd at (drop at (was bytes))) }
-    ensures stops { place.new ≡ placeLeft (textEnd at (drop at (was bytes))) (was place) }
+    ensures told { result ≡ settled_as (text_end at (drop at bytes.now)) }
+    ensures stops { place.new ≡ place_left (text_end at (drop at bytes.now)) place.old }
 {
     let mut i = at;
     loop {

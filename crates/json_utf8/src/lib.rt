@@ -1,22 +1,21 @@
 // UTF-8: how a character of two bytes or more goes on behind its first byte.
 ghost use Rattle.std.specs.Prelude.{◌≡◌, ◌∷◌, length, drop, replicate};
-ghost use Rattle.bytes_number.specs.Lent.{was};
-ghost use Rattle.json_scan.specs.Scan.{isWithin, tail, second_of, tailsOf};
-ghost use Rattle.json_scan.specs.WorkingEnds.{restEnd};
-ghost use Rattle.json_utf8.specs.Working.{lowestSecond, highestSecond};
+ghost use Rattle.json_scan.specs.Scan.{is_within, tail, second_of, tails_of};
+ghost use Rattle.json_scan.specs.WorkingEnds.{rest_end};
+ghost use Rattle.json_utf8.specs.Working.{lowest_second, highest_second};
 
 use bytes_number::byte_at;
 use json_scan::Reached;
 
 fn is_tail(c: u8, lowest: u8, highest: u8) -> bool
-    ensures { result ≡ isWithin lowest highest c }
+    ensures { result ≡ is_within lowest highest c }
 {
     c >= lowest && c <= highest
 }
 
 // How many bytes come behind the first of a character of two bytes or more; 0 if this is no such byte.
 pub fn tails_behind(lead: u8) -> u8
-    ensures { result ≡ length (tailsOf lead) }
+    ensures { result ≡ length (tails_of lead) }
 {
     match lead {
         0xC2..=0xDF => 1,
@@ -28,7 +27,7 @@ pub fn tails_behind(lead: u8) -> u8
 
 // The second byte of a character lies from the one to the other: no character in too long a form, no surrogate, none above 10FFFF.
 fn lowest_second(lead: u8) -> u8
-    ensures { result ≡ lowestSecond lead }
+    ensures { result ≡ lowest_second lead }
 {
     match lead {
         0xE0 => 0xA0,
@@ -38,7 +37,7 @@ fn lowest_second(lead: u8) -> u8
 }
 
 fn highest_second(lead: u8) -> u8
-    ensures { result ≡ highestSecond lead }
+    ensures { result ≡ highest_second lead }
 {
     match lead {
         0xED => 0x9F,
@@ -49,7 +48,7 @@ fn highest_second(lead: u8) -> u8
 
 // So many tails.
 fn tails_end(bytes: &[u8], at: usize, count: u8) -> Reached
-    ensures { result ≡ restEnd (replicate count tail) at (drop at (was bytes)) }
+    ensures { result ≡ rest_end (replicate count tail) at (drop at bytes.now) }
 {
     let mut i = at;
     let mut left = count;
@@ -65,7 +64,7 @@ fn tails_end(bytes: &[u8], at: usize, count: u8) -> Reached
 
 // The second byte of a character, and so many tails behind it.
 pub fn second_end(bytes: &[u8], at: usize, lead: u8, more: u8) -> Reached
-    ensures { result ≡ restEnd (second_of lead ∷ replicate more tail) at (drop at (was bytes)) }
+    ensures { result ≡ rest_end (second_of lead ∷ replicate more tail) at (drop at bytes.now) }
 {
     if !is_tail(
         byte_at(bytes, at),

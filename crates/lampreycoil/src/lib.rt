@@ -1,8 +1,7 @@
 // The library that a C program links. Every call takes numbers and byte slices, returns 0 or the refusal's number, and lists its
 // answer as a row of four-byte numbers in a lent slice. include/lampreycoil.h declares them for C.
 ghost use Rattle.std.specs.Prelude.{◌≡◌};
-ghost use Rattle.bytes_number.specs.Lent.{was};
-ghost use Rattle.frame_message.specs.Writing.{givenMessage};
+ghost use Rattle.frame_message.specs.Writing.{given_message};
 ghost use Rattle.table_services.specs.Services;
 ghost use Rattle.table_identities.specs.Identities;
 ghost use Rattle.step_routing.specs.Routed.{tables_of};
@@ -10,12 +9,12 @@ ghost use Rattle.call_specs.specs.FaultCalls.{ReadsFault};
 ghost use Rattle.call_specs.specs.JsonCalls.{ChecksJson};
 ghost use Rattle.call_specs.specs.CommandCalls.{ReadsCommand, WritesCommand};
 ghost use Rattle.mdp_command.specs.CommandWriting.{given_of};
-ghost use Rattle.call_specs.specs.Calls.{returned, Reads, headerOf, Writes, ReadsStream, ChecksTree, hostBroker, Steps, Plays};
+ghost use Rattle.call_specs.specs.Calls.{returned, Reads, header_of, Writes, ReadsStream, ChecksTree, host_broker, Steps, Plays};
 
 // Reads the frame at the front of bytes, and lists where its parts lie.
 #[unsafe(no_mangle)]
 pub extern "C" fn lampreycoil_read(bytes: &[u8], row: &mut [u8]) -> u32
-    ensures { Reads (was bytes) (was row) result row.new }
+    ensures { Reads bytes.now row.old result row.new }
 {
     call_frame::read(bytes, row)
 }
@@ -23,7 +22,7 @@ pub extern "C" fn lampreycoil_read(bytes: &[u8], row: &mut [u8]) -> u32
 // Tells what is wrong with the frame at the front of bytes: lists the number that a read of it returns, and the byte at fault.
 #[unsafe(no_mangle)]
 pub extern "C" fn lampreycoil_read_fault(bytes: &[u8], row: &mut [u8]) -> u32
-    ensures { ReadsFault (was bytes) (was row) result row.new }
+    ensures { ReadsFault bytes.now row.old result row.new }
 {
     call_fault::read_fault(bytes, row)
 }
@@ -43,7 +42,7 @@ pub extern "C" fn lampreycoil_write(
     out: &mut [u8],
     row: &mut [u8],
 ) -> u32
-    ensures { Writes (givenMessage (headerOf kind flags userid rolemask first second) (was routes) (was topic) (was payload)) (was out) (was row) result out.new row.new }
+    ensures { Writes (given_message (header_of kind flags userid rolemask first second) routes.now topic.now payload.now) out.old row.old result out.new row.new }
 {
     call_frame::write(
         kind, flags, userid, rolemask, first, second, routes, topic, payload, out, row,
@@ -53,7 +52,7 @@ pub extern "C" fn lampreycoil_write(
 // Lists start and length of each whole frame in bytes, and in the record how many they are, which refusal stopped it and where.
 #[unsafe(no_mangle)]
 pub extern "C" fn lampreycoil_read_stream(bytes: &[u8], list: &mut [u8], row: &mut [u8]) -> u32
-    ensures { ReadsStream (was bytes) (was list) (was row) result list.new row.new }
+    ensures { ReadsStream bytes.now list.old row.old result list.new row.new }
 {
     call_stream::read_stream(bytes, list, row)
 }
@@ -61,7 +60,7 @@ pub extern "C" fn lampreycoil_read_stream(bytes: &[u8], list: &mut [u8], row: &m
 // Checks a tree, writes one depth byte a rank to the front of depths, and lists how many they are.
 #[unsafe(no_mangle)]
 pub extern "C" fn lampreycoil_check_tree(tree: &[u8], depths: &mut [u8], row: &mut [u8]) -> u32
-    ensures { ChecksTree (was tree) (was depths) (was row) result depths.new row.new }
+    ensures { ChecksTree tree.now depths.old row.old result depths.new row.new }
 {
     call_table::check_tree(tree, depths, row)
 }
@@ -69,7 +68,7 @@ pub extern "C" fn lampreycoil_check_tree(tree: &[u8], depths: &mut [u8], row: &m
 // Checks the services of a tree.
 #[unsafe(no_mangle)]
 pub extern "C" fn lampreycoil_check_services(tree: &[u8], services: &[u8]) -> u32
-    ensures { result ≡ returned (Services.servicesCheck (was tree) (was services)) }
+    ensures { result ≡ returned (Services.services_check tree.now services.now) }
 {
     call_table::check_services(tree, services)
 }
@@ -77,7 +76,7 @@ pub extern "C" fn lampreycoil_check_services(tree: &[u8], services: &[u8]) -> u3
 // Checks the identities of a tree's ranks.
 #[unsafe(no_mangle)]
 pub extern "C" fn lampreycoil_check_identities(tree: &[u8], identities: &[u8]) -> u32
-    ensures { result ≡ returned (Identities.identitiesCheck (was tree) (was identities)) }
+    ensures { result ≡ returned (Identities.identities_check tree.now identities.now) }
 {
     call_table::check_identities(tree, identities)
 }
@@ -92,7 +91,7 @@ pub extern "C" fn lampreycoil_step(
     buffer: &mut [u8],
     row: &mut [u8],
 ) -> u32
-    ensures { Steps (tables_of (was tree) (was services) (was identities)) (hostBroker rank) (was buffer) (was row) result buffer.new row.new }
+    ensures { Steps (tables_of tree.now services.now identities.now) (host_broker rank) buffer.old row.old result buffer.new row.new }
 {
     call_step::steps::step(tree, services, identities, rank, buffer, row)
 }
@@ -107,7 +106,7 @@ pub extern "C" fn lampreycoil_walk(
     buffer: &mut [u8],
     row: &mut [u8],
 ) -> u32
-    ensures { Plays (tables_of (was tree) (was services) (was identities)) (hostBroker rank) (was buffer) (was row) result buffer.new row.new }
+    ensures { Plays (tables_of tree.now services.now identities.now) (host_broker rank) buffer.old row.old result buffer.new row.new }
 {
     call_step::walks::walk(tree, services, identities, rank, buffer, row)
 }
@@ -115,7 +114,7 @@ pub extern "C" fn lampreycoil_walk(
 // Says whether a payload is JSON, and lists the answer and the byte that tells against it.
 #[unsafe(no_mangle)]
 pub extern "C" fn lampreycoil_check_json(payload: &[u8], row: &mut [u8]) -> u32
-    ensures { ChecksJson (was payload) (was row) result row.new }
+    ensures { ChecksJson payload.now row.old result row.new }
 {
     call_json::check_json(payload, row)
 }
@@ -123,7 +122,7 @@ pub extern "C" fn lampreycoil_check_json(payload: &[u8], row: &mut [u8]) -> u32
 // Reads the Majordomo command that the bytes are, and lists where its parts lie.
 #[unsafe(no_mangle)]
 pub extern "C" fn lampreycoil_read_command(bytes: &[u8], row: &mut [u8]) -> u32
-    ensures { ReadsCommand (was bytes) (was row) result row.new }
+    ensures { ReadsCommand bytes.now row.old result row.new }
 {
     call_mdp::read_command(bytes, row)
 }
@@ -139,7 +138,7 @@ pub extern "C" fn lampreycoil_write_command(
     out: &mut [u8],
     row: &mut [u8],
 ) -> u32
-    ensures { WritesCommand (given_of sender command (was name) (was address) (was body)) (was out) (was row) result out.new row.new }
+    ensures { WritesCommand (given_of sender command name.now address.now body.now) out.old row.old result out.new row.new }
 {
     call_mdp::write_command(sender, command, name, address, body, out, row)
 }

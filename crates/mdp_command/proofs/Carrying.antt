@@ -5,14 +5,14 @@ use Prim.Native.Nat.{ℕ, ◌≤◌}
 use native.Mathlib.Omega.{arith}
 use lib.Dec.{eqb, leb}
 use borrow.Author.Tests.{eqb-true, eqb-false, leb-true, leb-false}
-use Rattle.bytes_number.proofs.Truth.{true-false, and_left, and_right}
-use Rattle.mdp_command.specs.Command.{isCommand, hasName, hasAddress, hasBody}
+use Rattle.bytes_number.proofs.Truth.{true_false, and_left, and_right}
+use Rattle.mdp_command.specs.Command.{is_command, has_name, has_address, has_body}
 
 -- what a command of this sender and number carries: name, address, body
 pub record Carries (sender code : ℕ) (name address body : Bool) : Type 0 where
-  pub named : hasName sender code ≡ name
-  pub addressed : hasAddress sender code ≡ address
-  pub bodied : hasBody sender code ≡ body
+  pub named : has_name sender code ≡ name
+  pub addressed : has_address sender code ≡ address
+  pub bodied : has_body sender code ≡ body
 
 pub data Kind (sender code : ℕ) : Type 0 where
   -- a client's
@@ -22,14 +22,14 @@ pub data Kind (sender code : ℕ) : Type 0 where
   works : sender ≡ 2 → Carries sender code false true true → Kind sender code
   bare : sender ≡ 2 → Carries sender code false false false → Kind sender code
 
-pub kind-of : (sender code : ℕ) → isCommand sender code ≡ true → Kind sender code
-unfolding isCommand hasName hasAddress hasBody
-kind-of sender code e = go (eqb sender 1) (eqb sender 2) refl refl e
+pub kind_of : (sender code : ℕ) → is_command sender code ≡ true → Kind sender code
+unfolding is_command has_name has_address has_body
+kind_of sender code e = go (eqb sender 1) (eqb sender 2) refl refl e
   where
     go : (p q : Bool) → eqb sender 1 ≡ p → eqb sender 2 ≡ q → ((p && (leb 1 code && leb code 3)) || (q && (leb 1 code && leb code 6))) ≡ true → Kind sender code
     go true true a b e = absurd (omega (arith, eqb-true sender 1 a, eqb-true sender 2 b))
     go true false a b e = asks (eqb-true sender 1 a) (record { named = rw a; addressed = rw b; bodied = rw a })
-    go false false a b e = absurd (true-false (sym e))
+    go false false a b e = absurd (true_false (sym e))
     go false true a b e = by (eqb code 1) (leb 2 code) (leb code 4) refl refl refl
       where
         by : (r s t : Bool) → eqb code 1 ≡ r → leb 2 code ≡ s → leb code 4 ≡ t → Kind sender code
@@ -40,12 +40,12 @@ kind-of sender code e = go (eqb sender 1) (eqb sender 2) refl refl e
         by false false t c d f = absurd (omega (arith, eqb-false code 1 c, leb-false 2 code d, leb-true 1 code (and_left (leb 1 code) (leb code 6) e)))
 
 -- no command has a higher number than a worker's last
-pub code-most : (sender code : ℕ) → isCommand sender code ≡ true → code ≤ 6
-unfolding isCommand
-code-most sender code e = go (eqb sender 1) (eqb sender 2) e
+pub code_most : (sender code : ℕ) → is_command sender code ≡ true → code ≤ 6
+unfolding is_command
+code_most sender code e = go (eqb sender 1) (eqb sender 2) e
   where
     go : (p q : Bool) → ((p && (leb 1 code && leb code 3)) || (q && (leb 1 code && leb code 6))) ≡ true → code ≤ 6
-    go false false e = absurd (true-false (sym e))
+    go false false e = absurd (true_false (sym e))
     go false true e = leb-true code 6 (and_right (leb 1 code) (leb code 6) e)
     go true q e = by (leb code 3) (leb code 6) refl refl
       where
@@ -55,7 +55,7 @@ code-most sender code e = go (eqb sender 1) (eqb sender 2) e
         by false false a b = absurd (never (leb 1 code) q e a b)
           where
             never : (t q : Bool) → ((t && leb code 3) || (q && (t && leb code 6))) ≡ true → leb code 3 ≡ false → leb code 6 ≡ false → ⊥
-            never true true e a b = true-false (sym e ∙ rw (a, b))
-            never true false e a b = true-false (sym e ∙ rw a)
-            never false true e a b = true-false (sym e)
-            never false false e a b = true-false (sym e)
+            never true true e a b = true_false (sym e ∙ rw (a, b))
+            never true false e a b = true_false (sym e ∙ rw a)
+            never false true e a b = true_false (sym e)
+            never false false e a b = true_false (sym e)

@@ -6,12 +6,12 @@ use Rattle.mdp_command.specs.declared.CommandReading.TheVariants.{Refused, Accep
 use Rattle.mdp_command.specs.Command.{Command}
 use Rattle.mdp_command.specs.Places.{places_of}
 use Rattle.frame_message.specs.Reading.{parts_in}
-use Rattle.frame_parts.specs.WorkingCounting.{partsOrNone}
+use Rattle.frame_parts.specs.WorkingCounting.{parts_or_none}
 
 -- the refusal, or where the command lies
-abbrev pub commandReadAs : Answer Command → CommandReading
-commandReadAs (refused r) = Refused r
-commandReadAs (answered c) = Accepted (places_of c)
+abbrev pub command_read_as : Answer Command → CommandReading
+command_read_as (refused r) = Refused r
+command_read_as (answered c) = Accepted (places_of c)
 
-unfoldable pub partsThere : List ℕ → List (List ℕ)
-partsThere b = partsOrNone (parts_in (length b) b)
+unfoldable pub parts_there : List ℕ → List (List ℕ)
+parts_there b = parts_or_none (parts_in (length b) b)

@@ -10,27 +10,27 @@ use lib.ListN.{length}
 use borrow.Author.Tests.{le-leb, lt-leb, ne_eqb}
 use Rattle.frame_forms.specs.Count.{one}
 use Rattle.frame_forms.specs.Working.{count}
-use Rattle.mdp_command.specs.Command.{isPrintable, allPrintable, isCommandName}
-use Rattle.mdp_name.specs.WorkingNames.{isOther}
+use Rattle.mdp_command.specs.Command.{is_printable, all_printable, is_command_name}
+use Rattle.mdp_name.specs.WorkingNames.{is_other}
 
 -- all are printable exactly if none is counted
-none_other : (xs : List ℕ) → allPrintable xs ≡ eqb (count isOther xs) 0
+none_other : (xs : List ℕ) → all_printable xs ≡ eqb (count is_other xs) 0
 none_other [] = refl
-none_other (x ∷ xs) = by_first (isPrintable x) (none_other xs)
+none_other (x ∷ xs) = by_first (is_printable x) (none_other xs)
   where
-    by_first : (t : Bool) → allPrintable xs ≡ eqb (count isOther xs) 0 → (t && allPrintable xs) ≡ eqb (one (not t) + count isOther xs) 0
-    by_first false e = sym (ne_eqb (1 + count isOther xs) 0 (λ (h : 1 + count isOther xs ≡ 0). omega arith))
-    by_first true e = rw (zero-add (count isOther xs)) e
+    by_first : (t : Bool) → all_printable xs ≡ eqb (count is_other xs) 0 → (t && all_printable xs) ≡ eqb (one (not t) + count is_other xs) 0
+    by_first false e = sym (ne_eqb (1 + count is_other xs) 0 (λ (h : 1 + count is_other xs ≡ 0). omega arith))
+    by_first true e = rw (zero-add (count is_other xs)) e
 
 module _ (xs : List ℕ) where
-  pub name-empty : length xs < 1 → isCommandName xs ≡ false
-  unfolding isCommandName
-  name-empty h = rw (lt-leb 1 (length xs) h)
+  pub name_empty : length xs < 1 → is_command_name xs ≡ false
+  unfolding is_command_name
+  name_empty h = rw (lt-leb 1 (length xs) h)
 
-  pub name-long : 1 ≤ length xs → 255 < length xs → isCommandName xs ≡ false
-  unfolding isCommandName
-  name-long h k = rw (le-leb 1 (length xs) h, lt-leb (length xs) 255 k)
+  pub name_long : 1 ≤ length xs → 255 < length xs → is_command_name xs ≡ false
+  unfolding is_command_name
+  name_long h k = rw (le-leb 1 (length xs) h, lt-leb (length xs) 255 k)
 
-  pub name-counted : 1 ≤ length xs → length xs ≤ 255 → isCommandName xs ≡ eqb (count isOther xs) 0
-  unfolding isCommandName
-  name-counted h k = rw (le-leb 1 (length xs) h, le-leb (length xs) 255 k) (none_other xs)
+  pub name_counted : 1 ≤ length xs → length xs ≤ 255 → is_command_name xs ≡ eqb (count is_other xs) 0
+  unfolding is_command_name
+  name_counted h k = rw (le-leb 1 (length xs) h, le-leb (length xs) 255 k) (none_other xs)

@@ -1,14 +1,13 @@
 // The form of a service name. Bytes are counted rather than searched, so that the compiler can look at several at a time.
 ghost use Rattle.std.specs.Prelude.{◌≡◌, ◌≤◌, length};
-ghost use Rattle.bytes_number.specs.Lent.{was};
 ghost use Rattle.frame_forms.specs.Count.{one};
 ghost use Rattle.frame_forms.specs.Working.{count};
-ghost use Rattle.mdp_command.specs.Command.{isCommandName};
-ghost use Rattle.mdp_name.specs.WorkingNames.{isOther};
+ghost use Rattle.mdp_command.specs.Command.{is_command_name};
+ghost use Rattle.mdp_name.specs.WorkingNames.{is_other};
 
 // 1 for a byte that no name has.
 fn other(x: u8) -> u8
-    ensures { result ≡ one (isOther x) }
+    ensures { result ≡ one (is_other x) }
 {
     if x < 32 {
         1
@@ -20,7 +19,7 @@ fn other(x: u8) -> u8
 // How many of so few bytes no name has.
 fn others(s: &[u8]) -> u8
     requires { length s.now ≤ 255 }
-    ensures { result ≡ count isOther (was s) }
+    ensures { result ≡ count is_other s.now }
 {
     let mut n: u8 = 0;
     let mut i = 0;
@@ -33,7 +32,7 @@ fn others(s: &[u8]) -> u8
 
 // Whether s is a name.
 pub fn is_name(s: &[u8]) -> bool
-    ensures { result ≡ isCommandName (was s) }
+    ensures { result ≡ is_command_name s.now }
 {
     if s.len() == 0 {
         return false;

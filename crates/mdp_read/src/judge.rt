@@ -1,9 +1,8 @@
 // What the parts of a command are, in the paper's order: 32 and 33, then 34 to 37 by what the command carries.
 ghost use Rattle.std.specs.Prelude.{◌≡◌, true, false, cond};
-ghost use Rattle.bytes_number.specs.Lent.{was};
-ghost use Rattle.mdp_command.specs.Command.{hasName, hasAddress, hasBody};
-ghost use Rattle.mdp_command.specs.CommandReading.{commandAs, commandJudged};
-ghost use Rattle.mdp_command.specs.Working.{commandReadAs, partsThere};
+ghost use Rattle.mdp_command.specs.Command.{has_name, has_address, has_body};
+ghost use Rattle.mdp_command.specs.CommandReading.{command_as, command_judged};
+ghost use Rattle.mdp_command.specs.Working.{command_read_as, parts_there};
 ghost use Rattle.mdp_read.specs.WorkingOpening.{CountOf, OpenedAs};
 
 use crate::open::{code_at, sender_at};
@@ -38,8 +37,8 @@ fn place_if(flag: bool, at: usize) -> usize
 // 34 and 35, of a command with a name, which is the third part.
 fn judge_named(bytes: &[u8], count: usize, sender: u8, code: u8, body: bool) -> CommandReading
     requires opened_as { OpenedAs bytes.now count sender code }
-    requires code_value { (hasName sender code ≡ true) × (body ≡ hasBody sender code) }
-    ensures { result ≡ commandReadAs (commandAs sender code (partsThere (was bytes))) }
+    requires code_value { (has_name sender code ≡ true) × (body ≡ has_body sender code) }
+    ensures { result ≡ command_read_as (command_as sender code (parts_there bytes.now)) }
 {
     if count < NAMED {
         return CommandReading::Refused(Refusal::PartCountWrong);
@@ -74,8 +73,8 @@ fn judge_named(bytes: &[u8], count: usize, sender: u8, code: u8, body: bool) -> 
 // 34, 36 and 37, of a command with an address, which is the third part; the separator is the fourth.
 fn judge_addressed(bytes: &[u8], count: usize, sender: u8, code: u8, body: bool) -> CommandReading
     requires opened_as { OpenedAs bytes.now count sender code }
-    requires code_value { (hasName sender code ≡ false) × (hasAddress sender code ≡ true) × (body ≡ hasBody sender code) }
-    ensures { result ≡ commandReadAs (commandAs sender code (partsThere (was bytes))) }
+    requires code_value { (has_name sender code ≡ false) × (has_address sender code ≡ true) × (body ≡ has_body sender code) }
+    ensures { result ≡ command_read_as (command_as sender code (parts_there bytes.now)) }
 {
     if count < ADDRESSED {
         return CommandReading::Refused(Refusal::PartCountWrong);
@@ -109,8 +108,8 @@ fn judge_addressed(bytes: &[u8], count: usize, sender: u8, code: u8, body: bool)
 // 34, of a command that is its mark and its number.
 fn judge_bare(bytes: &[u8], count: usize, sender: u8, code: u8, body: bool) -> CommandReading
     requires opened_as { OpenedAs bytes.now count sender code }
-    requires code_value { (hasName sender code ≡ false) × (hasAddress sender code ≡ false) × (body ≡ hasBody sender code) }
-    ensures { result ≡ commandReadAs (commandAs sender code (partsThere (was bytes))) }
+    requires code_value { (has_name sender code ≡ false) × (has_address sender code ≡ false) × (body ≡ has_body sender code) }
+    ensures { result ≡ command_read_as (command_as sender code (parts_there bytes.now)) }
 {
     if !mdp_rules::body_fits(body, count - BARE) {
         return CommandReading::Refused(Refusal::PartCountWrong);
@@ -128,7 +127,7 @@ fn judge_bare(bytes: &[u8], count: usize, sender: u8, code: u8, body: bool) -> C
 // 34 to 37, of a command whose sender and number are known.
 fn judge_opened(bytes: &[u8], count: usize, sender: u8, code: u8) -> CommandReading
     requires { OpenedAs bytes.now count sender code }
-    ensures { result ≡ commandReadAs (commandAs sender code (partsThere (was bytes))) }
+    ensures { result ≡ command_read_as (command_as sender code (parts_there bytes.now)) }
 {
     let carried = mdp_rules::carries(sender, code);
     if carried.name {
@@ -143,7 +142,7 @@ fn judge_opened(bytes: &[u8], count: usize, sender: u8, code: u8) -> CommandRead
 // 32 and 33, and then the rest, of bytes that are so many parts.
 pub(crate) fn judge(bytes: &[u8], count: usize) -> CommandReading
     requires { CountOf bytes.now count }
-    ensures { result ≡ commandReadAs (commandJudged (partsThere (was bytes))) }
+    ensures { result ≡ command_read_as (command_judged (parts_there bytes.now)) }
 {
     let sender = sender_at(bytes);
     let code = code_at(bytes);

@@ -1,8 +1,7 @@
 // The reader of commands: where the parts of a command lie in the caller's bytes, or the refusal that the paper names. It copies nothing.
 ghost use Rattle.std.specs.Prelude.{◌≡◌};
-ghost use Rattle.bytes_number.specs.Lent.{was};
-ghost use Rattle.mdp_command.specs.CommandReading.{commandRead};
-ghost use Rattle.mdp_command.specs.Working.{commandReadAs};
+ghost use Rattle.mdp_command.specs.CommandReading.{command_read};
+ghost use Rattle.mdp_command.specs.Working.{command_read_as};
 
 use frame_parts::{Counting, count_parts};
 use judge::judge;
@@ -14,7 +13,7 @@ mod open;
 
 // Reads a command, which is all of the bytes. There may be as many parts as bytes, so that only a part's size can stop the counting.
 pub fn read_command(bytes: &[u8]) -> CommandReading
-    ensures { result ≡ commandReadAs (commandRead (was bytes)) }
+    ensures { result ≡ command_read_as (command_read bytes.now) }
 {
     if mdp_command::MOST_BYTES < bytes.len() {
         return CommandReading::Refused(Refusal::CommandLong);

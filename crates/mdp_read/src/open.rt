@@ -1,8 +1,7 @@
 // The first two parts of a command: its sender's mark, and its number.
 ghost use Rattle.std.specs.Prelude.{◌≡◌};
-ghost use Rattle.bytes_number.specs.Lent.{was};
-ghost use Rattle.mdp_command.specs.CommandReading.{senderOf};
-ghost use Rattle.mdp_read.specs.WorkingOpening.{senderAt, code_at};
+ghost use Rattle.mdp_command.specs.CommandReading.{sender_of};
+ghost use Rattle.mdp_read.specs.WorkingOpening.{sender_at, code_at};
 
 use mdp_command::{CLIENT, CLIENT_MARK, START, WORKER, WORKER_MARK};
 
@@ -15,7 +14,7 @@ const CODE: usize = 8;
 
 // Who has this mark, and 0 where it is nobody's.
 fn sender_of(part: &[u8]) -> u8
-    ensures { result ≡ senderOf (was part) }
+    ensures { result ≡ sender_of part.now }
 {
     if table_records::same(part, &CLIENT_MARK) {
         return CLIENT;
@@ -28,7 +27,7 @@ fn sender_of(part: &[u8]) -> u8
 
 // Who sends the command at the front of the bytes, and 0 where the first part is nobody's mark.
 pub(crate) fn sender_at(bytes: &[u8]) -> u8
-    ensures { result ≡ senderAt (was bytes) }
+    ensures { result ≡ sender_at bytes.now }
 {
     if bytes.len() < MARK_END {
         return 0;
@@ -41,7 +40,7 @@ pub(crate) fn sender_at(bytes: &[u8]) -> u8
 
 // The command's number behind a mark, and 0 where no part of one byte stands there.
 pub(crate) fn code_at(bytes: &[u8]) -> u8
-    ensures { result ≡ code_at (was bytes) }
+    ensures { result ≡ code_at bytes.now }
 {
     if bytes.len() < START {
         return 0;

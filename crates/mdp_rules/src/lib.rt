@@ -1,7 +1,7 @@
 // Which commands there are, and what each carries.
 ghost use Rattle.std.specs.Prelude.{◌≡◌, cond, ◌&&◌, eqb, leb};
-ghost use Rattle.mdp_command.specs.Command.{isCommand, isWork, mostBodyParts};
-ghost use Rattle.mdp_rules.specs.WorkingCarried.{carriedBy};
+ghost use Rattle.mdp_command.specs.Command.{is_command, is_work, most_body_parts};
+ghost use Rattle.mdp_rules.specs.WorkingCarried.{carried_by};
 
 use mdp_command::{CLIENT, MOST_PARTS, WORKER};
 
@@ -27,7 +27,7 @@ pub struct Carried {
 
 // Whether this sender has a command with this number.
 pub fn is_command(sender: u8, code: u8) -> bool
-    ensures { result ≡ isCommand sender code }
+    ensures { result ≡ is_command sender code }
 {
     if code == 0 {
         return false;
@@ -43,7 +43,7 @@ pub fn is_command(sender: u8, code: u8) -> bool
 
 // Whether a worker's command is REQUEST, PARTIAL or FINAL.
 fn is_work(code: u8) -> bool
-    ensures { result ≡ isWork code }
+    ensures { result ≡ is_work code }
 {
     if code < FIRST_WORK {
         false
@@ -54,7 +54,7 @@ fn is_work(code: u8) -> bool
 
 // What a command of this sender with this number carries.
 pub fn carries(sender: u8, code: u8) -> Carried
-    ensures { result ≡ carriedBy sender code }
+    ensures { result ≡ carried_by sender code }
 {
     if sender == CLIENT {
         return Carried {
@@ -82,7 +82,7 @@ pub fn carries(sender: u8, code: u8) -> Carried
 
 // 34: one or more body parts where the command has a body, and none where it has not.
 pub fn body_fits(body: bool, parts: usize) -> bool
-    ensures { result ≡ cond body (leb 1 parts && leb parts mostBodyParts) (eqb parts 0) }
+    ensures { result ≡ cond body (leb 1 parts && leb parts most_body_parts) (eqb parts 0) }
 {
     if body {
         if parts == 0 {

@@ -9,12 +9,12 @@ use Rattle.refusal.specs.declared.Refusal.{Refusal}
 use Rattle.refusal.specs.Answer.{Answer, refused, answered}
 use Rattle.frame_message.specs.declared.Written.TheVariants.{Refused, Frame}
 use Rattle.frame_message.specs.Frame.{joined}
-use Rattle.frame_message.specs.Working.{writtenAs}
-use Rattle.mdp_command.specs.CommandBytes.{frontParts}
-use Rattle.mdp_command.specs.CommandWriting.{Given, commandOf, commandInto}
-use Rattle.mdp_command.proofs.Cutting.{cut-split}
-use Rattle.mdp_command.proofs.RoundTrip.{bytes-split, gave}
-use Rattle.mdp_write.specs.WorkingFront.{frontOf}
+use Rattle.frame_message.specs.Working.{written_as}
+use Rattle.mdp_command.specs.CommandBytes.{front_parts}
+use Rattle.mdp_command.specs.CommandWriting.{Given, command_of, command_into}
+use Rattle.mdp_command.proofs.Cutting.{cut_split}
+use Rattle.mdp_command.proofs.RoundTrip.{bytes_split, gave}
+use Rattle.mdp_write.specs.WorkingFront.{front_of}
 
 never : {r : Refusal} {n : ℕ} → Refused r ≡ Frame n → ⊥
 never e = let z : ◌≡◌ {A = ℕ} 0 1 = cc in omega arith
@@ -25,26 +25,26 @@ record ToldOf (a : Answer (List ℕ)) (n : ℕ) : Type 0 where
   is : a ≡ answered bytes
   long : n ≡ length bytes
 
-told_of : (a : Answer (List ℕ)) {n : ℕ} → writtenAs a ≡ Frame n → ToldOf a n
-told_of (refused q) e = absurd (never e)
-told_of (answered bytes) e = record { bytes = bytes; is = refl; long = cc }
+told_of_lem : (a : Answer (List ℕ)) {n : ℕ} → written_as a ≡ Frame n → ToldOf a n
+told_of_lem (refused q) e = absurd (never e)
+told_of_lem (answered bytes) e = record { bytes = bytes; is = refl; long = cc }
 
 -- they are what stands in front of the body, and the body
 pub record Told (room : ℕ) (g : Given) (n : ℕ) : Type 0 where
-  pub writes : commandInto room g ≡ answered (joined (frontOf g.sender g.code g.name g.address) ++ g.body)
-  pub long : n ≡ length (joined (frontOf g.sender g.code g.name g.address) ++ g.body)
-  pub fits : length (joined (frontOf g.sender g.code g.name g.address) ++ g.body) ≤ room
+  pub writes : command_into room g ≡ answered (joined (front_of g.sender g.code g.name g.address) ++ g.body)
+  pub long : n ≡ length (joined (front_of g.sender g.code g.name g.address) ++ g.body)
+  pub fits : length (joined (front_of g.sender g.code g.name g.address) ++ g.body) ≤ room
 
-same-front : (g : Given) (parts : List (List ℕ)) → frontParts (commandOf g parts) ≡ frontOf g.sender g.code g.name g.address
-unfolding frontParts
-same-front g parts = refl
+same_front : (g : Given) (parts : List (List ℕ)) → front_parts (command_of g parts) ≡ front_of g.sender g.code g.name g.address
+unfolding front_parts
+same_front g parts = refl
 
-pub told-given : (room : ℕ) (g : Given) {n : ℕ} → Bytes g.body → writtenAs (commandInto room g) ≡ Frame n → Told room g n
-told-given room g {n} are e =
-    let t = told_of (commandInto room g) e in
+pub told_given : (room : ℕ) (g : Given) {n : ℕ} → Bytes g.body → written_as (command_into room g) ≡ Frame n → Told room g n
+told_given room g {n} are e =
+    let t = told_of_lem (command_into room g) e in
     let w = gave room g t.bytes t.is in
-    let c = commandOf g w.parts in
-    let body = (cut-split g.body w.parts are w.cuts).same in
-    let same : t.bytes ≡ joined (frontOf g.sender g.code g.name g.address) ++ g.body =
-    sym w.written.same ∙ bytes-split c ∙ ap (λ (ps : List (List ℕ)). joined ps ++ joined w.parts) (same-front g w.parts) ∙ ap (λ (xs : List ℕ). joined (frontOf g.sender g.code g.name g.address) ++ xs) (sym body) in
+    let c = command_of g w.parts in
+    let body = (cut_split g.body w.parts are w.cuts).same in
+    let same : t.bytes ≡ joined (front_of g.sender g.code g.name g.address) ++ g.body =
+    sym w.written.same ∙ bytes_split c ∙ ap (λ (ps : List (List ℕ)). joined ps ++ joined w.parts) (same_front g w.parts) ∙ ap (λ (xs : List ℕ). joined (front_of g.sender g.code g.name g.address) ++ xs) (sym body) in
     record { writes = t.is ∙ ap answered same; long = t.long ∙ ap length same; fits = omega (arith, w.fits, ap length same) }

@@ -1,9 +1,8 @@
 // The writer of commands: a command's bytes into a lent output, or the refusal that the paper names.
 ghost use Rattle.std.specs.Prelude.{◌≡◌, length};
-ghost use Rattle.bytes_number.specs.Lent.{was};
-ghost use Rattle.frame_message.specs.Working.{writtenAs};
-ghost use Rattle.refusal.specs.Answer.{writtenOver};
-ghost use Rattle.mdp_command.specs.CommandWriting.{given_of, commandInto};
+ghost use Rattle.frame_message.specs.Working.{written_as};
+ghost use Rattle.refusal.specs.Answer.{written_over};
+ghost use Rattle.mdp_command.specs.CommandWriting.{given_of, command_into};
 
 use frame_message::Written;
 
@@ -19,8 +18,8 @@ pub fn write_command(
     body: &[u8],
     out: &mut [u8],
 ) -> Written
-    ensures value { result ≡ writtenAs (commandInto (length (was out)) (given_of sender code (was name) (was address) (was body))) }
-    ensures out_after { out.new ≡ writtenOver (commandInto (length (was out)) (given_of sender code (was name) (was address) (was body))) (was out) }
+    ensures value { result ≡ written_as (command_into (length out.old) (given_of sender code name.now address.now body.now)) }
+    ensures out_after { out.new ≡ written_over (command_into (length out.old) (given_of sender code name.now address.now body.now)) out.old }
 {
     // Before the check: a copy of bytes that have just been laid down, as those of the mark are, waits for them.
     let mark = part::mark_of(sender);

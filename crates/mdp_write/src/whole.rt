@@ -1,11 +1,10 @@
 // A whole command: what stands in front of its body, and the body as it was given.
 ghost use Rattle.std.specs.Prelude.{◌≡◌, ◌++◌, ◌≤◌, length};
-ghost use Rattle.bytes_number.specs.Lent.{was};
 ghost use Rattle.bytes_number.specs.Laid.{laid};
 ghost use Rattle.bytes_number.specs.WorkingLays.{Lays};
 ghost use Rattle.frame_message.specs.Frame.{joined};
 ghost use Rattle.mdp_command.specs.CommandBytes.{mark_of};
-ghost use Rattle.mdp_write.specs.WorkingFront.{frontOf};
+ghost use Rattle.mdp_write.specs.WorkingFront.{front_of};
 
 use crate::part;
 use frame_part_write::write_part;
@@ -20,8 +19,8 @@ fn write_front(
     address: &[u8],
 ) -> usize
     requires mark_value { mark.now ≡ mark_of sender }
-    requires address_in_bounds { length (joined (frontOf sender code name.now address.now)) ≤ length out.old }
-    ensures { Lays (joined (frontOf sender code (was name) (was address))) (was out) out.new result }
+    requires address_in_bounds { length (joined (front_of sender code name.now address.now)) ≤ length out.old }
+    ensures { Lays (joined (front_of sender code name.now address.now)) out.old out.new result }
 {
     let carried = mdp_rules::carries(sender, code);
     let code_at = write_part(out, mark);
@@ -41,8 +40,8 @@ pub(crate) fn write_whole(
     body: &[u8],
 )
     requires mark_value { mark.now ≡ mark_of sender }
-    requires body_in_bounds { length (joined (frontOf sender code name.now address.now) ++ body.now) ≤ length out.old }
-    ensures { out.new ≡ laid (joined (frontOf sender code (was name) (was address)) ++ was body) (was out) }
+    requires body_in_bounds { length (joined (front_of sender code name.now address.now) ++ body.now) ≤ length out.old }
+    ensures { out.new ≡ laid (joined (front_of sender code name.now address.now) ++ body.now) out.old }
 {
     let at = write_front(out, mark, sender, code, name, address);
     if 0 < body.len() {

@@ -7,44 +7,44 @@ use native.Mathlib.Omega.{arith}
 use lib.Dec.{ltb}
 use lib.ListN.{length}
 use Rattle.bytes_number.specs.Number.{Bytes}
-use Rattle.bytes_number.proofs.Truth.{true-false}
+use Rattle.bytes_number.proofs.Truth.{true_false}
 use Rattle.refusal.specs.declared.Refusal.TheVariants.{OutputShort, CommandPartWrong, CommandWrong, PartCountWrong, NameWrong, AddressWrong}
-use Rattle.refusal.specs.Answer.{Answer, refused, answered, refuseIf, and_then}
+use Rattle.refusal.specs.Answer.{Answer, refused, answered, refuse_if, and_then}
 use Rattle.frame_message.specs.declared.Written.{Written}
 use Rattle.frame_message.specs.declared.Written.TheVariants.{Refused}
 use Rattle.frame_message.specs.Reading.{parts_in}
-use Rattle.frame_message.specs.Working.{writtenAs}
+use Rattle.frame_message.specs.Working.{written_as}
 use Rattle.frame_message.specs.Writing.{is_empty}
-use Rattle.frame_forms.specs.Forms.{isRoute}
-use Rattle.mdp_command.specs.Command.{Command, isCommand, hasName, hasAddress, isCommandName}
-use Rattle.mdp_command.specs.CommandBytes.{asThirty, commandBytes, cutParts}
-use Rattle.mdp_command.specs.CommandWriting.{bodyFits, nameFits, addressFits, commandWritten, Given, commandOf, commandInto}
-use Rattle.mdp_command.proofs.Carrying.{kind-of}
-use Rattle.mdp_command.proofs.Commands.{empty-none}
-use Rattle.mdp_command.proofs.Cutting.{CutInto, cut-found, cut-split}
+use Rattle.frame_forms.specs.Forms.{is_route}
+use Rattle.mdp_command.specs.Command.{Command, is_command, has_name, has_address, is_command_name}
+use Rattle.mdp_command.specs.CommandBytes.{as_thirty, command_bytes, cut_parts}
+use Rattle.mdp_command.specs.CommandWriting.{body_fits, name_fits, address_fits, command_written, Given, command_of, command_into}
+use Rattle.mdp_command.proofs.Carrying.{kind_of}
+use Rattle.mdp_command.proofs.Commands.{empty_none}
+use Rattle.mdp_command.proofs.Cutting.{CutInto, cut_found, cut_split}
 use Rattle.mdp_command.proofs.RoundTrip.{bytes-length}
 use Rattle.mdp_write_check.specs.declared.Cut.{Cut}
-use Rattle.mdp_write_check.specs.WorkingChecks.{cutAs, frontLength, measuredAs}
-use Rattle.mdp_write_check.proofs.Measuring.{front_long, measured-as}
+use Rattle.mdp_write_check.specs.WorkingChecks.{cut_as, front_length, measured_as}
+use Rattle.mdp_write_check.proofs.Measuring.{front_long, measured_as_lem}
 
 -- ---- a body that is cut
 
-pub cut-none : (b : List ℕ) {r : Cut} → r ≡ cutAs (cutParts b) → r.whole ≡ false → cutParts b ≡ refused CommandPartWrong
-unfolding cutParts
+pub cut-none : (b : List ℕ) {r : Cut} → r ≡ cut_as (cut_parts b) → r.whole ≡ false → cut_parts b ≡ refused CommandPartWrong
+unfolding cut_parts
 cut-none b {r} e f = go (parts_in (length b) b) (sym (ap (λ (x : Cut). x.whole) e) ∙ f)
   where
-    go : (a : Answer (List (List ℕ))) → (cutAs (asThirty a)).whole ≡ false → asThirty a ≡ refused CommandPartWrong
+    go : (a : Answer (List (List ℕ))) → (cut_as (as_thirty a)).whole ≡ false → as_thirty a ≡ refused CommandPartWrong
     go (refused q) f = refl
-    go (answered ps) f = absurd (true-false f)
+    go (answered ps) f = absurd (true_false f)
 
-pub cut-whole : (b : List ℕ) {r : Cut} → r ≡ cutAs (cutParts b) → r.whole ≡ true → CutInto b r.parts
-cut-whole b {r} e t = go (cutParts b) refl e
+pub cut_whole : (b : List ℕ) {r : Cut} → r ≡ cut_as (cut_parts b) → r.whole ≡ true → CutInto b r.parts
+cut_whole b {r} e t = go (cut_parts b) refl e
   where
-    go : (a : Answer (List (List ℕ))) → cutParts b ≡ a → r ≡ cutAs a → CutInto b r.parts
-    go (refused q) k e = absurd (true-false (sym t ∙ ap (λ (x : Cut). x.whole) e))
-    go (answered ps) k e = record { parts = ps; found = cut-found b ps k; cuts = k; counted = ap (λ (x : Cut). x.parts) e }
+    go : (a : Answer (List (List ℕ))) → cut_parts b ≡ a → r ≡ cut_as a → CutInto b r.parts
+    go (refused q) k e = absurd (true_false (sym t ∙ ap (λ (x : Cut). x.whole) e))
+    go (answered ps) k e = record { parts = ps; found = cut_found b ps k; cuts = k; counted = ap (λ (x : Cut). x.parts) e }
 
-pub cut-told : {b : List ℕ} {n : ℕ} → CutInto b n → record { whole = true; parts = n } ≡ cutAs (cutParts b)
+pub cut-told : {b : List ℕ} {n : ℕ} → CutInto b n → record { whole = true; parts = n } ≡ cut_as (cut_parts b)
 cut-told c = rw (c.cuts, c.counted)
 
 -- ---- what is there to be given, and what is not
@@ -57,71 +57,71 @@ pub given_is : (right wrong : Bool) {given : Bool} → given ≡ true → cond g
 given_is right wrong e = rw e
 
 module _ (xs : List ℕ) (right : Bool) {given : Bool} (none : given ≡ false) where
-  pub none-given : length xs ≡ 0 → cond given right (is_empty xs) ≡ true
-  none-given e = rw none (no_bytes xs e)
+  pub none_given : length xs ≡ 0 → cond given right (is_empty xs) ≡ true
+  none_given e = rw none (no_bytes xs e)
 
-  pub given-none : cond given right (is_empty xs) ≡ true → length xs ≡ 0
-  given-none e = ap length (empty-none xs (rw none at e))
+  pub given_none : cond given right (is_empty xs) ≡ true → length xs ≡ 0
+  given_none e = ap length (empty_none xs (rw none at e))
 
-pub named-as : (sender code : ℕ) (name : List ℕ) {given r : Bool} → given ≡ hasName sender code → r ≡ cond given (isCommandName name) (is_empty name) → nameFits sender code name ≡ r
-unfolding nameFits
-named-as sender code name e f = rw (← e, f)
+pub named_as : (sender code : ℕ) (name : List ℕ) {given r : Bool} → given ≡ has_name sender code → r ≡ cond given (is_command_name name) (is_empty name) → name_fits sender code name ≡ r
+unfolding name_fits
+named_as sender code name e f = rw (← e, f)
 
-pub addressed-as : (sender code : ℕ) (address : List ℕ) {given r : Bool} → given ≡ hasAddress sender code → r ≡ cond given (isRoute address) (is_empty address) → addressFits sender code address ≡ r
-unfolding addressFits
-addressed-as sender code address e f = rw (← e, f)
+pub addressed_as : (sender code : ℕ) (address : List ℕ) {given r : Bool} → given ≡ has_address sender code → r ≡ cond given (is_route address) (is_empty address) → address_fits sender code address ≡ r
+unfolding address_fits
+addressed_as sender code address e f = rw (← e, f)
 
 -- ---- 33, 30, 34, 35, 36, and then 31 and 11
 
 module _ (room : ℕ) (g : Given) where
   abbrev Tells : Written → Type 0
-  Tells r = r ≡ writtenAs (commandInto room g)
+  Tells r = r ≡ written_as (command_into room g)
 
-  pub check-unknown : isCommand g.sender g.code ≡ false → Tells (Refused CommandWrong)
-  unfolding commandInto
-  check-unknown e = rw e
+  pub check_unknown : is_command g.sender g.code ≡ false → Tells (Refused CommandWrong)
+  unfolding command_into
+  check_unknown e = rw e
 
-  module _ (known : isCommand g.sender g.code ≡ true) where
-    pub check-malformed : cutParts g.body ≡ refused CommandPartWrong → Tells (Refused CommandPartWrong)
-    unfolding commandInto
-    check-malformed e = rw (known, e)
+  module _ (known : is_command g.sender g.code ≡ true) where
+    pub check_malformed : cut_parts g.body ≡ refused CommandPartWrong → Tells (Refused CommandPartWrong)
+    unfolding command_into
+    check_malformed e = rw (known, e)
 
     module _ {n : ℕ} (c : CutInto g.body n) where
       abbrev command : Command
-      command = commandOf g c.parts
+      command = command_of g c.parts
 
       -- what is left of the order
-      behind : commandInto room g ≡ and_then (commandWritten command) (λ bytes. refuseIf (ltb room (length bytes)) OutputShort (answered bytes))
-      unfolding commandInto
+      behind : command_into room g ≡ and_then (command_written command) (λ bytes. refuse_if (ltb room (length bytes)) OutputShort (answered bytes))
+      unfolding command_into
       behind = rw (known, c.cuts)
 
-      pub check-count : bodyFits g.sender g.code n ≡ false → Tells (Refused PartCountWrong)
-      unfolding commandWritten
-      check-count e = let none : bodyFits g.sender g.code (length c.parts) ≡ false = rw c.counted at e in rw (behind, none)
+      pub check_count : body_fits g.sender g.code n ≡ false → Tells (Refused PartCountWrong)
+      unfolding command_written
+      check_count e = let none : body_fits g.sender g.code (length c.parts) ≡ false = rw c.counted at e in rw (behind, none)
 
-      module _ (fit : bodyFits g.sender g.code n ≡ true) where
-        fits : bodyFits g.sender g.code (length c.parts) ≡ true
+      module _ (fit : body_fits g.sender g.code n ≡ true) where
+        fits : body_fits g.sender g.code (length c.parts) ≡ true
         fits = rw c.counted at fit
 
-        pub check-name : nameFits g.sender g.code g.name ≡ false → Tells (Refused NameWrong)
-        unfolding commandWritten
-        check-name e = rw (behind, fits, e)
+        pub check_name : name_fits g.sender g.code g.name ≡ false → Tells (Refused NameWrong)
+        unfolding command_written
+        check_name e = rw (behind, fits, e)
 
-        module _ (named : nameFits g.sender g.code g.name ≡ true) where
-          pub check-address : addressFits g.sender g.code g.address ≡ false → Tells (Refused AddressWrong)
-          unfolding commandWritten
-          check-address e = rw (behind, fits, named, e)
+        module _ (named : name_fits g.sender g.code g.name ≡ true) where
+          pub check_address : address_fits g.sender g.code g.address ≡ false → Tells (Refused AddressWrong)
+          unfolding command_written
+          check_address e = rw (behind, fits, named, e)
 
-          module _ (addressed : addressFits g.sender g.code g.address ≡ true) (bytes : Bytes g.body) where
-            long : length (commandBytes command) ≡ frontLength (hasName g.sender g.code) (hasAddress g.sender g.code) (length g.name) + length g.body
+          module _ (addressed : address_fits g.sender g.code g.address ≡ true) (bytes : Bytes g.body) where
+            long : length (command_bytes command) ≡ front_length (has_name g.sender g.code) (has_address g.sender g.code) (length g.name) + length g.body
             long =
-                let front = front_long command (kind-of g.sender g.code known) addressed in
-                let body = ap length (cut-split g.body c.parts bytes c.cuts).same in
+                let front = front_long command (kind_of g.sender g.code known) addressed in
+                let body = ap length (cut_split g.body c.parts bytes c.cuts).same in
                 bytes-length command ∙ omega (arith, front, body)
 
-            by_length : {m : ℕ} → length (commandBytes command) ≡ m → measuredAs room m ≡ writtenAs (commandInto room g)
-            unfolding commandWritten
-            by_length e = rw (behind, fits, named, addressed, ← e) (measured-as room (commandBytes command))
+            by_length : {m : ℕ} → length (command_bytes command) ≡ m → measured_as room m ≡ written_as (command_into room g)
+            unfolding command_written
+            by_length e = rw (behind, fits, named, addressed, ← e) (measured_as_lem room (command_bytes command))
 
-            pub check-measured : {front : ℕ} {r : Written} → front ≡ frontLength (hasName g.sender g.code) (hasAddress g.sender g.code) (length g.name) → r ≡ measuredAs room (front + length g.body) → Tells r
-            check-measured e m = m ∙ by_length (long ∙ ap (λ (k : ℕ). k + length g.body) (sym e))
+            pub check_measured : {front : ℕ} {r : Written} → front ≡ front_length (has_name g.sender g.code) (has_address g.sender g.code) (length g.name) → r ≡ measured_as room (front + length g.body) → Tells r
+            check_measured e m = m ∙ by_length (long ∙ ap (λ (k : ℕ). k + length g.body) (sym e))

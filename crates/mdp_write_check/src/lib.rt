@@ -1,13 +1,12 @@
 // What the writer of commands refuses, in the paper's order, before it writes anything.
 ghost use Rattle.std.specs.Prelude.{◌≡◌, cond, ◌+◌, ◌≤◌};
-ghost use Rattle.bytes_number.specs.Lent.{was};
-ghost use Rattle.frame_forms.specs.Forms.{isRoute};
+ghost use Rattle.frame_forms.specs.Forms.{is_route};
 ghost use Rattle.frame_message.specs.Writing.{is_empty};
-ghost use Rattle.frame_message.specs.Working.{writtenAs};
-ghost use Rattle.mdp_command.specs.Command.{isCommandName};
-ghost use Rattle.mdp_command.specs.CommandBytes.{cutParts};
-ghost use Rattle.mdp_command.specs.CommandWriting.{given_of, commandInto};
-ghost use Rattle.mdp_write_check.specs.WorkingChecks.{cutAs, frontLength, measuredAs};
+ghost use Rattle.frame_message.specs.Working.{written_as};
+ghost use Rattle.mdp_command.specs.Command.{is_command_name};
+ghost use Rattle.mdp_command.specs.CommandBytes.{cut_parts};
+ghost use Rattle.mdp_command.specs.CommandWriting.{given_of, command_into};
+ghost use Rattle.mdp_write_check.specs.WorkingChecks.{cut_as, front_length, measured_as};
 
 use frame_message::Written;
 use frame_parts::{Counting, count_parts};
@@ -30,7 +29,7 @@ pub struct Cut {
 
 // The body's parts, counted. There may be as many as bytes, so that only a part's size can stop the counting.
 fn cut_body(body: &[u8]) -> Cut
-    ensures { result ≡ cutAs (cutParts (was body)) }
+    ensures { result ≡ cut_as (cut_parts body.now) }
 {
     match count_parts(body, body.len()) {
         Counting::Refused(_, _) => Cut {
@@ -46,7 +45,7 @@ fn cut_body(body: &[u8]) -> Cut
 
 // 35: a name where the command has one, and none where it has not.
 fn name_fits(given: bool, name: &[u8]) -> bool
-    ensures { result ≡ cond given (isCommandName (was name)) (is_empty (was name)) }
+    ensures { result ≡ cond given (is_command_name name.now) (is_empty name.now) }
 {
     if given {
         mdp_name::is_name(name)
@@ -57,7 +56,7 @@ fn name_fits(given: bool, name: &[u8]) -> bool
 
 // 36: an address where the command has one, and none where it has not.
 fn address_fits(given: bool, address: &[u8]) -> bool
-    ensures { result ≡ cond given (isRoute (was address)) (is_empty (was address)) }
+    ensures { result ≡ cond given (is_route address.now) (is_empty address.now) }
 {
     if given {
         frame_forms::is_route(address)
@@ -69,7 +68,7 @@ fn address_fits(given: bool, address: &[u8]) -> bool
 // How many bytes stand in front of the body, with a name of n bytes where the command has one.
 fn front_length(carried: Carried, n: usize) -> usize
     requires { n ≤ 255 }
-    ensures { result ≡ frontLength carried.name carried.address n }
+    ensures { result ≡ front_length carried.name carried.address n }
 {
     if carried.name {
         if n < frame_part_size::LONG {
@@ -83,7 +82,7 @@ fn front_length(carried: Carried, n: usize) -> usize
 // 31 and 11, by the bytes in front of the body and the body's. A body above 32,768 bytes is not added up.
 fn measure(front: usize, body: usize, room: usize) -> Written
     requires { front ≤ 269 }
-    ensures { result ≡ measuredAs room (front + body) }
+    ensures { result ≡ measured_as room (front + body) }
 {
     if MOST_BYTES < body {
         return Written::Refused(Refusal::CommandLong);
@@ -108,7 +107,7 @@ pub fn check_command(
     body: &[u8],
     room: usize,
 ) -> Written
-    ensures { result ≡ writtenAs (commandInto room (given_of sender code (was name) (was address) (was body))) }
+    ensures { result ≡ written_as (command_into room (given_of sender code name.now address.now body.now)) }
 {
     let known = mdp_rules::is_command(sender, code);
     let cut = cut_body(body);

@@ -3,12 +3,12 @@ use mathlib.Core.Path.{◌≡◌, refl}
 use mathlib.Core.Bool.{Bool, true, false}
 use Prim.Native.Nat.{◌<◌, ◌≤◌}
 use native.Mathlib.Omega.{arith}
-use Rattle.bytes_number.proofs.Truth.{true-false}
+use Rattle.bytes_number.proofs.Truth.{true_false}
 use Rattle.refusal.specs.declared.Refusal.{Refusal}
 use Rattle.refusal.specs.declared.Refusal.TheVariants.{InputShort, StartWrong, BodyLong, PartWrong, PartsMany, HeaderWrong, PartsDisagree, RouteWrong, TopicWrong, FieldWrong, OutputShort, ForwardLong, TreeWrong, ServicesWrong, IdentitiesWrong, RankWrong, NotRouted, NoNeighbour, MagicWrong, VersionWrong, TypeWrong, FlagWrong, JsonDeep}
 use Rattle.refusal.specs.declared.Refusal.TheVariants.{CommandPartWrong, CommandLong, MarkWrong, CommandWrong, PartCountWrong, NameWrong, AddressWrong, SeparatorWrong}
 use Rattle.refusal.specs.Refusals.{number_of}
-use Rattle.refusal.specs.Answer.{Answer, refused, answered, refuseIf, and_then}
+use Rattle.refusal.specs.Answer.{Answer, refused, answered, refuse_if, and_then}
 
 -- ---- refusals
 
@@ -51,27 +51,27 @@ some_number r e = omega (arith, (number-range r).0)
 
 -- ---- answers
 
-pub answered-same : {A : Type 0} {x y : A} → answered x ≡ answered y → x ≡ y
-answered-same e = cc
+pub answered_same : {A : Type 0} {x y : A} → answered x ≡ answered y → x ≡ y
+answered_same e = cc
 
-pub refused-same : {A : Type 0} {r s : Refusal} → ◌≡◌ {A = Answer A} (refused r) (refused s) → r ≡ s
-refused-same e = cc
+pub refused_same : {A : Type 0} {r s : Refusal} → ◌≡◌ {A = Answer A} (refused r) (refused s) → r ≡ s
+refused_same e = cc
 
-pub not-answered : {A : Type 0} {r : Refusal} {x : A} → refused r ≡ answered x → ⊥
-not-answered e = let z : true ≡ false = cc in true-false z
+pub not_answered : {A : Type 0} {r : Refusal} {x : A} → refused r ≡ answered x → ⊥
+not_answered e = let z : true ≡ false = cc in true_false z
 
 -- a test that did not refuse failed, and the answer is that of what comes next
 pub record Passed {A : Type 0} (t : Bool) (next : Answer A) (x : A) : Type 0 where
   pub test : t ≡ false
   pub rest : next ≡ answered x
 
-pub passed : {A : Type 0} (t : Bool) (r : Refusal) (next : Answer A) (x : A) → refuseIf t r next ≡ answered x → Passed t next x
-passed true r next x e = absurd (not-answered e)
+pub passed : {A : Type 0} (t : Bool) (r : Refusal) (next : Answer A) (x : A) → refuse_if t r next ≡ answered x → Passed t next x
+passed true r next x e = absurd (not_answered e)
 passed false r next x e = record { test = refl; rest = e }
 
 -- the other way
-pub pass : {A : Type 0} (t : Bool) (r : Refusal) (next : Answer A) → t ≡ false → refuseIf t r next ≡ next
-pass true r next e = absurd (true-false e)
+pub pass : {A : Type 0} (t : Bool) (r : Refusal) (next : Answer A) → t ≡ false → refuse_if t r next ≡ next
+pass true r next e = absurd (true_false e)
 pass false r next e = refl
 
 -- a refusal is that of the test, which then holds, or comes of what is next
@@ -79,8 +79,8 @@ pub data Refuses {A : Type 0} (t : Bool) (q : Refusal) (next : Answer A) (r : Re
   here : t ≡ true → q ≡ r → Refuses t q next r
   later : t ≡ false → next ≡ refused r → Refuses t q next r
 
-pub refuses : {A : Type 0} (t : Bool) (q : Refusal) (next : Answer A) (r : Refusal) → refuseIf t q next ≡ refused r → Refuses t q next r
-refuses true q next r e = here refl (refused-same e)
+pub refuses : {A : Type 0} (t : Bool) (q : Refusal) (next : Answer A) (r : Refusal) → refuse_if t q next ≡ refused r → Refuses t q next r
+refuses true q next r e = here refl (refused_same e)
 refuses false q next r e = later refl e
 
 -- where an answer came of two, each gave one
@@ -90,5 +90,5 @@ pub record Both {A B : Type 0} (a : Answer A) (f : A → Answer B) (y : B) : Typ
   pub second : f value ≡ answered y
 
 pub both : {A B : Type 0} (a : Answer A) (f : A → Answer B) (y : B) → and_then a f ≡ answered y → Both a f y
-both (refused r) f y e = absurd (not-answered e)
+both (refused r) f y e = absurd (not_answered e)
 both (answered x) f y e = record { value = x; first = refl; second = e }

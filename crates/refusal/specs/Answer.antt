@@ -8,9 +8,9 @@ pub data Answer (A : Type 0) : Type 0 where
   answered : A → Answer A
 
 -- the refusal where the test holds; else what comes next in the paper's order
-abbrev pub refuseIf : {A : Type 0} → Bool → Refusal → Answer A → Answer A
-refuseIf true r next = refused r
-refuseIf false r next = next
+abbrev pub refuse_if : {A : Type 0} → Bool → Refusal → Answer A → Answer A
+refuse_if true r next = refused r
+refuse_if false r next = next
 
 -- what is done with an answer; a refusal stays
 abbrev pub and_then : {A B : Type 0} → Answer A → (A → Answer B) → Answer B
@@ -18,6 +18,6 @@ and_then (refused r) f = refused r
 and_then (answered a) f = f a
 
 -- what is left in a lent output: the bytes of the answer over its front, "and bytes behind them stay"; a refusal "writes nothing"
-abbrev pub writtenOver : Answer (List ℕ) → List ℕ → List ℕ
-writtenOver (refused r) out = out
-writtenOver (answered xs) out = laid xs out
+abbrev pub written_over : Answer (List ℕ) → List ℕ → List ℕ
+written_over (refused r) out = out
+written_over (answered xs) out = laid xs out

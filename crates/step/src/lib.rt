@@ -1,5 +1,4 @@
 // The whole step of a broker on a buffer: its tables are checked, and then the message is passed.
-ghost use Rattle.bytes_number.specs.Lent.{was};
 ghost use Rattle.step_routing.specs.Routed.{tables_of};
 ghost use Rattle.step_pass.specs.Step.{step_of};
 ghost use Rattle.step_pass.specs.Working.{Makes};
@@ -15,7 +14,7 @@ pub fn step(
     b: Broker,
     buffer: &mut [u8],
 ) -> Stepped
-    ensures { Makes (step_of (tables_of (was tree) (was services) (was identities)) b (was buffer)) (was buffer) result buffer.new }
+    ensures { Makes (step_of (tables_of tree.now services.now identities.now) b buffer.old) buffer.old result buffer.new }
 {
     if !table_tree_check::is_tree(tree) {
         return Stepped::Refused(Refusal::TreeWrong);

@@ -1,6 +1,5 @@
 // What a broker makes of a request in the buffer that holds it: the request with a route more, or an error reply. It goes by where the frame's parts
 // are said to lie and reads none of them, so any numbers may be given.
-ghost use Rattle.bytes_number.specs.Lent.{was};
 ghost use Rattle.step_apply.specs.WorkingApply.{AppliesForward, AppliesError};
 
 use frame_message::{FRONT, Header};
@@ -9,7 +8,7 @@ use step_routing::{Broker, Stepped};
 
 // Forwards a request with so many routes and a body of so many bytes: this broker's identity goes in front of the body.
 pub fn forward(buffer: &mut [u8], routes: usize, size: usize, identity: &[u8], next: u32) -> Stepped
-    ensures { AppliesForward routes size (was identity) next (was buffer) result buffer.new }
+    ensures { AppliesForward routes size identity.now next buffer.old result buffer.new }
 {
     if routes >= frame_message::MOST_ROUTES {
         return Stepped::Refused(Refusal::ForwardLong);
@@ -32,7 +31,7 @@ pub fn forward(buffer: &mut [u8], routes: usize, size: usize, identity: &[u8], n
 // Answers a request with an error, or is silent where it wants no response: the reply keeps so many bytes of the request's body, its routes and its
 // topic, and has a header of its own behind them.
 pub fn fail(buffer: &mut [u8], kept: usize, b: Broker, errnum: u32, header: Header) -> Stepped
-    ensures { AppliesError b errnum header kept (was buffer) result buffer.new }
+    ensures { AppliesError b errnum header kept buffer.old result buffer.new }
 {
     if frame_flags::no_response(header.flags) {
         return Stepped::Silenced(errnum);

@@ -7,39 +7,39 @@ use Rattle.frame_message.specs.Reading.{reading_of}
 use Rattle.frame_layout.specs.declared.Layout.{Layout}
 use Rattle.frame_layout.specs.Layout.{layout_of}
 use Rattle.step_routing.specs.declared.Broker.{Broker}
-use Rattle.step_routing.specs.Requests.{requestWay}
-use Rattle.step_routing.specs.Responses.{responseWay}
+use Rattle.step_routing.specs.Requests.{request_way}
+use Rattle.step_routing.specs.Responses.{response_way}
 use Rattle.step_routing.specs.Routed.{Tables, Outcome, requested, responded}
-use Rattle.step_pass.specs.Step.{room_for, leftBy, toldAs}
+use Rattle.step_pass.specs.Step.{room_for, left_by, told_as}
 use Rattle.step_routing.specs.declared.Stepped.{Stepped}
 
 -- the message of bytes that are known to hold one
-abbrev pub messageOrNone : Answer Message → Message
-messageOrNone (refused r) = record { header = record { kind = 0; flags = 0; userid = 0; rolemask = 0; first = 0; second = 0 }; routes = []; topic = []; payload = [] }
-messageOrNone (answered m) = m
+abbrev pub message_or_none : Answer Message → Message
+message_or_none (refused r) = record { header = record { kind = 0; flags = 0; userid = 0; rolemask = 0; first = 0; second = 0 }; routes = []; topic = []; payload = [] }
+message_or_none (answered m) = m
 
-unfoldable pub heldIn : List ℕ → Message
-heldIn buffer = messageOrNone (reading_of buffer)
+unfoldable pub held_in : List ℕ → Message
+held_in buffer = message_or_none (reading_of buffer)
 
 -- they hold one of this type, and f says where it lies
 pub record Lies (buffer : List ℕ) (f : Layout) (kind : ℕ) : Type 0 where
   pub bytes : Bytes buffer
-  pub read : reading_of buffer ≡ answered (heldIn buffer)
-  pub places : f ≡ layout_of (heldIn buffer)
-  pub type : (heldIn buffer).header.kind ≡ kind
+  pub read : reading_of buffer ≡ answered (held_in buffer)
+  pub places : f ≡ layout_of (held_in buffer)
+  pub type : (held_in buffer).header.kind ≡ kind
 
 -- what comes of the request, and of the response, that a buffer holds
-abbrev pub requestOutcome : Tables → Broker → List ℕ → Answer Outcome
-requestOutcome t b buffer =
-    let m = heldIn buffer in
-    and_then (requested t b m (requestWay t.tree t.services b.rank m.header m.topic)) (room_for (length buffer))
+abbrev pub request_outcome : Tables → Broker → List ℕ → Answer Outcome
+request_outcome t b buffer =
+    let m = held_in buffer in
+    and_then (requested t b m (request_way t.tree t.services b.rank m.header m.topic)) (room_for (length buffer))
 
-abbrev pub responseOutcome : List ℕ → List ℕ → ℕ → List ℕ → Answer Outcome
-responseOutcome tree identities rank buffer =
-    let m = heldIn buffer in
-    and_then (responded m (responseWay tree identities rank m.routes)) (room_for (length buffer))
+abbrev pub response_outcome : List ℕ → List ℕ → ℕ → List ℕ → Answer Outcome
+response_outcome tree identities rank buffer =
+    let m = held_in buffer in
+    and_then (responded m (response_way tree identities rank m.routes)) (room_for (length buffer))
 
 -- a step that ends with this answer says r, and leaves its buffer so
 pub record Makes (answer : Answer Outcome) (buffer : List ℕ) (r : Stepped) (left : List ℕ) : Type 0 where
-  pub told : r ≡ toldAs answer
-  pub leaves : left ≡ leftBy answer buffer
+  pub told : r ≡ told_as answer
+  pub leaves : left ≡ left_by answer buffer

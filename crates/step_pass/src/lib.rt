@@ -1,8 +1,7 @@
 // One broker's step behind the checks of its tables: what it does with the frame at the front of a buffer. It works in place and allocates nothing.
-ghost use Rattle.bytes_number.specs.Lent.{was};
 ghost use Rattle.step_routing.specs.Routed.{tables_of};
-ghost use Rattle.step_pass.specs.Step.{passOf};
-ghost use Rattle.step_pass.specs.Working.{Makes, Lies, requestOutcome, responseOutcome};
+ghost use Rattle.step_pass.specs.Step.{pass_of};
+ghost use Rattle.step_pass.specs.Working.{Makes, Lies, request_outcome, response_outcome};
 
 use frame_layout::{Layout, Reading};
 use frame_message::{FRONT, REQUEST, RESPONSE};
@@ -19,7 +18,7 @@ fn request(
     buffer: &mut [u8],
 ) -> Stepped
     requires { Lies buffer.old f 1 }
-    ensures { Makes (requestOutcome (tables_of (was tree) (was services) (was identities)) b (was buffer)) (was buffer) result buffer.new }
+    ensures { Makes (request_outcome (tables_of tree.now services.now identities.now) b buffer.old) buffer.old result buffer.new }
 {
     let topic = f.topic;
     let start = topic.start;
@@ -42,7 +41,7 @@ fn request(
 // A response: home, or forwarded without its top route.
 fn response(tree: &[u8], identities: &[u8], rank: u32, f: Layout, buffer: &mut [u8]) -> Stepped
     requires { Lies buffer.old f 2 }
-    ensures { Makes (responseOutcome (was tree) (was identities) rank (was buffer)) (was buffer) result buffer.new }
+    ensures { Makes (response_outcome tree.now identities.now rank buffer.old) buffer.old result buffer.new }
 {
     if f.routes == 0 {
         return Stepped::Home;
@@ -68,7 +67,7 @@ pub fn pass(
     b: Broker,
     buffer: &mut [u8],
 ) -> Stepped
-    ensures { Makes (passOf (tables_of (was tree) (was services) (was identities)) b (was buffer)) (was buffer) result buffer.new }
+    ensures { Makes (pass_of (tables_of tree.now services.now identities.now) b buffer.old) buffer.old result buffer.new }
 {
     if b.rank as usize >= table_tree::ranks_in(tree) {
         return Stepped::Refused(Refusal::RankWrong);

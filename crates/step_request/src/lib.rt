@@ -1,7 +1,6 @@
 // Where a broker sends a request. Nothing here looks at a frame, and every table may hold any bytes.
 ghost use Rattle.std.specs.Prelude.{false, ◌≡◌};
-ghost use Rattle.bytes_number.specs.Lent.{was};
-ghost use Rattle.step_routing.specs.Requests.{deliverOr, toParent, upwards, toRank, requestWay};
+ghost use Rattle.step_routing.specs.Requests.{deliver_or, to_parent, upwards, to_rank, request_way};
 
 use frame_message::Header;
 use step_routing::Way;
@@ -16,7 +15,7 @@ const HOST_UNREACHABLE: u32 = 113;
 
 // Delivered with the record that was found, else what else is to be done.
 fn deliver_or(found: Found, other: Way) -> Way
-    ensures { result ≡ deliverOr found other }
+    ensures { result ≡ deliver_or found other }
 {
     match found {
         Found::At(number) => Way::Deliver(number),
@@ -26,7 +25,7 @@ fn deliver_or(found: Found, other: Way) -> Way
 
 // To the parent, and an error at rank 0.
 fn to_parent(tree: &[u8], rank: u32) -> Way
-    ensures { result ≡ toParent (was tree) rank }
+    ensures { result ≡ to_parent tree.now rank }
 {
     if rank == 0 {
         return Way::Fail(NO_SERVICE);
@@ -36,7 +35,7 @@ fn to_parent(tree: &[u8], rank: u32) -> Way
 
 // Delivered where this rank registers the service, else to the parent.
 fn upwards(tree: &[u8], services: &[u8], rank: u32, topic: &[u8]) -> Way
-    ensures { result ≡ upwards (was tree) (was services) rank (was topic) false }
+    ensures { result ≡ upwards tree.now services.now rank topic.now false }
 {
     deliver_or(
         table_services_find::find_service(services, rank, table_services_find::service_of(topic)),
@@ -46,7 +45,7 @@ fn upwards(tree: &[u8], services: &[u8], rank: u32, topic: &[u8]) -> Way
 
 // To the rank that is named: delivered there or an error; else to the next broker on the way.
 fn to_rank(tree: &[u8], services: &[u8], rank: u32, nodeid: u32, topic: &[u8]) -> Way
-    ensures { result ≡ toRank (was tree) (was services) rank nodeid (was topic) }
+    ensures { result ≡ to_rank tree.now services.now rank nodeid topic.now }
 {
     if nodeid as usize >= table_tree::ranks_in(tree) {
         return Way::Fail(HOST_UNREACHABLE);
@@ -64,7 +63,7 @@ fn to_rank(tree: &[u8], services: &[u8], rank: u32, nodeid: u32, topic: &[u8]) -
 
 // Where the broker of a rank sends a request with this header and topic.
 pub fn request_way(tree: &[u8], services: &[u8], rank: u32, header: Header, topic: &[u8]) -> Way
-    ensures { result ≡ requestWay (was tree) (was services) rank header (was topic) }
+    ensures { result ≡ request_way tree.now services.now rank header topic.now }
 {
     if header.first == ANY_RANK {
         return upwards(tree, services, rank, topic);

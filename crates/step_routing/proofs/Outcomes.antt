@@ -9,133 +9,133 @@ use Rattle.bytes_number.proofs.Truth.{outcome}
 use Rattle.refusal.specs.declared.Refusal.{Refusal}
 use Rattle.refusal.specs.declared.Refusal.TheVariants.{ForwardLong, NotRouted, NoNeighbour}
 use Rattle.refusal.specs.Answer.{Answer, refused, answered}
-use Rattle.frame_message.specs.Header.{noResponse}
+use Rattle.frame_message.specs.Header.{no_response}
 use Rattle.frame_message.specs.Message.{Message}
-use Rattle.table_identities.specs.Identities.{identityAt}
+use Rattle.table_identities.specs.Identities.{identity_at}
 use Rattle.step_routing.specs.declared.Broker.{Broker}
 use Rattle.step_routing.specs.declared.Way.{Way}
 use Rattle.step_routing.specs.declared.Way.TheVariants.{Deliver, Forward, Fail}
 use Rattle.step_routing.specs.declared.Back.{Back}
 use Rattle.step_routing.specs.declared.Back.TheVariants.{Home, To, Stray}
-use Rattle.step_routing.specs.Requests.{requestWay}
-use Rattle.step_routing.specs.Responses.{responseWay}
-use Rattle.step_routing.specs.Messages.{pushed, popped, errorReply, tooLarge}
-use Rattle.step_routing.specs.Routed.{Tables, Outcome, delivered, forwarded, replied, silenced, home, failed, forwardedIf, requested, responded, routed}
+use Rattle.step_routing.specs.Requests.{request_way}
+use Rattle.step_routing.specs.Responses.{response_way}
+use Rattle.step_routing.specs.Messages.{pushed, popped, error_reply, too_large}
+use Rattle.step_routing.specs.Routed.{Tables, Outcome, delivered, forwarded, replied, silenced, home, failed, forwarded_if, requested, responded, routed}
 
 -- ---- a step by the message's type
 
 -- the ways of a request and of a response
 abbrev pub way_of : Tables → Broker → Message → Way
-way_of t b m = requestWay t.tree t.services b.rank m.header m.topic
+way_of t b m = request_way t.tree t.services b.rank m.header m.topic
 
-abbrev pub backOf : Tables → Broker → Message → Back
-backOf t b m = responseWay t.tree t.identities b.rank m.routes
+abbrev pub back_of : Tables → Broker → Message → Back
+back_of t b m = response_way t.tree t.identities b.rank m.routes
 
 module _ (t : Tables) (b : Broker) (m : Message) where
-  pub routed-request : m.header.kind ≡ 1 → routed t b m ≡ requested t b m (way_of t b m)
+  pub routed_request : m.header.kind ≡ 1 → routed t b m ≡ requested t b m (way_of t b m)
   unfolding routed
-  routed-request e = rw (eq-eqb m.header.kind 1 e)
+  routed_request e = rw (eq-eqb m.header.kind 1 e)
 
-  pub routed-response : m.header.kind ≡ 2 → routed t b m ≡ responded m (backOf t b m)
+  pub routed_response : m.header.kind ≡ 2 → routed t b m ≡ responded m (back_of t b m)
   unfolding routed
-  routed-response e = rw (ne_eqb m.header.kind 1 (λ o. omega arith), eq-eqb m.header.kind 2 e)
+  routed_response e = rw (ne_eqb m.header.kind 1 (λ o. omega arith), eq-eqb m.header.kind 2 e)
 
-  pub routed-neither : (m.header.kind ≡ 1 → ⊥) → (m.header.kind ≡ 2 → ⊥) → routed t b m ≡ refused NotRouted
+  pub routed_neither : (m.header.kind ≡ 1 → ⊥) → (m.header.kind ≡ 2 → ⊥) → routed t b m ≡ refused NotRouted
   unfolding routed
-  routed-neither n k = rw (ne_eqb m.header.kind 1 n, ne_eqb m.header.kind 2 k)
+  routed_neither n k = rw (ne_eqb m.header.kind 1 n, ne_eqb m.header.kind 2 k)
 
 -- ---- the outcomes of a request
 
 -- an error that is due, by whether noresponse is set
 module _ (b : Broker) (errnum : ℕ) (m : Message) where
-  pub failed-loud : noResponse m.header.flags ≡ false → failed b errnum m ≡ replied errnum (errorReply b.userid b.rolemask errnum m)
-  failed-loud e = rw e
+  pub failed_loud : no_response m.header.flags ≡ false → failed b errnum m ≡ replied errnum (error_reply b.userid b.rolemask errnum m)
+  failed_loud e = rw e
 
-  pub failed-quiet : noResponse m.header.flags ≡ true → failed b errnum m ≡ silenced errnum
-  failed-quiet e = rw e
+  pub failed_quiet : no_response m.header.flags ≡ true → failed b errnum m ≡ silenced errnum
+  failed_quiet e = rw e
 
 -- 12, or forwarded
 module _ (next : ℕ) (m : Message) where
-  pub forward-fits : tooLarge m ≡ false → forwardedIf next m ≡ answered (forwarded next m)
-  forward-fits e = rw e
+  pub forward_fits : too_large m ≡ false → forwarded_if next m ≡ answered (forwarded next m)
+  forward_fits e = rw e
 
-  pub forward-large : tooLarge m ≡ true → forwardedIf next m ≡ refused ForwardLong
-  forward-large e = rw e
+  pub forward_large : too_large m ≡ true → forwarded_if next m ≡ refused ForwardLong
+  forward_large e = rw e
 
 -- what comes of a way, with the tests that it met
 pub data Came (t : Tables) (b : Broker) (m : Message) (way : Way) (a : Answer Outcome) : Type 0 where
   delivers : (number : ℕ) → way ≡ Deliver number → a ≡ answered (delivered number) → Came t b m way a
-  forwards : (next : ℕ) → way ≡ Forward next → tooLarge (pushed (identityAt t.identities b.rank) m) ≡ false → a ≡ answered (forwarded next (pushed (identityAt t.identities b.rank) m)) → Came t b m way a
-  refuses : (next : ℕ) → way ≡ Forward next → tooLarge (pushed (identityAt t.identities b.rank) m) ≡ true → a ≡ refused ForwardLong → Came t b m way a
-  replies : (errnum : ℕ) → way ≡ Fail errnum → noResponse m.header.flags ≡ false → a ≡ answered (replied errnum (errorReply b.userid b.rolemask errnum m)) → Came t b m way a
-  silences : (errnum : ℕ) → way ≡ Fail errnum → noResponse m.header.flags ≡ true → a ≡ answered (silenced errnum) → Came t b m way a
+  forwards : (next : ℕ) → way ≡ Forward next → too_large (pushed (identity_at t.identities b.rank) m) ≡ false → a ≡ answered (forwarded next (pushed (identity_at t.identities b.rank) m)) → Came t b m way a
+  refuses : (next : ℕ) → way ≡ Forward next → too_large (pushed (identity_at t.identities b.rank) m) ≡ true → a ≡ refused ForwardLong → Came t b m way a
+  replies : (errnum : ℕ) → way ≡ Fail errnum → no_response m.header.flags ≡ false → a ≡ answered (replied errnum (error_reply b.userid b.rolemask errnum m)) → Came t b m way a
+  silences : (errnum : ℕ) → way ≡ Fail errnum → no_response m.header.flags ≡ true → a ≡ answered (silenced errnum) → Came t b m way a
 
 module _ (t : Tables) (b : Broker) (m : Message) where
   abbrev grown : Message
-  grown = pushed (identityAt t.identities b.rank) m
+  grown = pushed (identity_at t.identities b.rank) m
 
   pub came : (way : Way) → Came t b m way (requested t b m way)
   came (Deliver number) = delivers number refl refl
   came (Forward next) =
       ⊎_elim
-      (λ large. refuses next refl large (forward-large next grown large))
-      (λ fits. forwards next refl fits (forward-fits next grown fits))
-      (outcome (tooLarge grown))
+      (λ large. refuses next refl large (forward_large next grown large))
+      (λ fits. forwards next refl fits (forward_fits next grown fits))
+      (outcome (too_large grown))
   came (Fail errnum) =
       ⊎_elim
       (λ quiet. silences errnum refl quiet (rw quiet))
       (λ loud. replies errnum refl loud (rw loud))
-      (outcome (noResponse m.header.flags))
+      (outcome (no_response m.header.flags))
 
 -- where two values that are never the same are equal, `cc` finds that 0 is 1
 pub clashing : {A : Type 0} → ◌≡◌ {A = ℕ} 0 1 → A
 clashing z = absurd (omega arith)
 
 module _ {t : Tables} {b : Broker} {m : Message} {way : Way} {a : Answer Outcome} where
-  pub delivered-is : Came t b m way a → (number : ℕ) → a ≡ answered (delivered number) → way ≡ Deliver number
-  delivered-is (delivers n w q) number e =
+  pub delivered_is : Came t b m way a → (number : ℕ) → a ≡ answered (delivered number) → way ≡ Deliver number
+  delivered_is (delivers n w q) number e =
       let same : n ≡ number = cc in
       w ∙ ap Deliver same
-  delivered-is (forwards next w f q) number e = clashing cc
-  delivered-is (refuses next w f q) number e = clashing cc
-  delivered-is (replies n w f q) number e = clashing cc
-  delivered-is (silences n w f q) number e = clashing cc
+  delivered_is (forwards next w f q) number e = clashing cc
+  delivered_is (refuses next w f q) number e = clashing cc
+  delivered_is (replies n w f q) number e = clashing cc
+  delivered_is (silences n w f q) number e = clashing cc
 
-  pub forwarded-is : Came t b m way a → (next : ℕ) (new : Message) → a ≡ answered (forwarded next new)
-      → (way ≡ Forward next) × (tooLarge (pushed (identityAt t.identities b.rank) m) ≡ false) × (new ≡ pushed (identityAt t.identities b.rank) m)
-  forwarded-is (delivers n w q) next new e = clashing cc
-  forwarded-is (forwards n w f q) next new e =
+  pub forwarded_is : Came t b m way a → (next : ℕ) (new : Message) → a ≡ answered (forwarded next new)
+      → (way ≡ Forward next) × (too_large (pushed (identity_at t.identities b.rank) m) ≡ false) × (new ≡ pushed (identity_at t.identities b.rank) m)
+  forwarded_is (delivers n w q) next new e = clashing cc
+  forwarded_is (forwards n w f q) next new e =
       let same : n ≡ next = cc in
       (w ∙ ap Forward same, f, cc)
-  forwarded-is (refuses n w f q) next new e = clashing cc
-  forwarded-is (replies n w f q) next new e = clashing cc
-  forwarded-is (silences n w f q) next new e = clashing cc
+  forwarded_is (refuses n w f q) next new e = clashing cc
+  forwarded_is (replies n w f q) next new e = clashing cc
+  forwarded_is (silences n w f q) next new e = clashing cc
 
-  pub refused-is : Came t b m way a → (r : Refusal) → a ≡ refused r
-      → ((next : ℕ) × (way ≡ Forward next)) × (tooLarge (pushed (identityAt t.identities b.rank) m) ≡ true) × (r ≡ ForwardLong)
-  refused-is (delivers n w q) r e = clashing cc
-  refused-is (forwards n w f q) r e = clashing cc
-  refused-is (refuses n w f q) r e = ((n, w), f, cc)
-  refused-is (replies n w f q) r e = clashing cc
-  refused-is (silences n w f q) r e = clashing cc
+  pub refused_is : Came t b m way a → (r : Refusal) → a ≡ refused r
+      → ((next : ℕ) × (way ≡ Forward next)) × (too_large (pushed (identity_at t.identities b.rank) m) ≡ true) × (r ≡ ForwardLong)
+  refused_is (delivers n w q) r e = clashing cc
+  refused_is (forwards n w f q) r e = clashing cc
+  refused_is (refuses n w f q) r e = ((n, w), f, cc)
+  refused_is (replies n w f q) r e = clashing cc
+  refused_is (silences n w f q) r e = clashing cc
 
-  pub replied-is : Came t b m way a → (errnum : ℕ) (reply : Message) → a ≡ answered (replied errnum reply)
-      → (way ≡ Fail errnum) × (noResponse m.header.flags ≡ false) × (reply ≡ errorReply b.userid b.rolemask errnum m)
-  replied-is (delivers n w q) errnum reply e = clashing cc
-  replied-is (forwards n w f q) errnum reply e = clashing cc
-  replied-is (refuses n w f q) errnum reply e = clashing cc
-  replied-is (replies n w f q) errnum reply e =
+  pub replied_is : Came t b m way a → (errnum : ℕ) (reply : Message) → a ≡ answered (replied errnum reply)
+      → (way ≡ Fail errnum) × (no_response m.header.flags ≡ false) × (reply ≡ error_reply b.userid b.rolemask errnum m)
+  replied_is (delivers n w q) errnum reply e = clashing cc
+  replied_is (forwards n w f q) errnum reply e = clashing cc
+  replied_is (refuses n w f q) errnum reply e = clashing cc
+  replied_is (replies n w f q) errnum reply e =
       let same : n ≡ errnum = cc in
-      let made : reply ≡ errorReply b.userid b.rolemask n m = cc in
-      (w ∙ ap Fail same, f, made ∙ ap (λ (k : ℕ). errorReply b.userid b.rolemask k m) same)
-  replied-is (silences n w f q) errnum reply e = clashing cc
+      let made : reply ≡ error_reply b.userid b.rolemask n m = cc in
+      (w ∙ ap Fail same, f, made ∙ ap (λ (k : ℕ). error_reply b.userid b.rolemask k m) same)
+  replied_is (silences n w f q) errnum reply e = clashing cc
 
-  pub silenced-is : Came t b m way a → (errnum : ℕ) → a ≡ answered (silenced errnum) → (way ≡ Fail errnum) × (noResponse m.header.flags ≡ true)
-  silenced-is (delivers n w q) errnum e = clashing cc
-  silenced-is (forwards n w f q) errnum e = clashing cc
-  silenced-is (refuses n w f q) errnum e = clashing cc
-  silenced-is (replies n w f q) errnum e = clashing cc
-  silenced-is (silences n w f q) errnum e =
+  pub silenced_is : Came t b m way a → (errnum : ℕ) → a ≡ answered (silenced errnum) → (way ≡ Fail errnum) × (no_response m.header.flags ≡ true)
+  silenced_is (delivers n w q) errnum e = clashing cc
+  silenced_is (forwards n w f q) errnum e = clashing cc
+  silenced_is (refuses n w f q) errnum e = clashing cc
+  silenced_is (replies n w f q) errnum e = clashing cc
+  silenced_is (silences n w f q) errnum e =
       let same : n ≡ errnum = cc in
       (w ∙ ap Fail same, f)
 
@@ -149,10 +149,10 @@ module _ {t : Tables} {b : Broker} {m : Message} {way : Way} {a : Answer Outcome
 -- ---- the outcomes of a response
 
 module _ (m : Message) where
-  pub home-is : (way : Back) → responded m way ≡ answered home → way ≡ Home
-  home-is Home e = refl
-  home-is (To broker) e = clashing cc
-  home-is Stray e = clashing cc
+  pub home_is : (way : Back) → responded m way ≡ answered home → way ≡ Home
+  home_is Home e = refl
+  home_is (To broker) e = clashing cc
+  home_is Stray e = clashing cc
 
   pub sent_is : (way : Back) (next : ℕ) (new : Message) → responded m way ≡ answered (forwarded next new) → (way ≡ To next) × (new ≡ popped m)
   sent_is Home next new e = clashing cc
@@ -161,23 +161,23 @@ module _ (m : Message) where
       (ap To same, cc)
   sent_is Stray next new e = clashing cc
 
-  pub stray-is : (way : Back) (r : Refusal) → responded m way ≡ refused r → (way ≡ Stray) × (r ≡ NoNeighbour)
-  stray-is Home r e = clashing cc
-  stray-is (To broker) r e = clashing cc
-  stray-is Stray r e = (refl, cc)
+  pub stray_is : (way : Back) (r : Refusal) → responded m way ≡ refused r → (way ≡ Stray) × (r ≡ NoNeighbour)
+  stray_is Home r e = clashing cc
+  stray_is (To broker) r e = clashing cc
+  stray_is Stray r e = (refl, cc)
 
   -- a response is never delivered, and no error comes of it
-  pub not-delivered : (way : Back) (number : ℕ) → responded m way ≡ answered (delivered number) → ⊥
-  not-delivered Home number e = clashing cc
-  not-delivered (To broker) number e = clashing cc
-  not-delivered Stray number e = clashing cc
+  pub not_delivered : (way : Back) (number : ℕ) → responded m way ≡ answered (delivered number) → ⊥
+  not_delivered Home number e = clashing cc
+  not_delivered (To broker) number e = clashing cc
+  not_delivered Stray number e = clashing cc
 
-  pub not-replied : (way : Back) (errnum : ℕ) (reply : Message) → responded m way ≡ answered (replied errnum reply) → ⊥
-  not-replied Home errnum reply e = clashing cc
-  not-replied (To broker) errnum reply e = clashing cc
-  not-replied Stray errnum reply e = clashing cc
+  pub not_replied : (way : Back) (errnum : ℕ) (reply : Message) → responded m way ≡ answered (replied errnum reply) → ⊥
+  not_replied Home errnum reply e = clashing cc
+  not_replied (To broker) errnum reply e = clashing cc
+  not_replied Stray errnum reply e = clashing cc
 
-  pub not-silenced : (way : Back) (errnum : ℕ) → responded m way ≡ answered (silenced errnum) → ⊥
-  not-silenced Home errnum e = clashing cc
-  not-silenced (To broker) errnum e = clashing cc
-  not-silenced Stray errnum e = clashing cc
+  pub not_silenced : (way : Back) (errnum : ℕ) → responded m way ≡ answered (silenced errnum) → ⊥
+  not_silenced Home errnum e = clashing cc
+  not_silenced (To broker) errnum e = clashing cc
+  not_silenced Stray errnum e = clashing cc

@@ -1,6 +1,6 @@
 // What one broker's step is told by, and the header of its error reply. Nothing here looks at a frame.
 ghost use Rattle.std.specs.Prelude.{◌≡◌};
-ghost use Rattle.step_routing.specs.Messages.{replyHeader};
+ghost use Rattle.step_routing.specs.Messages.{reply_header};
 
 use frame_message::{Header, RESPONSE};
 use refusal::Refusal;
@@ -48,7 +48,7 @@ pub enum Stepped {
 
 // The header of the error reply to a request.
 pub fn reply_header(b: Broker, errnum: u32, request: Header) -> Header
-    ensures { result ≡ replyHeader b.userid b.rolemask errnum request }
+    ensures { result ≡ reply_header b.userid b.rolemask errnum request }
 {
     Header {
         kind: RESPONSE,

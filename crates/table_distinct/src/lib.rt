@@ -1,10 +1,9 @@
 // Whether two records of a table are equal, found by a hash: each record is compared with those of its own chain. Where a chain grows long, as in
 // no table but one that was made for it, the records are put in order instead.
 ghost use Rattle.std.specs.Prelude.{◌≡◌, ◌+◌, ◌*◌, ◌%◌, ◌<◌, ◌≤◌, length};
-ghost use Rattle.bytes_number.specs.Lent.{was};
-ghost use Rattle.table_records.specs.Records.{mostRecords};
+ghost use Rattle.table_records.specs.Records.{most_records};
 ghost use Rattle.table_records.specs.Working.{distinct, fresh};
-ghost use Rattle.table_distinct.specs.WorkingChains.{stirred, mixOf, hashOf, hashAt, lastBelow, ChainLinked};
+ghost use Rattle.table_distinct.specs.WorkingChains.{stirred, mix_of, hash_of, hash_at, last_below, ChainLinked};
 ghost use Rattle.table_distinct.specs.WorkingSeen.{Sees};
 
 use table_records::MOST_RECORDS;
@@ -22,7 +21,7 @@ fn stir_in(h: u32, a: u32, b: u32) -> u32
 // Takes eight bytes into a hash. The first byte is the lightest: as a machine has it that the library is made for, so that four bytes are one load.
 fn stir(h: u32, s: &[u8], at: usize) -> u32
     requires { at + 8 ≤ length s.now }
-    ensures { result ≡ stirred h (was s) at }
+    ensures { result ≡ stirred h s.now at }
 {
     let a = bytes_number::number_of(s[at + 3], s[at + 2], s[at + 1], s[at]);
     let b = bytes_number::number_of(s[at + 7], s[at + 6], s[at + 5], s[at + 4]);
@@ -32,7 +31,7 @@ fn stir(h: u32, s: &[u8], at: usize) -> u32
 // A number of 32 bits for bytes. Equal bytes have equal numbers, and that is all that is asked of it. The last eight bytes are taken in once more,
 // so that there is no rest to go through byte by byte. Fewer than eight bytes, of which no table has its records, are all taken for the same.
 fn mix(s: &[u8]) -> u32
-    ensures { result ≡ mixOf (was s) }
+    ensures { result ≡ mix_of s.now }
 {
     if s.len() < 8 {
         return 0;
@@ -49,7 +48,7 @@ fn mix(s: &[u8]) -> u32
 
 // The chain that bytes belong to. There are four times as many as records, so that most of them have one record or none.
 fn hash(s: &[u8]) -> usize
-    ensures { (result ≡ hashOf (was s)) × (result < 4096) }
+    ensures { (result ≡ hash_of s.now) × (result < 4096) }
 {
     (mix(s) as u64 * 1540483477 % 4294967296 / 1048576) as usize
 }
@@ -65,8 +64,8 @@ enum Seen {
 // Looks for record i among those before it. Only those of its own chain are compared: `start` is the last of them plus 1, next[j] the one before j
 // plus 1, and 0 ends the chain.
 fn look(table: &[u8], width: usize, next: &[u16; MOST_RECORDS], i: usize, start: usize) -> Seen
-    requires { (i < mostRecords) × ChainLinked (hashAt width table.now) next.now i × (start ≡ lastBelow (hashAt width table.now) i (hashAt width table.now i)) }
-    ensures { Sees (fresh width (was table) i) result }
+    requires { (i < most_records) × ChainLinked (hash_at width table.now) next.now i × (start ≡ last_below (hash_at width table.now) i (hash_at width table.now i)) }
+    ensures { Sees (fresh width table.now i) result }
 {
     let mut at = start;
     let mut left = LONGEST;
@@ -89,7 +88,7 @@ fn look(table: &[u8], width: usize, next: &[u16; MOST_RECORDS], i: usize, start:
 
 // Whether the table holds n records, at most 1,024 of them, no two of which are equal. head[h] is the last record of the chain h so far, plus 1.
 pub fn are_distinct(table: &[u8], width: u8, n: usize) -> bool
-    ensures { result ≡ distinct width (was table) n }
+    ensures { result ≡ distinct width table.now n }
 {
     let size = width as usize;
     if n > MOST_RECORDS {

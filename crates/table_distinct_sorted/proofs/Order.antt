@@ -11,9 +11,9 @@ use borrow.Author.Tests.{eqb-true, eqb-false, eq-eqb, ne_eqb, lt-ltb, ltb-true, 
 use lib.Dec.{eqb, ltb}
 use lib.ListN.{length, get_or, take, drop, set, length-set}
 use lib.Seq.{drop-cons, drop-length, get_or-set_same, get_or-set_other}
-use Rattle.bytes_number.proofs.Truth.{outcome, clash, true-false}
-use Rattle.table_records.specs.Bytes.{sameBytes}
-use Rattle.table_records.proofs.Bytes.{same_refl, same-equal}
+use Rattle.bytes_number.proofs.Truth.{outcome, clash, true_false}
+use Rattle.table_records.specs.Bytes.{same_bytes}
+use Rattle.table_records.proofs.Bytes.{same_refl, same_equal}
 use Rattle.table_records.specs.Below.{all_below}
 use Rattle.table_records.proofs.Below.{all_of}
 use Rattle.table_distinct_sorted.specs.WorkingOrder.{before, Ordered, Placed, Inserted}
@@ -25,87 +25,87 @@ unfolding before
 before_self [] = refl
 before_self (x ∷ xs) = rw (eq-eqb x x refl) (before_self xs)
 
-before-cons : (x y : ℕ) (xs ys : List ℕ) → before (x ∷ xs) (y ∷ ys) ≡ cond (eqb x y) (before xs ys) (ltb x y)
+before_cons : (x y : ℕ) (xs ys : List ℕ) → before (x ∷ xs) (y ∷ ys) ≡ cond (eqb x y) (before xs ys) (ltb x y)
 unfolding before
-before-cons x y xs ys = refl
+before_cons x y xs ys = refl
 
-before-equal : (x y : ℕ) (xs ys : List ℕ) → x ≡ y → before (x ∷ xs) (y ∷ ys) ≡ before xs ys
-before-equal x y xs ys e = before-cons x y xs ys ∙ rw (eq-eqb x y e) refl
+before_equal : (x y : ℕ) (xs ys : List ℕ) → x ≡ y → before (x ∷ xs) (y ∷ ys) ≡ before xs ys
+before_equal x y xs ys e = before_cons x y xs ys ∙ rw (eq-eqb x y e) refl
 
-before-other : (x y : ℕ) (xs ys : List ℕ) → (x ≡ y → ⊥) → before (x ∷ xs) (y ∷ ys) ≡ ltb x y
-before-other x y xs ys e = before-cons x y xs ys ∙ rw (ne_eqb x y e) refl
+before_other : (x y : ℕ) (xs ys : List ℕ) → (x ≡ y → ⊥) → before (x ∷ xs) (y ∷ ys) ≡ ltb x y
+before_other x y xs ys e = before_cons x y xs ys ∙ rw (ne_eqb x y e) refl
 
-before-ended : (x : ℕ) (xs : List ℕ) → before (x ∷ xs) [] ≡ false
+before_ended : (x : ℕ) (xs : List ℕ) → before (x ∷ xs) [] ≡ false
 unfolding before
-before-ended x xs = refl
+before_ended x xs = refl
 
 before-some : (x : ℕ) (xs : List ℕ) → before [] (x ∷ xs) ≡ true
 unfolding before
 before-some x xs = refl
 
 -- what stands before a list that stands before a third stands before the third
-pub before-trans : (xs ys zs : List ℕ) → before xs ys ≡ true → before ys zs ≡ true → before xs zs ≡ true
-before-trans [] [] zs p q = q
-before-trans [] (y ∷ ys) [] p q = absurd (true-false (sym q ∙ before-ended y ys))
-before-trans [] (y ∷ ys) (z ∷ zs) p q = before-some z zs
-before-trans (x ∷ xs) [] zs p q = absurd (true-false (sym p ∙ before-ended x xs))
-before-trans (x ∷ xs) (y ∷ ys) [] p q = absurd (true-false (sym q ∙ before-ended y ys))
-before-trans (x ∷ xs) (y ∷ ys) (z ∷ zs) p q = first (before-trans xs ys zs) (outcome (eqb x y)) (outcome (eqb y z))
+pub before_trans : (xs ys zs : List ℕ) → before xs ys ≡ true → before ys zs ≡ true → before xs zs ≡ true
+before_trans [] [] zs p q = q
+before_trans [] (y ∷ ys) [] p q = absurd (true_false (sym q ∙ before_ended y ys))
+before_trans [] (y ∷ ys) (z ∷ zs) p q = before-some z zs
+before_trans (x ∷ xs) [] zs p q = absurd (true_false (sym p ∙ before_ended x xs))
+before_trans (x ∷ xs) (y ∷ ys) [] p q = absurd (true_false (sym q ∙ before_ended y ys))
+before_trans (x ∷ xs) (y ∷ ys) (z ∷ zs) p q = first (before_trans xs ys zs) (outcome (eqb x y)) (outcome (eqb y z))
   where
     first : (before xs ys ≡ true → before ys zs ≡ true → before xs zs ≡ true) → (eqb x y ≡ true) ⊎ (eqb x y ≡ false) → (eqb y z ≡ true) ⊎ (eqb y z ≡ false) → before (x ∷ xs) (z ∷ zs) ≡ true
     first later (inl a) (inl b) =
         let e : x ≡ y = eqb-true x y a in
         let f : y ≡ z = eqb-true y z b in
-        before-equal x z xs zs (e ∙ f) ∙ later (sym (before-equal x y xs ys e) ∙ p) (sym (before-equal y z ys zs f) ∙ q)
+        before_equal x z xs zs (e ∙ f) ∙ later (sym (before_equal x y xs ys e) ∙ p) (sym (before_equal y z ys zs f) ∙ q)
     first later (inl a) (inr b) =
         let e : x ≡ y = eqb-true x y a in
-        let l : y < z = ltb-true y z (sym (before-other y z ys zs (eqb-false y z b)) ∙ q) in
-        before-other x z xs zs (λ d. absurd (omega arith)) ∙ lt-ltb x z (omega arith)
+        let l : y < z = ltb-true y z (sym (before_other y z ys zs (eqb-false y z b)) ∙ q) in
+        before_other x z xs zs (λ d. absurd (omega arith)) ∙ lt-ltb x z (omega arith)
     first later (inr a) (inl b) =
         let f : y ≡ z = eqb-true y z b in
-        let l : x < y = ltb-true x y (sym (before-other x y xs ys (eqb-false x y a)) ∙ p) in
-        before-other x z xs zs (λ d. absurd (omega arith)) ∙ lt-ltb x z (omega arith)
+        let l : x < y = ltb-true x y (sym (before_other x y xs ys (eqb-false x y a)) ∙ p) in
+        before_other x z xs zs (λ d. absurd (omega arith)) ∙ lt-ltb x z (omega arith)
     first later (inr a) (inr b) =
-        let l : x < y = ltb-true x y (sym (before-other x y xs ys (eqb-false x y a)) ∙ p) in
-        let m : y < z = ltb-true y z (sym (before-other y z ys zs (eqb-false y z b)) ∙ q) in
-        before-other x z xs zs (λ d. absurd (omega arith)) ∙ lt-ltb x z (omega arith)
+        let l : x < y = ltb-true x y (sym (before_other x y xs ys (eqb-false x y a)) ∙ p) in
+        let m : y < z = ltb-true y z (sym (before_other y z ys zs (eqb-false y z b)) ∙ q) in
+        before_other x z xs zs (λ d. absurd (omega arith)) ∙ lt-ltb x z (omega arith)
 
 -- of two lists that differ one stands before the other
-pub before-total : (xs ys : List ℕ) → before xs ys ≡ false → (xs ≡ ys → ⊥) → before ys xs ≡ true
+pub before_total : (xs ys : List ℕ) → before xs ys ≡ false → (xs ≡ ys → ⊥) → before ys xs ≡ true
 unfolding before
-before-total [] [] p d = absurd (d refl)
-before-total [] (y ∷ ys) p d = absurd (true-false p)
-before-total (x ∷ xs) [] p d = refl
-before-total (x ∷ xs) (y ∷ ys) p d = first (before-total xs ys) (outcome (eqb x y))
+before_total [] [] p d = absurd (d refl)
+before_total [] (y ∷ ys) p d = absurd (true_false p)
+before_total (x ∷ xs) [] p d = refl
+before_total (x ∷ xs) (y ∷ ys) p d = first (before_total xs ys) (outcome (eqb x y))
   where
     first : (before xs ys ≡ false → (xs ≡ ys → ⊥) → before ys xs ≡ true) → (eqb x y ≡ true) ⊎ (eqb x y ≡ false) → before (y ∷ ys) (x ∷ xs) ≡ true
     first later (inl a) =
         let e : x ≡ y = eqb-true x y a in
-        before-equal y x ys xs (sym e) ∙ later (sym (before-equal x y xs ys e) ∙ p) (λ q. d (cc))
+        before_equal y x ys xs (sym e) ∙ later (sym (before_equal x y xs ys e) ∙ p) (λ q. d (cc))
     first later (inr a) =
         let n : x ≡ y → ⊥ = eqb-false x y a in
-        let l : y ≤ x = ltb-false x y (sym (before-other x y xs ys n) ∙ p) in
-        before-other y x ys xs (λ q. n (sym q)) ∙ lt-ltb y x (⊎_elim (λ q. absurd (n (sym q))) (λ q. q) (eq-or-lt_of_le l))
+        let l : y ≤ x = ltb-false x y (sym (before_other x y xs ys n) ∙ p) in
+        before_other y x ys xs (λ q. n (sym q)) ∙ lt-ltb y x (⊎_elim (λ q. absurd (n (sym q))) (λ q. q) (eq-or-lt_of_le l))
 
 -- ---- bytes are compared with others of their length
 
 pub one-length : (xs ys : List ℕ) → length xs ≡ length ys → (eqb (length xs) (length ys) && before xs ys) ≡ before xs ys
 one-length xs ys e = rw (eq-eqb (length xs) (length ys) e) refl
 
-pub two-lengths : (xs ys : List ℕ) → (length xs ≡ length ys → ⊥) → (eqb (length xs) (length ys) && before xs ys) ≡ false
-two-lengths xs ys e = rw (ne_eqb (length xs) (length ys) e) refl
+pub two_lengths : (xs ys : List ℕ) → (length xs ≡ length ys → ⊥) → (eqb (length xs) (length ys) && before xs ys) ≡ false
+two_lengths xs ys e = rw (ne_eqb (length xs) (length ys) e) refl
 
 -- ---- a turn of a loop that compares
 
 module _ (xs ys : List ℕ) (i : ℕ) (hx : i < length xs) (hy : i < length ys) where
   pub before_at : get_or xs i 0 ≡ get_or ys i 0 → before (drop i xs) (drop i ys) ≡ before (drop (i + 1) xs) (drop (i + 1) ys)
-  before_at e = rw (add-one, drop-cons xs i 0 hx, drop-cons ys i 0 hy) (before-equal (get_or xs i 0) (get_or ys i 0) (drop (suc i) xs) (drop (suc i) ys) e)
+  before_at e = rw (add-one, drop-cons xs i 0 hx, drop-cons ys i 0 hy) (before_equal (get_or xs i 0) (get_or ys i 0) (drop (suc i) xs) (drop (suc i) ys) e)
 
   pub before_here : (get_or xs i 0 ≡ get_or ys i 0 → ⊥) → before (drop i xs) (drop i ys) ≡ ltb (get_or xs i 0) (get_or ys i 0)
-  before_here e = rw (drop-cons xs i 0 hx, drop-cons ys i 0 hy) (before-other (get_or xs i 0) (get_or ys i 0) (drop (suc i) xs) (drop (suc i) ys) e)
+  before_here e = rw (drop-cons xs i 0 hx, drop-cons ys i 0 hy) (before_other (get_or xs i 0) (get_or ys i 0) (drop (suc i) xs) (drop (suc i) ys) e)
 
-pub before-end : (xs ys : List ℕ) (i : ℕ) → length xs ≡ length ys → i ≡ length xs → before (drop i xs) (drop i ys) ≡ false
-before-end xs ys i e q = rw (q, drop-length xs, e, drop-length ys) (before_self [])
+pub before_end : (xs ys : List ℕ) (i : ℕ) → length xs ≡ length ys → i ≡ length xs → before (drop i xs) (drop i ys) ≡ false
+before_end xs ys i e q = rw (q, drop-length xs, e, drop-length ys) (before_self [])
 
 -- what both begin with does not matter
 pub before-front : (n : ℕ) (xs ys : List ℕ) → n ≤ length xs → n ≤ length ys → take n xs ≡ take n ys → before (drop n xs) (drop n ys) ≡ before xs ys
@@ -115,7 +115,7 @@ before-front (suc n) (x ∷ xs) [] hx hy e = absurd (not-suc-le-zero hy)
 before-front (suc n) (x ∷ xs) (y ∷ ys) hx hy e =
     let heads : x ≡ y = cc in
     let tails : take n xs ≡ take n ys = cc in
-    before-front n xs ys (le_of_suc-le-suc hx) (le_of_suc-le-suc hy) tails ∙ sym (before-equal x y xs ys heads)
+    before-front n xs ys (le_of_suc-le-suc hx) (le_of_suc-le-suc hy) tails ∙ sym (before_equal x y xs ys heads)
 
 -- ---- the search for a place
 
@@ -127,16 +127,16 @@ pub record Halved (thing : ℕ → List ℕ) (order : List ℕ) (n low high : �
   pub above : (k : ℕ) → high ≤ k → k < n → before (thing (get_or order k 0)) (thing n) ≡ false
 
 module _ (thing : ℕ → List ℕ) (order : List ℕ) (n : ℕ) where
-  pub halved-start : Halved thing order n 0 n
-  halved-start = record { fits = omega arith; within = omega arith; below = λ k l. absurd (omega arith); above = λ k l h. absurd (omega arith) }
+  pub halved_start : Halved thing order n 0 n
+  halved_start = record { fits = omega arith; within = omega arith; below = λ k l. absurd (omega arith); above = λ k l h. absurd (omega arith) }
 
-  pub halved-end : (low high : ℕ) → high ≤ low → Halved thing order n low high → Placed thing order n low
-  halved-end low high e h =
+  pub halved_end : (low high : ℕ) → high ≤ low → Halved thing order n low high → Placed thing order n low
+  halved_end low high e h =
       record { within = omega (arith, h.fits, h.within); low = h.below; high = λ k l m. h.above k (omega (arith, h.fits)) m }
 
   module _ (o : Ordered thing order n) (low high middle : ℕ) (h : Halved thing order n low high) (l : low ≤ middle) (m : middle < high) where
-    pub halved-low : before (thing (get_or order middle 0)) (thing n) ≡ true → Halved thing order n (middle + 1) high
-    halved-low b =
+    pub halved_low : before (thing (get_or order middle 0)) (thing n) ≡ true → Halved thing order n (middle + 1) high
+    halved_low b =
         record {
           fits = omega arith;
           within = h.within;
@@ -144,13 +144,13 @@ module _ (thing : ℕ → List ℕ) (order : List ℕ) (n : ℕ) where
               λ k q.
               ⊎_elim
               (λ e. rw e b)
-              (λ q₂. before-trans (thing (get_or order k 0)) (thing (get_or order middle 0)) (thing n) (o.rise k middle q₂ (omega (arith, h.within))) b)
+              (λ q₂. before_trans (thing (get_or order k 0)) (thing (get_or order middle 0)) (thing n) (o.rise k middle q₂ (omega (arith, h.within))) b)
               (eq-or-lt_of_le {n = k} {m = middle} (omega arith));
           above = h.above;
         }
 
-    pub halved-high : before (thing (get_or order middle 0)) (thing n) ≡ false → Halved thing order n low middle
-    halved-high b =
+    pub halved_high : before (thing (get_or order middle 0)) (thing n) ≡ false → Halved thing order n low middle
+    halved_high b =
         record {
           fits = l;
           within = omega (arith, h.within);
@@ -161,7 +161,7 @@ module _ (thing : ℕ → List ℕ) (order : List ℕ) (n : ℕ) where
               (λ e. rw (← e) b)
               (λ q₂.
               ⊎_elim
-              (λ t. clash (before (thing (get_or order middle 0)) (thing n)) (before-trans (thing (get_or order middle 0)) (thing (get_or order k 0)) (thing n) (o.rise middle k q₂ s) t) b)
+              (λ t. clash (before (thing (get_or order middle 0)) (thing n)) (before_trans (thing (get_or order middle 0)) (thing (get_or order k 0)) (thing n) (o.rise middle k q₂ s) t) b)
               (λ f. f)
               (outcome (before (thing (get_or order k 0)) (thing n))))
               (eq-or-lt_of_le q);
@@ -171,33 +171,33 @@ module _ (thing : ℕ → List ℕ) (order : List ℕ) (n : ℕ) where
 
 module _ (thing : ℕ → List ℕ) (order : List ℕ) (n at : ℕ) (o : Ordered thing order n) (p : Placed thing order n at) where
   -- the thing n differs from all before it, if it differs from the one at its place
-  differs : (at < n → sameBytes (thing n) (thing (get_or order at 0)) ≡ false) → (k : ℕ) → k < n → sameBytes (thing n) (thing (get_or order k 0)) ≡ false
-  differs d k l = ⊎_elim (λ t. absurd (never (same-equal (thing n) (thing (get_or order k 0)) t))) (λ f. f) (outcome (sameBytes (thing n) (thing (get_or order k 0))))
+  differs : (at < n → same_bytes (thing n) (thing (get_or order at 0)) ≡ false) → (k : ℕ) → k < n → same_bytes (thing n) (thing (get_or order k 0)) ≡ false
+  differs d k l = ⊎_elim (λ t. absurd (never (same_equal (thing n) (thing (get_or order k 0)) t))) (λ f. f) (outcome (same_bytes (thing n) (thing (get_or order k 0))))
     where
       never : thing n ≡ thing (get_or order k 0) → ⊥
-      never e = ⊎_elim in-front (λ f. not-in-front (ltb-false k at f)) (outcome (ltb k at))
+      never e = ⊎_elim in_front (λ f. not_in_front (ltb-false k at f)) (outcome (ltb k at))
         where
-          in-front : ltb k at ≡ true → ⊥
-          in-front t = true-false (sym (p.low k (ltb-true k at t)) ∙ rw e (before_self (thing (get_or order k 0))))
+          in_front : ltb k at ≡ true → ⊥
+          in_front t = true_false (sym (p.low k (ltb-true k at t)) ∙ rw e (before_self (thing (get_or order k 0))))
 
-          not-in-front : at ≤ k → ⊥
-          not-in-front q =
+          not_in_front : at ≤ k → ⊥
+          not_in_front q =
               ⊎_elim
               (λ s.
               let there : thing (get_or order k 0) ≡ thing (get_or order at 0) = ap (λ (j : ℕ). thing (get_or order j 0)) (sym s) in
-              let same : sameBytes (thing n) (thing (get_or order at 0)) ≡ true = rw (e, there) (same_refl (thing (get_or order at 0))) in
-              true-false (sym same ∙ d (omega arith)))
-              (λ s. true-false (sym (o.rise at k s l) ∙ (rw e at (p.high at (omega arith) (omega arith)))))
+              let same : same_bytes (thing n) (thing (get_or order at 0)) ≡ true = rw (e, there) (same_refl (thing (get_or order at 0))) in
+              true_false (sym same ∙ d (omega arith)))
+              (λ s. true_false (sym (o.rise at k s l) ∙ (rw e at (p.high at (omega arith) (omega arith)))))
               (eq-or-lt_of_le q)
 
-  pub differs-all : (at < n → sameBytes (thing n) (thing (get_or order at 0)) ≡ false) → all_below n (λ j. not (sameBytes (thing n) (thing j))) ≡ true
-  differs-all d =
-      all_of (λ j. not (sameBytes (thing n) (thing j))) n
+  pub differs_all : (at < n → same_bytes (thing n) (thing (get_or order at 0)) ≡ false) → all_below n (λ j. not (same_bytes (thing n) (thing j))) ≡ true
+  differs_all d =
+      all_of (λ j. not (same_bytes (thing n) (thing j))) n
       (λ j l.
       let there = o.all j l in
       rw (← there.2, differs d there.0 there.1) refl)
 
-  module _ (left : List ℕ) (i : Inserted order left n at n) (d : (at < n → sameBytes (thing n) (thing (get_or order at 0)) ≡ false)) where
+  module _ (left : List ℕ) (i : Inserted order left n at n) (d : (at < n → same_bytes (thing n) (thing (get_or order at 0)) ≡ false)) where
     -- a place of the new order, by where it lies
     by_place : {A : Type 0} (k : ℕ) → (k < at → A) → (k ≡ at → A) → (at < k → A) → A
     by_place k f g h =
@@ -214,11 +214,11 @@ module _ (thing : ℕ → List ℕ) (order : List ℕ) (n at : ℕ) (o : Ordered
     -- what does not stand before the new thing stands behind it
     behind : (k : ℕ) → at ≤ k → k < n → before (thing n) (thing (get_or order k 0)) ≡ true
     behind k l h =
-        before-total (thing (get_or order k 0)) (thing n) (p.high k l h)
-        (λ e. true-false (sym (rw (← e) (same_refl (thing (get_or order k 0)))) ∙ differs d k h))
+        before_total (thing (get_or order k 0)) (thing n) (p.high k l h)
+        (λ e. true_false (sym (rw (← e) (same_refl (thing (get_or order k 0)))) ∙ differs d k h))
 
-    pub ordered-more : Ordered thing left (n + 1)
-    ordered-more =
+    pub ordered_more : Ordered thing left (n + 1)
+    ordered_more =
         record {
           known =
               λ k l.
@@ -251,8 +251,8 @@ module _ (thing : ℕ → List ℕ) (order : List ℕ) (n at : ℕ) (o : Ordered
 
 -- ---- nothing is in order yet
 
-pub ordered-none : (thing : ℕ → List ℕ) (order : List ℕ) → Ordered thing order 0
-ordered-none thing order = record { known = λ k l. absurd (omega arith); all = λ j l. absurd (omega arith); rise = λ k l q h. absurd (omega arith) }
+pub ordered_none : (thing : ℕ → List ℕ) (order : List ℕ) → Ordered thing order 0
+ordered_none thing order = record { known = λ k l. absurd (omega arith); all = λ j l. absurd (omega arith); rise = λ k l q h. absurd (omega arith) }
 
 -- ---- a number put at a place, from the back
 
@@ -266,8 +266,8 @@ pub shifted_none : (was : List ℕ) (n : ℕ) → Shifted was was n n
 shifted_none was n = record { long = refl; front = λ k l. refl; back = λ k l h. absurd (omega arith) }
 
 module _ (was now : List ℕ) (n j : ℕ) (s : Shifted was now n j) (few : n < length was) where
-  pub shifted-more : (at : ℕ) → at < j → j ≤ n → Shifted was (set now j (get_or now (j - 1) 0)) n (j - 1)
-  shifted-more at l h =
+  pub shifted_more : (at : ℕ) → at < j → j ≤ n → Shifted was (set now j (get_or now (j - 1) 0)) n (j - 1)
+  shifted_more at l h =
       record {
         long = length-set now j (get_or now (j - 1) 0) ∙ s.long;
         front = λ k q. get_or-set_other now j k (get_or now (j - 1) 0) 0 (λ e. absurd (omega arith)) ∙ s.front k (omega arith);

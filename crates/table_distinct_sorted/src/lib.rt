@@ -1,8 +1,7 @@
 // Whether two records of a table are equal, found by putting them in order. However the records are made, each is compared with at most
 // eleven others: this is for tables that were made to be slow where records are told apart by a hash.
 ghost use Rattle.std.specs.Prelude.{◌≡◌, ◌&&◌, eqb, ◌+◌, ◌*◌, ◌<◌, ◌≤◌, length};
-ghost use Rattle.bytes_number.specs.Lent.{was};
-ghost use Rattle.table_records.specs.Records.{mostRecords, recordAt};
+ghost use Rattle.table_records.specs.Records.{most_records, record_at};
 ghost use Rattle.table_records.specs.Working.{distinct};
 ghost use Rattle.table_distinct_sorted.specs.WorkingOrder.{before, Ordered, Placed, Inserted};
 
@@ -10,7 +9,7 @@ use table_records::MOST_RECORDS;
 
 // Whether bytes stand before others of their length, by the first byte in which they differ.
 fn is_before(a: &[u8], b: &[u8]) -> bool
-    ensures { result ≡ (eqb (length (was a)) (length (was b)) && before (was a) (was b)) }
+    ensures { result ≡ (eqb (length a.now) (length b.now) && before a.now b.now) }
 {
     if a.len() != b.len() {
         return false;
@@ -27,8 +26,8 @@ fn is_before(a: &[u8], b: &[u8]) -> bool
 
 // How many of the first i records stand before record i: `order` has their numbers, in the records' order, and it is halved at each turn.
 fn place(table: &[u8], width: usize, order: &[u16; MOST_RECORDS], i: usize) -> usize
-    requires { (i < mostRecords) × (i * width + width ≤ length table.now) × Ordered (recordAt width table.now) order.now i }
-    ensures { Placed (recordAt width (was table)) (was order) i result }
+    requires { (i < most_records) × (i * width + width ≤ length table.now) × Ordered (record_at width table.now) order.now i }
+    ensures { Placed (record_at width table.now) order.now i result }
 {
     let mut low = 0;
     let mut high = i;
@@ -49,8 +48,8 @@ fn place(table: &[u8], width: usize, order: &[u16; MOST_RECORDS], i: usize) -> u
 
 // Puts a number at a place among the first n, and those from there on one place further back.
 fn insert(order: &mut [u16; MOST_RECORDS], n: usize, at: usize, number: u16)
-    requires { (at ≤ n) × (n < mostRecords) × (length order.old ≡ mostRecords) }
-    ensures { Inserted (was order) order.new n at number }
+    requires { (at ≤ n) × (n < most_records) × (length order.old ≡ most_records) }
+    ensures { Inserted order.old order.new n at number }
 {
     let mut j = n;
     while at < j {
@@ -62,7 +61,7 @@ fn insert(order: &mut [u16; MOST_RECORDS], n: usize, at: usize, number: u16)
 
 // Whether the table holds n records, at most 1,024 of them, no two of which are equal.
 pub fn are_distinct(table: &[u8], width: u8, n: usize) -> bool
-    ensures { result ≡ distinct width (was table) n }
+    ensures { result ≡ distinct width table.now n }
 {
     let width = width as usize;
     if n > MOST_RECORDS {

@@ -1,28 +1,27 @@
 // The brokers' identities: that of a rank, and the rank whose identity a route is.
 ghost use Rattle.std.specs.Prelude.{◌≡◌};
-ghost use Rattle.bytes_number.specs.Lent.{was};
-ghost use Rattle.table_identities.specs.Identities.{identityAt, sameIdentity, brokerOf};
+ghost use Rattle.table_identities.specs.Identities.{identity_at, same_identity, broker_of};
 
 use frame_forms::ROUTE;
 use table_records::Found;
 
 // The identity of any rank, or what the table has of it.
 pub fn identity_of(identities: &[u8], rank: u32) -> &[u8]
-    ensures { result.now ≡ identityAt (was identities) rank }
+    ensures { result.now ≡ identity_at identities.now rank }
 {
     table_records::record_at(identities, ROUTE, rank as usize)
 }
 
 // Whether two routes are the same identity.
 pub fn is_same(a: &[u8], b: &[u8]) -> bool
-    ensures { result ≡ sameIdentity (was a) (was b) }
+    ensures { result ≡ same_identity a.now b.now }
 {
     table_records::same(a, b)
 }
 
 // The rank whose identity a route is, if there is one.
 pub fn find_broker(identities: &[u8], route: &[u8]) -> Found
-    ensures { result ≡ brokerOf (was identities) (was route) }
+    ensures { result ≡ broker_of identities.now route.now }
 {
     let n = identities.len() / ROUTE;
     let mut broker = 0;

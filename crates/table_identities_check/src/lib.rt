@@ -1,10 +1,9 @@
 // The check of the table of identities.
 ghost use Rattle.std.specs.Prelude.{◌≡◌, ◌/◌, length};
-ghost use Rattle.bytes_number.specs.Lent.{was};
-ghost use Rattle.frame_forms.specs.Forms.{routeLength, isRoute};
+ghost use Rattle.frame_forms.specs.Forms.{route_length, is_route};
 ghost use Rattle.table_records.specs.Below.{all_below};
 ghost use Rattle.table_tree_check.specs.Working.{told};
-ghost use Rattle.table_identities.specs.Identities.{identityAt, identitiesGood, identitiesCheck};
+ghost use Rattle.table_identities.specs.Identities.{identity_at, identities_good, identities_check};
 
 use frame_forms::ROUTE;
 use refusal::Refusal;
@@ -12,7 +11,7 @@ use table_tree_check::Checked;
 
 // Whether every record is of a route's form.
 fn are_routes(identities: &[u8]) -> bool
-    ensures { result ≡ all_below (length (was identities) / routeLength) (λ rank. isRoute (identityAt (was identities) rank)) }
+    ensures { result ≡ all_below (length identities.now / route_length) (λ rank. is_route (identity_at identities.now rank)) }
 {
     let n = identities.len() / ROUTE;
     let mut rank = 0;
@@ -27,7 +26,7 @@ fn are_routes(identities: &[u8]) -> bool
 
 // Whether the bytes are the identities of a tree's ranks.
 pub fn are_identities(tree: &[u8], identities: &[u8]) -> bool
-    ensures { result ≡ identitiesGood (was tree) (was identities) }
+    ensures { result ≡ identities_good tree.now identities.now }
 {
     let n = table_tree::ranks_in(tree);
     if n > table_records::MOST_RECORDS {
@@ -44,7 +43,7 @@ pub fn are_identities(tree: &[u8], identities: &[u8]) -> bool
 
 // The identity check: 14, then 16, or how many identities there are.
 pub fn check_identities(tree: &[u8], identities: &[u8]) -> Checked
-    ensures { told result ≡ identitiesCheck (was tree) (was identities) }
+    ensures { told result ≡ identities_check tree.now identities.now }
 {
     if !table_tree_check::is_tree(tree) {
         return Checked::Refused(Refusal::TreeWrong);

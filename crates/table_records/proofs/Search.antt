@@ -8,7 +8,7 @@ use native.Mathlib.Numerals.{add-one}
 use native.Mathlib.Omega.{arith}
 use Rattle.table_records.specs.declared.Found.{Found}
 use Rattle.table_records.specs.declared.Found.TheVariants.{At, Nothing}
-use Rattle.table_records.specs.Search.{firstFrom, first_of}
+use Rattle.table_records.specs.Search.{first_from, first_of}
 use Rattle.bytes_number.proofs.Truth.{outcome, clash}
 
 module _ (p : ℕ → Bool) where
@@ -18,24 +18,24 @@ module _ (p : ℕ → Bool) where
     one_left : n - i ≡ suc (n - (i + 1))
     one_left = omega arith
 
-    pub first-hit : p i ≡ true → firstFrom p (n - i) i ≡ At i
-    unfolding firstFrom
-    first-hit e = rw (one_left, e) refl
+    pub first_hit : p i ≡ true → first_from p (n - i) i ≡ At i
+    unfolding first_from
+    first_hit e = rw (one_left, e) refl
 
-    pub first-miss : p i ≡ false → firstFrom p (n - i) i ≡ firstFrom p (n - (i + 1)) (i + 1)
-    unfolding firstFrom
-    first-miss e = rw (one_left, e, add-one i) refl
+    pub first_miss : p i ≡ false → first_from p (n - i) i ≡ first_from p (n - (i + 1)) (i + 1)
+    unfolding first_from
+    first_miss e = rw (one_left, e, add-one i) refl
 
-  pub first-end : (n i : ℕ) → i ≡ n → firstFrom p (n - i) i ≡ Nothing
-  unfolding firstFrom
-  first-end n i e =
+  pub first_end : (n i : ℕ) → i ≡ n → first_from p (n - i) i ≡ Nothing
+  unfolding first_from
+  first_end n i e =
       let none : n - i ≡ 0 = omega arith in
       rw none refl
 
   -- ---- what is found passes, and where nothing is found nothing passes
 
-  pub first_passes : (left i k : ℕ) → firstFrom p left i ≡ At k → (k < i + left) × (p k ≡ true)
-  unfolding firstFrom
+  pub first_passes : (left i k : ℕ) → first_from p left i ≡ At k → (k < i + left) × (p k ≡ true)
+  unfolding first_from
   first_passes zero i k e = absurd (let z : ◌≡◌ {A = ℕ} 0 1 = cc in omega arith)
   first_passes (suc left) i k e =
       ⊎_elim
@@ -48,8 +48,8 @@ module _ (p : ℕ → Bool) where
       (omega (arith, later.0), later.1))
       (outcome (p i))
 
-  pub none_passes : (left i : ℕ) → firstFrom p left i ≡ Nothing → (k : ℕ) → i ≤ k → k < i + left → p k ≡ false
-  unfolding firstFrom
+  pub none_passes : (left i : ℕ) → first_from p left i ≡ Nothing → (k : ℕ) → i ≤ k → k < i + left → p k ≡ false
+  unfolding first_from
   none_passes zero i e k l h = absurd (omega arith)
   none_passes (suc left) i e k l h =
       ⊎_elim
@@ -60,23 +60,23 @@ module _ (p : ℕ → Bool) where
       (outcome (p i))
 
   -- a test that agrees with it finds the same
-  pub first-agree : (q : ℕ → Bool) (left i : ℕ) → ((k : ℕ) → k < i + left → p k ≡ q k) → firstFrom p left i ≡ firstFrom q left i
-  unfolding firstFrom
-  first-agree q zero i f = refl
-  first-agree q (suc left) i f = rw (f i (omega arith), first-agree q left (suc i) (λ k l. f k (omega arith))) refl
+  pub first_agree : (q : ℕ → Bool) (left i : ℕ) → ((k : ℕ) → k < i + left → p k ≡ q k) → first_from p left i ≡ first_from q left i
+  unfolding first_from
+  first_agree q zero i f = refl
+  first_agree q (suc left) i f = rw (f i (omega arith), first_agree q left (suc i) (λ k l. f k (omega arith))) refl
 
   -- something is found, or nothing
-  found-cases : (f : Found) → ((i : ℕ) × (f ≡ At i)) ⊎ (f ≡ Nothing)
-  found-cases (At i) = inl (i, refl)
-  found-cases Nothing = inr refl
+  found_cases : (f : Found) → ((i : ℕ) × (f ≡ At i)) ⊎ (f ≡ Nothing)
+  found_cases (At i) = inl (i, refl)
+  found_cases Nothing = inr refl
 
   -- the one number that passes is found
-  pub first-only : (n i : ℕ) → i < n → p i ≡ true → ((k : ℕ) → k < n → p k ≡ true → k ≡ i) → first_of p n ≡ At i
-  first-only n i h t only =
+  pub first_only : (n i : ℕ) → i < n → p i ≡ true → ((k : ℕ) → k < n → p k ≡ true → k ≡ i) → first_of p n ≡ At i
+  first_only n i h t only =
       ⊎_elim
       (λ f.
       let found = first_passes n 0 f.0 f.1 in
       let one = only f.0 (omega (arith, found.0)) found.1 in
       f.1 ∙ ap At one)
       (λ f. clash (p i) t (none_passes n 0 f i (omega arith) (omega arith)))
-      (found-cases (first_of p n))
+      (found_cases (first_of p n))

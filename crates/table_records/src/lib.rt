@@ -1,9 +1,8 @@
 // What the tables share: one record, what a look-up finds, and bytes compared.
 ghost use Rattle.std.specs.Prelude.{◌≡◌};
-ghost use Rattle.bytes_number.specs.Lent.{was};
-ghost use Rattle.table_records.specs.Bytes.{sameBytes};
-ghost use Rattle.table_records.specs.Records.{recordAt};
-ghost use Rattle.table_records.specs.Working.{equalInFours};
+ghost use Rattle.table_records.specs.Bytes.{same_bytes};
+ghost use Rattle.table_records.specs.Records.{record_at};
+ghost use Rattle.table_records.specs.Working.{equal_in_fours};
 
 // The most records that a table has: ranks, services or identities.
 pub const MOST_RECORDS: usize = 1024;
@@ -17,7 +16,7 @@ pub enum Found {
 
 // The record with the number i, counted from 0, or what the table has of it. In a loop that ends at `table.len() / width` the compiler drops the tests.
 pub fn record_at(table: &[u8], width: usize, i: usize) -> &[u8]
-    ensures { result.now ≡ recordAt width (was table) i }
+    ensures { result.now ≡ record_at width table.now i }
 {
     if width == 0 {
         return &table[..0];
@@ -36,7 +35,7 @@ pub fn record_at(table: &[u8], width: usize, i: usize) -> &[u8]
 
 // How many bytes in front of two slices are surely equal: four at a time, up to the first four in which they differ, or to the end of either.
 pub fn equal_front(a: &[u8], b: &[u8]) -> usize
-    ensures { result ≡ equalInFours (was a) (was b) }
+    ensures { result ≡ equal_in_fours a.now b.now }
 {
     let mut i = 0;
     while i + 4 <= a.len() {
@@ -53,7 +52,7 @@ pub fn equal_front(a: &[u8], b: &[u8]) -> usize
 
 // Whether two slices hold the same bytes, to the end of both.
 pub fn same(a: &[u8], b: &[u8]) -> bool
-    ensures { result ≡ sameBytes (was a) (was b) }
+    ensures { result ≡ same_bytes a.now b.now }
 {
     if a.len() != b.len() {
         return false;

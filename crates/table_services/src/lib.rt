@@ -1,9 +1,8 @@
 // The services that brokers register: one record of the table.
 ghost use Rattle.std.specs.Prelude.{◌≡◌, cond, ◌&&◌, eqb, length, get_or};
-ghost use Rattle.bytes_number.specs.Lent.{was};
 ghost use Rattle.table_records.specs.Below.{all_below};
-ghost use Rattle.table_services.specs.Working.{mayStand};
-ghost use Rattle.table_services.specs.Services.{serviceWidth, serviceGood};
+ghost use Rattle.table_services.specs.Working.{may_stand};
+ghost use Rattle.table_services.specs.Services.{service_width, service_good};
 
 // Bytes a record.
 pub const WIDTH: usize = 32;
@@ -15,7 +14,7 @@ pub const LONGEST: usize = 27;
 // 1 for a byte that may not stand at its place in a record whose name ends in front of `end`: a zero or a period in the name, and anything but a
 // zero behind it.
 fn stray(x: u8, at: u8, end: u8) -> u8
-    ensures { result ≡ cond (mayStand end at x) 0 1 }
+    ensures { result ≡ cond (may_stand end at x) 0 1 }
 {
     if at < 5 {
         0
@@ -37,8 +36,8 @@ fn stray(x: u8, at: u8, end: u8) -> u8
 // How many bytes of a record may not stand where they do. They are counted and not searched, over all of the record, so that the compiler can look
 // at many at a time, whatever the name's length is.
 fn strays(row: &[u8], end: u8) -> u8
-    requires { length row.now ≡ serviceWidth }
-    ensures { eqb result 0 ≡ all_below serviceWidth (λ at. mayStand end at (get_or (was row) at 0)) }
+    requires { length row.now ≡ service_width }
+    ensures { eqb result 0 ≡ all_below service_width (λ at. may_stand end at (get_or row.now at 0)) }
 {
     let mut n: u8 = 0;
     let mut at = 0;
@@ -51,7 +50,7 @@ fn strays(row: &[u8], end: u8) -> u8
 
 // Whether the bytes are a record, and of the form, in a tree of so many ranks.
 pub fn is_service(row: &[u8], ranks: usize) -> bool
-    ensures { result ≡ (eqb (length (was row)) serviceWidth && serviceGood ranks (was row)) }
+    ensures { result ≡ (eqb (length row.now) service_width && service_good ranks row.now) }
 {
     if row.len() != WIDTH {
         return false;

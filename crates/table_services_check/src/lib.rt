@@ -1,8 +1,7 @@
 // The check of the table of services.
 ghost use Rattle.std.specs.Prelude.{◌≡◌};
-ghost use Rattle.bytes_number.specs.Lent.{was};
 ghost use Rattle.table_tree_check.specs.Working.{told};
-ghost use Rattle.table_services.specs.Services.{servicesGood, servicesCheck};
+ghost use Rattle.table_services.specs.Services.{services_good, services_check};
 
 use refusal::Refusal;
 use table_services::WIDTH;
@@ -10,7 +9,7 @@ use table_tree_check::Checked;
 
 // Whether the bytes are the services of a tree.
 pub fn are_services(tree: &[u8], services: &[u8]) -> bool
-    ensures { result ≡ servicesGood (was tree) (was services) }
+    ensures { result ≡ services_good tree.now services.now }
 {
     let n = services.len() / WIDTH;
     if n > table_records::MOST_RECORDS {
@@ -32,7 +31,7 @@ pub fn are_services(tree: &[u8], services: &[u8]) -> bool
 
 // The service check: 14, then 15, or how many records there are.
 pub fn check_services(tree: &[u8], services: &[u8]) -> Checked
-    ensures { told result ≡ servicesCheck (was tree) (was services) }
+    ensures { told result ≡ services_check tree.now services.now }
 {
     if !table_tree_check::is_tree(tree) {
         return Checked::Refused(Refusal::TreeWrong);

@@ -8,134 +8,134 @@ use native.Mathlib.Omega.{arith}
 use borrow.Author.Tests.{eq-eqb, ne_eqb, eqb-true, le-leb, lt-leb, leb-true, leb-false}
 use lib.Dec.{eqb, leb}
 use lib.ListN.{length, take, drop, length-take, length-drop}
-use Rattle.table_records.specs.Bytes.{sameBytes}
-use Rattle.table_records.specs.Search.{firstFrom}
+use Rattle.table_records.specs.Bytes.{same_bytes}
+use Rattle.table_records.specs.Search.{first_from}
 use Rattle.table_records.specs.declared.Found.TheVariants.{At, Nothing}
 use mathlib.Core.Logic.{⊎_elim}
-use Rattle.bytes_number.proofs.Truth.{outcome, and_left as left, and_right as right, and_both as both, and-right-fails as right-fails}
+use Rattle.bytes_number.proofs.Truth.{outcome, and_left as left, and_right as right, and_both as both, and_right_fails as right-fails}
 use Rattle.table_records.proofs.Below.{once}
-use Rattle.table_records.proofs.Records.{length-record}
-use Rattle.table_records.proofs.Search.{first_passes, none_passes, first-only, first-agree}
-use Rattle.table_tree.specs.Tree.{ranksIn}
-use Rattle.table_services.proofs.Services.{Form, length-name, GoodServices, same-service}
-use Rattle.table_records.proofs.Bytes.{same-lengths, same_refl, same-equal}
-use Rattle.table_services.specs.Services.{servicesIn, serviceAt, rankIn, nameLength, nameIn, sameService}
-use Rattle.table_services_find.specs.Lookup.{registers, registeredAs}
-use Rattle.table_services_find.specs.Working.{wholeOrNone}
+use Rattle.table_records.proofs.Records.{length_record}
+use Rattle.table_records.proofs.Search.{first_passes, none_passes, first_only, first_agree}
+use Rattle.table_tree.specs.Tree.{ranks_in}
+use Rattle.table_services.proofs.Services.{Form, length_name, GoodServices, same_service_lem}
+use Rattle.table_records.proofs.Bytes.{same_lengths, same_refl, same_equal}
+use Rattle.table_services.specs.Services.{services_in, service_at, rank_in, name_length, name_in, same_service}
+use Rattle.table_services_find.specs.Lookup.{registers, registered_as}
+use Rattle.table_services_find.specs.Working.{whole_or_none}
 
-registered-is : (services : List ℕ) (rank : ℕ) (service : List ℕ) → registeredAs services rank service ≡ firstFrom (λ i. registers (serviceAt services i) rank service) (length services / 32) 0
-unfolding registeredAs servicesIn
-registered-is services rank service = refl
+registered_is : (services : List ℕ) (rank : ℕ) (service : List ℕ) → registered_as services rank service ≡ first_from (λ i. registers (service_at services i) rank service) (length services / 32) 0
+unfolding registered_as services_in
+registered_is services rank service = refl
 
 -- ---- one record by its cases, in the code's order
 
 module _ (row : List ℕ) (rank : ℕ) (service : List ℕ) where
   -- "An empty service .. matches nothing"
-  pub empty-never : length service < 1 → registers row rank service ≡ false
+  pub empty_never : length service < 1 → registers row rank service ≡ false
   unfolding registers
-  empty-never h = rw (lt-leb _ _ h) refl
+  empty_never h = rw (lt-leb _ _ h) refl
 
-  pub other-rank : (rankIn row ≡ rank → ⊥) → registers row rank service ≡ false
+  pub other_rank : (rank_in row ≡ rank → ⊥) → registers row rank service ≡ false
   unfolding registers
-  other-rank h = rw (ne_eqb _ _ h) (right-fails (leb 1 (length service)) refl)
+  other_rank h = rw (ne_eqb _ _ h) (right-fails (leb 1 (length service)) refl)
 
-  pub other_length : (nameLength row ≡ length service → ⊥) → registers row rank service ≡ false
+  pub other_length : (name_length row ≡ length service → ⊥) → registers row rank service ≡ false
   unfolding registers
-  other_length h = rw (ne_eqb _ _ h) (right-fails (leb 1 (length service)) (right-fails (eqb (rankIn row) rank) refl))
+  other_length h = rw (ne_eqb _ _ h) (right-fails (leb 1 (length service)) (right-fails (eqb (rank_in row) rank) refl))
 
   -- a service of more than 27 bytes matches nothing: no name is cut
-  pub long-never : length row ≡ 32 → 27 < length service → registers row rank service ≡ false
+  pub long_never : length row ≡ 32 → 27 < length service → registers row rank service ≡ false
   unfolding registers
-  long-never e h =
-      rw (same-lengths (nameIn row) service (λ q. absurd (omega (arith, simp (length-take, length-drop) at q))))
-      (right-fails (leb 1 (length service)) (right-fails (eqb (rankIn row) rank) (right-fails (eqb (nameLength row) (length service)) refl)))
+  long_never e h =
+      rw (same_lengths (name_in row) service (λ q. absurd (omega (arith, simp (length-take, length-drop) at q))))
+      (right-fails (leb 1 (length service)) (right-fails (eqb (rank_in row) rank) (right-fails (eqb (name_length row) (length service)) refl)))
 
-  pub rest-same : 1 ≤ length service → rankIn row ≡ rank → nameLength row ≡ length service → registers row rank service ≡ sameBytes (take (length service) (drop 5 row)) service
+  pub rest_same : 1 ≤ length service → rank_in row ≡ rank → name_length row ≡ length service → registers row rank service ≡ same_bytes (take (length service) (drop 5 row)) service
   unfolding registers
-  rest-same h1 hr hl = rw (le-leb _ _ h1, eq-eqb _ _ hr, hl, eq-eqb _ _ refl) refl
+  rest_same h1 hr hl = rw (le-leb _ _ h1, eq-eqb _ _ hr, hl, eq-eqb _ _ refl) refl
 
 -- ---- the service that is compared
 
-pub none-of-long : (service : List ℕ) → 27 < length service → [] ≡ wholeOrNone service
-unfolding wholeOrNone
-none-of-long service h = rw (lt-leb (length service) 27 h) refl
+pub none_of_long : (service : List ℕ) → 27 < length service → [] ≡ whole_or_none service
+unfolding whole_or_none
+none_of_long service h = rw (lt-leb (length service) 27 h) refl
 
-pub whole-of-short : (service : List ℕ) → length service ≤ 27 → service ≡ wholeOrNone service
-unfolding wholeOrNone
-whole-of-short service h = rw (le-leb (length service) 27 h) refl
+pub whole_of_short : (service : List ℕ) → length service ≤ 27 → service ≡ whole_or_none service
+unfolding whole_or_none
+whole_of_short service h = rw (le-leb (length service) 27 h) refl
 
-pub length_whole : (service : List ℕ) → length (wholeOrNone service) ≤ 27
+pub length_whole : (service : List ℕ) → length (whole_or_none service) ≤ 27
 length_whole service =
     ⊎_elim
-    (λ t. rw (← whole-of-short service (leb-true (length service) 27 t)) (leb-true (length service) 27 t))
-    (λ f. rw (← none-of-long service (leb-false (length service) 27 f)) (omega arith))
+    (λ t. rw (← whole_of_short service (leb-true (length service) 27 t)) (leb-true (length service) 27 t))
+    (λ f. rw (← none_of_long service (leb-false (length service) 27 f)) (omega arith))
     (outcome (leb (length service) 27))
 
 -- a longer service matches nothing, as an empty one does
-registers-whole : (row : List ℕ) (rank : ℕ) (service : List ℕ) → length row ≡ 32 → registers row rank (wholeOrNone service) ≡ registers row rank service
-registers-whole row rank service e =
+registers_whole : (row : List ℕ) (rank : ℕ) (service : List ℕ) → length row ≡ 32 → registers row rank (whole_or_none service) ≡ registers row rank service
+registers_whole row rank service e =
     ⊎_elim
-    (λ t. rw (← whole-of-short service (leb-true (length service) 27 t)) refl)
+    (λ t. rw (← whole_of_short service (leb-true (length service) 27 t)) refl)
     (λ f.
     let long = leb-false (length service) 27 f in
-    rw (← none-of-long service long) (empty-never row rank [] (omega arith) ∙ sym (long-never row rank service e long)))
+    rw (← none_of_long service long) (empty_never row rank [] (omega arith) ∙ sym (long_never row rank service e long)))
     (outcome (leb (length service) 27))
 
-registered-whole : (services : List ℕ) (rank : ℕ) (service : List ℕ) → registeredAs services rank (wholeOrNone service) ≡ registeredAs services rank service
-unfolding registeredAs servicesIn
-registered-whole services rank service =
-    first-agree (λ i. registers (serviceAt services i) rank (wholeOrNone service)) (λ i. registers (serviceAt services i) rank service) (length services / 32) 0
-    (λ k h. registers-whole (serviceAt services k) rank service (length-record 32 k services (omega arith)))
+registered_whole : (services : List ℕ) (rank : ℕ) (service : List ℕ) → registered_as services rank (whole_or_none service) ≡ registered_as services rank service
+unfolding registered_as services_in
+registered_whole services rank service =
+    first_agree (λ i. registers (service_at services i) rank (whole_or_none service)) (λ i. registers (service_at services i) rank service) (length services / 32) 0
+    (λ k h. registers_whole (service_at services k) rank service (length_record 32 k services (omega arith)))
 
 -- where the look-up begins
-pub search-start : (services : List ℕ) (rank : ℕ) (service name : List ℕ) → name ≡ wholeOrNone service
-    → firstFrom (λ i. registers (serviceAt services i) rank name) (length services / 32 - 0) 0 ≡ registeredAs services rank service
-search-start services rank service name e = rw (e, sub-zero) (sym (registered-is services rank (wholeOrNone service)) ∙ registered-whole services rank service)
+pub search_start : (services : List ℕ) (rank : ℕ) (service name : List ℕ) → name ≡ whole_or_none service
+    → first_from (λ i. registers (service_at services i) rank name) (length services / 32 - 0) 0 ≡ registered_as services rank service
+search_start services rank service name e = rw (e, sub-zero) (sym (registered_is services rank (whole_or_none service)) ∙ registered_whole services rank service)
 
 -- ---- what is found, for the crates above
 
 -- what a record that registers the service at the rank holds
-pub registers-holds : (row : List ℕ) (rank : ℕ) (service : List ℕ) → registers row rank service ≡ true → (rankIn row ≡ rank) × (nameIn row ≡ service)
+pub registers-holds : (row : List ℕ) (rank : ℕ) (service : List ℕ) → registers row rank service ≡ true → (rank_in row ≡ rank) × (name_in row ≡ service)
 unfolding registers
 registers-holds row rank service h =
-    let h₁ = right (leb 1 (length service)) (eqb (rankIn row) rank && (eqb (nameLength row) (length service) && sameBytes (nameIn row) service)) h in
-    let h₂ = right (eqb (rankIn row) rank) (eqb (nameLength row) (length service) && sameBytes (nameIn row) service) h₁ in (
-      eqb-true (rankIn row) rank (left (eqb (rankIn row) rank) (eqb (nameLength row) (length service) && sameBytes (nameIn row) service) h₁),
-      same-equal (nameIn row) service (right (eqb (nameLength row) (length service)) (sameBytes (nameIn row) service) h₂),
+    let h₁ = right (leb 1 (length service)) (eqb (rank_in row) rank && (eqb (name_length row) (length service) && same_bytes (name_in row) service)) h in
+    let h₂ = right (eqb (rank_in row) rank) (eqb (name_length row) (length service) && same_bytes (name_in row) service) h₁ in (
+      eqb-true (rank_in row) rank (left (eqb (rank_in row) rank) (eqb (name_length row) (length service) && same_bytes (name_in row) service) h₁),
+      same_equal (name_in row) service (right (eqb (name_length row) (length service)) (same_bytes (name_in row) service) h₂),
     )
 
 -- a record of the form registers its own name at its own rank
-pub registers-own : (ranks : ℕ) (row : List ℕ) → length row ≡ 32 → Form ranks row → registers row (rankIn row) (nameIn row) ≡ true
+pub registers_own : (ranks : ℕ) (row : List ℕ) → length row ≡ 32 → Form ranks row → registers row (rank_in row) (name_in row) ≡ true
 unfolding registers
-registers-own ranks row e f =
-    let size = length-name row e f.few in
-    both (le-leb 1 (length (nameIn row)) (omega (arith, f.some)))
-    (both (eq-eqb (rankIn row) (rankIn row) refl) (both (eq-eqb (nameLength row) (length (nameIn row)) (sym size)) (same_refl (nameIn row))))
+registers_own ranks row e f =
+    let size = length_name row e f.few in
+    both (le-leb 1 (length (name_in row)) (omega (arith, f.some)))
+    (both (eq-eqb (rank_in row) (rank_in row) refl) (both (eq-eqb (name_length row) (length (name_in row)) (sym size)) (same_refl (name_in row))))
 
 module _ (services : List ℕ) (rank : ℕ) (service : List ℕ) where
   -- the record that is found has the rank and the name
-  pub found-holds : (i : ℕ) → registeredAs services rank service ≡ At i → (i < servicesIn services) × (rankIn (serviceAt services i) ≡ rank) × (nameIn (serviceAt services i) ≡ service)
-  unfolding registeredAs
-  found-holds i e =
-      let found = first_passes (λ i. registers (serviceAt services i) rank service) (servicesIn services) 0 i e in
-      let holds = registers-holds (serviceAt services i) rank service found.1 in
+  pub found_holds : (i : ℕ) → registered_as services rank service ≡ At i → (i < services_in services) × (rank_in (service_at services i) ≡ rank) × (name_in (service_at services i) ≡ service)
+  unfolding registered_as
+  found_holds i e =
+      let found = first_passes (λ i. registers (service_at services i) rank service) (services_in services) 0 i e in
+      let holds = registers-holds (service_at services i) rank service found.1 in
       (omega (arith, found.0), holds.0, holds.1)
 
   -- where none is found, no record registers the service there
-  pub none-holds : registeredAs services rank service ≡ Nothing → (i : ℕ) → i < servicesIn services → registers (serviceAt services i) rank service ≡ false
-  unfolding registeredAs
-  none-holds e i h = none_passes (λ i. registers (serviceAt services i) rank service) (servicesIn services) 0 e i (omega arith) (omega arith)
+  pub none-holds : registered_as services rank service ≡ Nothing → (i : ℕ) → i < services_in services → registers (service_at services i) rank service ≡ false
+  unfolding registered_as
+  none-holds e i h = none_passes (λ i. registers (service_at services i) rank service) (services_in services) 0 e i (omega arith) (omega arith)
 
   -- in a table that is right the record with the rank and the name is found: there is no other
-  pub found-only : (tree : List ℕ) → GoodServices tree services → (i : ℕ) → i < servicesIn services → rankIn (serviceAt services i) ≡ rank → nameIn (serviceAt services i) ≡ service → registeredAs services rank service ≡ At i
-  unfolding registeredAs
-  found-only tree g i h r n =
-      first-only (λ i. registers (serviceAt services i) rank service) (servicesIn services) i h
-      (rw (← r, ← n) (registers-own (ranksIn tree) (serviceAt services i) (length-record 32 i services (omega (arith, g.whole))) (g.form i h)))
+  pub found_only : (tree : List ℕ) → GoodServices tree services → (i : ℕ) → i < services_in services → rank_in (service_at services i) ≡ rank → name_in (service_at services i) ≡ service → registered_as services rank service ≡ At i
+  unfolding registered_as
+  found_only tree g i h r n =
+      first_only (λ i. registers (service_at services i) rank service) (services_in services) i h
+      (rw (← r, ← n) (registers_own (ranks_in tree) (service_at services i) (length_record 32 i services (omega (arith, g.whole))) (g.form i h)))
       (λ k hk t.
-      let holds = registers-holds (serviceAt services k) rank service t in
-      let ranks-same : rankIn (serviceAt services k) ≡ rankIn (serviceAt services i) = holds.0 ∙ sym r in
-      let names_same : nameIn (serviceAt services k) ≡ nameIn (serviceAt services i) = holds.1 ∙ sym n in
-      once (λ i j. sameService (serviceAt services i) (serviceAt services j)) (servicesIn services) g.none k i hk h
-      (same-service (serviceAt services k) (serviceAt services i) ranks-same names_same)
-      (same-service (serviceAt services i) (serviceAt services k) (sym ranks-same) (sym names_same)))
+      let holds = registers-holds (service_at services k) rank service t in
+      let ranks-same : rank_in (service_at services k) ≡ rank_in (service_at services i) = holds.0 ∙ sym r in
+      let names_same : name_in (service_at services k) ≡ name_in (service_at services i) = holds.1 ∙ sym n in
+      once (λ i j. same_service (service_at services i) (service_at services j)) (services_in services) g.none k i hk h
+      (same_service_lem (service_at services k) (service_at services i) ranks-same names_same)
+      (same_service_lem (service_at services i) (service_at services k) (sym ranks-same) (sym names_same)))

@@ -1,16 +1,15 @@
 // The service that a topic names, and the record of the table that registers it.
 ghost use Rattle.std.specs.Prelude.{◌≡◌, ◌≤◌, length};
-ghost use Rattle.bytes_number.specs.Lent.{was};
-ghost use Rattle.table_services.specs.Services.{serviceWidth, longestName};
-ghost use Rattle.table_services_find.specs.Lookup.{serviceOf, registers, registeredAs};
-ghost use Rattle.table_services_find.specs.Working.{wholeOrNone};
+ghost use Rattle.table_services.specs.Services.{service_width, longest_name};
+ghost use Rattle.table_services_find.specs.Lookup.{service_of, registers, registered_as};
+ghost use Rattle.table_services_find.specs.Working.{whole_or_none};
 
 use table_records::Found;
 use table_services::{LONGEST, NAME, WIDTH};
 
 // The service that a topic names: all before the first period, or all of it.
 pub fn service_of(topic: &[u8]) -> &[u8]
-    ensures { result.now ≡ serviceOf (was topic) }
+    ensures { result.now ≡ service_of topic.now }
 {
     let mut i = 0;
     while i < topic.len() {
@@ -24,7 +23,7 @@ pub fn service_of(topic: &[u8]) -> &[u8]
 
 // The service, or nothing in place of one that is longer than a name can be: it is not cut to match.
 fn whole_or_none(service: &[u8]) -> &[u8]
-    ensures { result.now ≡ wholeOrNone (was service) }
+    ensures { result.now ≡ whole_or_none service.now }
 {
     if service.len() > LONGEST {
         return &service[..0];
@@ -34,8 +33,8 @@ fn whole_or_none(service: &[u8]) -> &[u8]
 
 // Whether a record registers a service at a rank.
 fn is_registered(row: &[u8], rank: u32, service: &[u8]) -> bool
-    requires { (length row.now ≡ serviceWidth) × (length service.now ≤ longestName) }
-    ensures { result ≡ registers (was row) rank (was service) }
+    requires { (length row.now ≡ service_width) × (length service.now ≤ longest_name) }
+    ensures { result ≡ registers row.now rank service.now }
 {
     let asked = service.len();
     if asked < 1 {
@@ -52,7 +51,7 @@ fn is_registered(row: &[u8], rank: u32, service: &[u8]) -> bool
 
 // The record that registers a service at a rank, if there is one.
 pub fn find_service(services: &[u8], rank: u32, service: &[u8]) -> Found
-    ensures { result ≡ registeredAs (was services) rank (was service) }
+    ensures { result ≡ registered_as services.now rank service.now }
 {
     let name = whole_or_none(service);
     let n = services.len() / WIDTH;

@@ -1,7 +1,6 @@
 // The tree of brokers: its ranks, and the parent and the depth of each.
 ghost use Rattle.std.specs.Prelude.{◌≡◌};
-ghost use Rattle.bytes_number.specs.Lent.{was};
-ghost use Rattle.table_tree.specs.Tree.{ranksIn, wholeTree, parentOf};
+ghost use Rattle.table_tree.specs.Tree.{ranks_in, whole_tree, parent_of};
 ghost use Rattle.table_tree.specs.Depths.{depth_of};
 
 use table_records::MOST_RECORDS;
@@ -13,14 +12,14 @@ pub const NO_PARENT: u32 = 4294967295;
 
 // How many ranks the tree has.
 pub fn ranks_in(tree: &[u8]) -> usize
-    ensures { result ≡ ranksIn (was tree) }
+    ensures { result ≡ ranks_in tree.now }
 {
     tree.len() / WIDTH
 }
 
 // The parent of a rank; what is no rank of the tree has none.
 pub fn parent_of(tree: &[u8], rank: u32) -> u32
-    ensures { result ≡ parentOf (was tree) rank }
+    ensures { result ≡ parent_of tree.now rank }
 {
     let r = rank as usize;
     if r < tree.len() / WIDTH {
@@ -32,7 +31,7 @@ pub fn parent_of(tree: &[u8], rank: u32) -> u32
 
 // The depth of a rank, and 17 where 16 parents do not lead from it to rank 0.
 pub fn depth_of(tree: &[u8], rank: u32) -> u8
-    ensures { result ≡ depth_of (was tree) rank }
+    ensures { result ≡ depth_of tree.now rank }
 {
     let mut at = rank;
     let mut d: u8 = 0;
@@ -48,7 +47,7 @@ pub fn depth_of(tree: &[u8], rank: u32) -> u8
 
 // Whether the bytes are whole records, of 1 to 1,024 ranks.
 pub fn is_whole(tree: &[u8]) -> bool
-    ensures { result ≡ wholeTree (was tree) }
+    ensures { result ≡ whole_tree tree.now }
 {
     let n = ranks_in(tree);
     if n < 1 {

@@ -1,7 +1,7 @@
 -- What only the code's own steps promise each other: no promise of a public call speaks of it, and no reader has to believe it.
 use Rattle.std.specs.Prelude.{◌≡◌, Bool, true, ℕ, ◌≤◌, ◌<◌, List, get_or, length}
-use Rattle.table_tree.specs.Tree.{ranksIn}
-use Rattle.table_tree.specs.Depths.{depth_of, treeGood}
+use Rattle.table_tree.specs.Tree.{ranks_in}
+use Rattle.table_tree.specs.Depths.{depth_of, tree_good}
 use Rattle.refusal.specs.Answer.{Answer, refused, answered}
 use Rattle.table_tree_check.specs.declared.Checked.{Checked}
 use Rattle.table_tree_check.specs.declared.Checked.TheVariants.{Refused, Passed}
@@ -13,8 +13,8 @@ pub record Shallow (tree depths : List ℕ) (r : ℕ) : Type 0 where
 
 -- the test of a tree says whether it is one, and then leaves the depths of all its ranks
 pub record Finds (tree left : List ℕ) (r : Bool) : Type 0 where
-  pub told : r ≡ treeGood tree
-  pub found : r ≡ true → Shallow tree left (ranksIn tree)
+  pub told : r ≡ tree_good tree
+  pub found : r ≡ true → Shallow tree left (ranks_in tree)
 
 -- what a check says: the refusal, or how many entries the table has
 abbrev pub told : Checked → Answer ℕ
@@ -22,6 +22,6 @@ told (Refused r) = refused r
 told (Passed n) = answered n
 
 -- "it tells how many entries it wrote"
-abbrev pub howMany : Answer (List ℕ) → Answer ℕ
-howMany (refused r) = refused r
-howMany (answered xs) = answered (length xs)
+abbrev pub how_many : Answer (List ℕ) → Answer ℕ
+how_many (refused r) = refused r
+how_many (answered xs) = answered (length xs)

@@ -1,11 +1,10 @@
 // The check of a tree: whether its bytes are one, and then the depths of its ranks.
 ghost use Rattle.std.specs.Prelude.{◌≡◌, ◌≤◌, length};
-ghost use Rattle.bytes_number.specs.Lent.{was};
-ghost use Rattle.table_records.specs.Records.{mostRecords};
-ghost use Rattle.table_tree.specs.Depths.{depth_of, treeGood};
-ghost use Rattle.refusal.specs.Answer.{writtenOver};
-ghost use Rattle.table_tree_check.specs.Working.{Shallow, Finds, told, howMany};
-ghost use Rattle.table_tree_check.specs.Checking.{depthsInto};
+ghost use Rattle.table_records.specs.Records.{most_records};
+ghost use Rattle.table_tree.specs.Depths.{depth_of, tree_good};
+ghost use Rattle.refusal.specs.Answer.{written_over};
+ghost use Rattle.table_tree_check.specs.Working.{Shallow, Finds, told, how_many};
+ghost use Rattle.table_tree_check.specs.Checking.{depths_into};
 
 use refusal::Refusal;
 use table_records::MOST_RECORDS;
@@ -20,7 +19,7 @@ pub enum Checked {
 // The depth of a rank, where `depths` has those of the ranks below it. A rank whose parent is among them needs no climb.
 fn depth_after(tree: &[u8], depths: &[u8], rank: u32) -> u8
     requires { (rank ≤ length depths.now) × Shallow tree.now depths.now rank }
-    ensures { result ≡ depth_of (was tree) rank }
+    ensures { result ≡ depth_of tree.now rank }
 {
     let parent = table_tree::parent_of(tree, rank);
     if parent < rank {
@@ -32,8 +31,8 @@ fn depth_after(tree: &[u8], depths: &[u8], rank: u32) -> u8
 
 // Whether the bytes are a tree, and then the depths of all its ranks, in an array that has room for as many as a tree can have.
 fn find_depths(tree: &[u8], depths: &mut [u8]) -> bool
-    requires { mostRecords ≤ length depths.old }
-    ensures { Finds (was tree) depths.new result }
+    requires { most_records ≤ length depths.old }
+    ensures { Finds tree.now depths.new result }
 {
     if !table_tree::is_whole(tree) {
         return false;
@@ -56,7 +55,7 @@ fn find_depths(tree: &[u8], depths: &mut [u8]) -> bool
 
 // Whether the bytes are a tree.
 pub fn is_tree(tree: &[u8]) -> bool
-    ensures { result ≡ treeGood (was tree) }
+    ensures { result ≡ tree_good tree.now }
 {
     let mut depths = [0u8; MOST_RECORDS];
     find_depths(tree, &mut depths)
@@ -65,7 +64,7 @@ pub fn is_tree(tree: &[u8]) -> bool
 // The tree check: 14, then 11, or the depths of all ranks, one byte each, and how many they are. They are found in an array of our own, since a
 // refusal writes nothing, and copied when nothing can be refused any more.
 pub fn check_tree(tree: &[u8], depths: &mut [u8]) -> Checked
-    ensures { (told result ≡ howMany (depthsInto (length (was depths)) (was tree))) × (depths.new ≡ writtenOver (depthsInto (length (was depths)) (was tree)) (was depths)) }
+    ensures { (told result ≡ how_many (depths_into (length depths.old) tree.now)) × (depths.new ≡ written_over (depths_into (length depths.old) tree.now) depths.old) }
 {
     let mut found = [0u8; MOST_RECORDS];
     if !find_depths(tree, &mut found) {

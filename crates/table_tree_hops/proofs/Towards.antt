@@ -6,55 +6,55 @@ use Prim.Native.Nat.{ℕ, zero, suc, ◌-◌, ◌<◌, ◌≤◌}
 use native.Mathlib.Omega.{arith}
 use lib.Dec.{eqb}
 use borrow.Author.Tests.{eq-eqb, ne_eqb, lt-ltb, le-ltb}
-use Rattle.table_tree.specs.Tree.{ranksIn, parentOf}
+use Rattle.table_tree.specs.Tree.{ranks_in, parent_of}
 use Rattle.table_tree.specs.Depths.{depth_of}
-use Rattle.table_tree_hops.specs.Towards.{isNeighbour, hop, towards}
+use Rattle.table_tree_hops.specs.Towards.{is_neighbour, hop, towards}
 
 -- ---- neighbours by the cases of the code
 
 module _ (tree : List ℕ) (a b : ℕ) where
-  pub outside-neighbour : ranksIn tree ≤ a → isNeighbour tree a b ≡ false
-  unfolding isNeighbour
-  outside-neighbour h = rw (le-ltb a (ranksIn tree) h) refl
+  pub outside_neighbour : ranks_in tree ≤ a → is_neighbour tree a b ≡ false
+  unfolding is_neighbour
+  outside_neighbour h = rw (le-ltb a (ranks_in tree) h) refl
 
-  pub neighbour-outside : a < ranksIn tree → ranksIn tree ≤ b → isNeighbour tree a b ≡ false
-  unfolding isNeighbour
-  neighbour-outside ha hb = rw (lt-ltb a (ranksIn tree) ha, le-ltb b (ranksIn tree) hb) refl
+  pub neighbour_outside : a < ranks_in tree → ranks_in tree ≤ b → is_neighbour tree a b ≡ false
+  unfolding is_neighbour
+  neighbour_outside ha hb = rw (lt-ltb a (ranks_in tree) ha, le-ltb b (ranks_in tree) hb) refl
 
-  pub parent-neighbour : a < ranksIn tree → b < ranksIn tree → parentOf tree a ≡ b → isNeighbour tree a b ≡ true
-  unfolding isNeighbour
-  parent-neighbour ha hb e = rw (lt-ltb a (ranksIn tree) ha, lt-ltb b (ranksIn tree) hb, eq-eqb (parentOf tree a) b e) refl
+  pub parent_neighbour : a < ranks_in tree → b < ranks_in tree → parent_of tree a ≡ b → is_neighbour tree a b ≡ true
+  unfolding is_neighbour
+  parent_neighbour ha hb e = rw (lt-ltb a (ranks_in tree) ha, lt-ltb b (ranks_in tree) hb, eq-eqb (parent_of tree a) b e) refl
 
-  pub child-neighbour : a < ranksIn tree → b < ranksIn tree → parentOf tree b ≡ a → isNeighbour tree a b ≡ true
-  unfolding isNeighbour
-  child-neighbour ha hb e =
-      rw (lt-ltb a (ranksIn tree) ha, lt-ltb b (ranksIn tree) hb, eq-eqb (parentOf tree b) a e) (or-true (eqb (parentOf tree a) b))
+  pub child_neighbour : a < ranks_in tree → b < ranks_in tree → parent_of tree b ≡ a → is_neighbour tree a b ≡ true
+  unfolding is_neighbour
+  child_neighbour ha hb e =
+      rw (lt-ltb a (ranks_in tree) ha, lt-ltb b (ranks_in tree) hb, eq-eqb (parent_of tree b) a e) (or-true (eqb (parent_of tree a) b))
 
-  pub other-neighbour : a < ranksIn tree → b < ranksIn tree → (parentOf tree a ≡ b → ⊥) → isNeighbour tree a b ≡ eqb (parentOf tree b) a
-  unfolding isNeighbour
-  other-neighbour ha hb h = rw (lt-ltb a (ranksIn tree) ha, lt-ltb b (ranksIn tree) hb, ne_eqb (parentOf tree a) b h) refl
+  pub other_neighbour : a < ranks_in tree → b < ranks_in tree → (parent_of tree a ≡ b → ⊥) → is_neighbour tree a b ≡ eqb (parent_of tree b) a
+  unfolding is_neighbour
+  other_neighbour ha hb h = rw (lt-ltb a (ranks_in tree) ha, lt-ltb b (ranks_in tree) hb, ne_eqb (parent_of tree a) b h) refl
 
 -- ---- a hop by its cases
 
 module _ (tree : List ℕ) (from target : ℕ) where
-  pub hop-up : (depth : ℕ) → depth ≡ 0 → hop tree depth from target ≡ parentOf tree from
+  pub hop_up : (depth : ℕ) → depth ≡ 0 → hop tree depth from target ≡ parent_of tree from
   unfolding hop
-  hop-up depth e = rw e refl
+  hop_up depth e = rw e refl
 
-  pub hop-child : (depth : ℕ) → (depth ≡ 0 → ⊥) → parentOf tree target ≡ from → hop tree depth from target ≡ target
+  pub hop_child : (depth : ℕ) → (depth ≡ 0 → ⊥) → parent_of tree target ≡ from → hop tree depth from target ≡ target
   unfolding hop
-  hop-child zero h e = absurd (h refl)
-  hop-child (suc depth) h e = rw (eq-eqb _ _ e) refl
+  hop_child zero h e = absurd (h refl)
+  hop_child (suc depth) h e = rw (eq-eqb _ _ e) refl
 
-  pub hop-suc : (depth : ℕ) → (parentOf tree target ≡ from → ⊥) → hop tree (suc depth) from target ≡ hop tree depth from (parentOf tree target)
+  pub hop_suc : (depth : ℕ) → (parent_of tree target ≡ from → ⊥) → hop tree (suc depth) from target ≡ hop tree depth from (parent_of tree target)
   unfolding hop
-  hop-suc depth e = rw (ne_eqb _ _ e) refl
+  hop_suc depth e = rw (ne_eqb _ _ e) refl
 
-  pub hop-on : (depth : ℕ) → (depth ≡ 0 → ⊥) → (parentOf tree target ≡ from → ⊥) → hop tree depth from target ≡ hop tree (depth - 1) from (parentOf tree target)
-  hop-on depth h e =
+  pub hop_on : (depth : ℕ) → (depth ≡ 0 → ⊥) → (parent_of tree target ≡ from → ⊥) → hop tree depth from target ≡ hop tree (depth - 1) from (parent_of tree target)
+  hop_on depth h e =
       let one : depth ≡ suc (depth - 1) = omega arith in
-      ap (λ (d : ℕ). hop tree d from target) one ∙ hop-suc (depth - 1) e
+      ap (λ (d : ℕ). hop tree d from target) one ∙ hop_suc (depth - 1) e
 
-  pub towards-is : towards tree from target ≡ hop tree (depth_of tree target) from target
+  pub towards_is : towards tree from target ≡ hop tree (depth_of tree target) from target
   unfolding towards
-  towards-is = refl
+  towards_is = refl

@@ -13,70 +13,70 @@ use Rattle.step_routing.specs.Routed.{Tables, Outcome, delivered, forwarded, rep
 use Rattle.step_routing.specs.declared.Stepped.{Stepped}
 use Rattle.step_routing.specs.contracts.Stepped.{the_type}
 use Rattle.step_routing.specs.declared.Stepped.TheVariants.{Forwarded}
-use Rattle.step_pass.specs.Step.{passOf, leftBy, toldAs}
+use Rattle.step_pass.specs.Step.{pass_of, left_by, told_as}
 use Rattle.walk.specs.declared.Walked.{Walked}
-use Rattle.walk.specs.Onward.{Walk, onward, restsAt, afterStep}
-use Rattle.walk.specs.WorkingPasses.{Walks, passesFrom}
+use Rattle.walk.specs.Onward.{Walk, onward, rests_at, after_step}
+use Rattle.walk.specs.WorkingPasses.{Walks, passes_from}
 
 -- the numbers of the answers at which a walk rests, as the code tells them apart: all but the third, Forwarded
-abbrev pub restingTags : List ℕ
-restingTags = 0 ∷ 1 ∷ 3 ∷ 4 ∷ 5 ∷ []
+abbrev pub resting_tags : List ℕ
+resting_tags = 0 ∷ 1 ∷ 3 ∷ 4 ∷ 5 ∷ []
 
 -- ---- what comes of a step
 
 -- a step that rests is none that forwards
-module _ {s : Stepped} (rests : OneOf restingTags (tag_of the_type s)) where
+module _ {s : Stepped} (rests : OneOf resting_tags (tag_of the_type s)) where
   never_on : {next : ℕ} → s ≡ Forwarded next → ⊥
-  never_on e = miss restingTags 2 tt (subst (λ (x : Stepped). OneOf restingTags (tag_of the_type x)) e rests)
+  never_on e = miss resting_tags 2 tt (subst (λ (x : Stepped). OneOf resting_tags (tag_of the_type x)) e rests)
 
 -- it forwards
 pub record On (answer : Answer Outcome) (next : ℕ) : Type 0 where
   pub message : Message
   pub is : answer ≡ answered (forwarded next message)
 
-pub told-on : (answer : Answer Outcome) {s : Stepped} {next : ℕ} → s ≡ toldAs answer → s ≡ Forwarded next → On answer next
-told-on (refused r) says is = absurd (let z : ◌≡◌ {A = ℕ} 0 1 = cc in omega arith)
-told-on (answered (delivered number)) says is = absurd (let z : ◌≡◌ {A = ℕ} 0 1 = cc in omega arith)
-told-on (answered (forwarded last m)) says is = record { message = m; is = cc }
-told-on (answered (replied errnum m)) says is = absurd (let z : ◌≡◌ {A = ℕ} 0 1 = cc in omega arith)
-told-on (answered (silenced errnum)) says is = absurd (let z : ◌≡◌ {A = ℕ} 0 1 = cc in omega arith)
-told-on (answered home) says is = absurd (let z : ◌≡◌ {A = ℕ} 0 1 = cc in omega arith)
+pub told_on : (answer : Answer Outcome) {s : Stepped} {next : ℕ} → s ≡ told_as answer → s ≡ Forwarded next → On answer next
+told_on (refused r) says is = absurd (let z : ◌≡◌ {A = ℕ} 0 1 = cc in omega arith)
+told_on (answered (delivered number)) says is = absurd (let z : ◌≡◌ {A = ℕ} 0 1 = cc in omega arith)
+told_on (answered (forwarded last m)) says is = record { message = m; is = cc }
+told_on (answered (replied errnum m)) says is = absurd (let z : ◌≡◌ {A = ℕ} 0 1 = cc in omega arith)
+told_on (answered (silenced errnum)) says is = absurd (let z : ◌≡◌ {A = ℕ} 0 1 = cc in omega arith)
+told_on (answered home) says is = absurd (let z : ◌≡◌ {A = ℕ} 0 1 = cc in omega arith)
 
 -- so the next broker goes on with what it left
-pub goes_on : (goOn : Broker → ℕ → List ℕ → Walk) (who : Broker) (links : ℕ) (buffer : List ℕ) (answer : Answer Outcome) {s : Stepped} {next : ℕ} {left : List ℕ} →
-    s ≡ toldAs answer → s ≡ Forwarded next → left ≡ leftBy answer buffer → afterStep goOn who links buffer answer ≡ goOn (onward next who) (links + 1) left
-goes_on goOn who links buffer answer {next = next} says is leaves =
-    let on = told-on answer says is in
-    let left = leaves ∙ ap (λ (a : Answer Outcome). leftBy a buffer) on.is in
-    ap (afterStep goOn who links buffer) on.is ∙ ap (goOn (onward next who) (links + 1)) (sym left)
+pub goes_on : (go_on : Broker → ℕ → List ℕ → Walk) (who : Broker) (links : ℕ) (buffer : List ℕ) (answer : Answer Outcome) {s : Stepped} {next : ℕ} {left : List ℕ} →
+    s ≡ told_as answer → s ≡ Forwarded next → left ≡ left_by answer buffer → after_step go_on who links buffer answer ≡ go_on (onward next who) (links + 1) left
+goes_on go_on who links buffer answer {next = next} says is leaves =
+    let on = told_on answer says is in
+    let left = leaves ∙ ap (λ (a : Answer Outcome). left_by a buffer) on.is in
+    ap (after_step go_on who links buffer) on.is ∙ ap (go_on (onward next who) (links + 1)) (sym left)
 
 -- it does not: the walk rests there
-pub rests-here : (goOn : Broker → ℕ → List ℕ → Walk) (who : Broker) (links : ℕ) (buffer : List ℕ) (answer : Answer Outcome) {s : Stepped} {left : List ℕ} →
-    s ≡ toldAs answer → OneOf restingTags (tag_of the_type s) → left ≡ leftBy answer buffer →
-    Walks (afterStep goOn who links buffer answer) (record { step = s; rank = who.rank; links = links }) left
-rests-here goOn who links buffer (refused r) says rests leaves = record { told = λ i. record { step = says i; rank = who.rank; links = links }; leaves = leaves }
-rests-here goOn who links buffer (answered (delivered number)) says rests leaves = record { told = λ i. record { step = says i; rank = who.rank; links = links }; leaves = leaves }
-rests-here goOn who links buffer (answered (forwarded next m)) says rests leaves = absurd (never_on rests says)
-rests-here goOn who links buffer (answered (replied errnum m)) says rests leaves = record { told = λ i. record { step = says i; rank = who.rank; links = links }; leaves = leaves }
-rests-here goOn who links buffer (answered (silenced errnum)) says rests leaves = record { told = λ i. record { step = says i; rank = who.rank; links = links }; leaves = leaves }
-rests-here goOn who links buffer (answered home) says rests leaves = record { told = λ i. record { step = says i; rank = who.rank; links = links }; leaves = leaves }
+pub rests_here : (go_on : Broker → ℕ → List ℕ → Walk) (who : Broker) (links : ℕ) (buffer : List ℕ) (answer : Answer Outcome) {s : Stepped} {left : List ℕ} →
+    s ≡ told_as answer → OneOf resting_tags (tag_of the_type s) → left ≡ left_by answer buffer →
+    Walks (after_step go_on who links buffer answer) (record { step = s; rank = who.rank; links = links }) left
+rests_here go_on who links buffer (refused r) says rests leaves = record { told = λ i. record { step = says i; rank = who.rank; links = links }; leaves = leaves }
+rests_here go_on who links buffer (answered (delivered number)) says rests leaves = record { told = λ i. record { step = says i; rank = who.rank; links = links }; leaves = leaves }
+rests_here go_on who links buffer (answered (forwarded next m)) says rests leaves = absurd (never_on rests says)
+rests_here go_on who links buffer (answered (replied errnum m)) says rests leaves = record { told = λ i. record { step = says i; rank = who.rank; links = links }; leaves = leaves }
+rests_here go_on who links buffer (answered (silenced errnum)) says rests leaves = record { told = λ i. record { step = says i; rank = who.rank; links = links }; leaves = leaves }
+rests_here go_on who links buffer (answered home) says rests leaves = record { told = λ i. record { step = says i; rank = who.rank; links = links }; leaves = leaves }
 
 -- ---- a turn of the passes
 
 module _ (t : Tables) (who : Broker) (links : ℕ) (buffer : List ℕ) where
-  pub pass-turn : (n : ℕ) → 0 < n → passesFrom n t who links buffer ≡ afterStep (passesFrom (n - 1) t) who links buffer (passOf t who buffer)
-  unfolding passesFrom
-  pass-turn zero h = absurd (omega arith)
-  pass-turn (suc n) h = ap (λ (k : ℕ). afterStep (passesFrom k t) who links buffer (passOf t who buffer)) (less n)
+  pub pass_turn : (n : ℕ) → 0 < n → passes_from n t who links buffer ≡ after_step (passes_from (n - 1) t) who links buffer (pass_of t who buffer)
+  unfolding passes_from
+  pass_turn zero h = absurd (omega arith)
+  pass_turn (suc n) h = ap (λ (k : ℕ). after_step (passes_from k t) who links buffer (pass_of t who buffer)) (less n)
     where
       less : (n : ℕ) → n ≡ suc n - 1
       less n = omega arith
 
-  pub pass-out : (n : ℕ) → n ≡ 0 → passesFrom n t who links buffer ≡ restsAt (refused ForwardLong) who links buffer
-  unfolding passesFrom
-  pass-out zero e = refl
-  pass-out (suc n) e = absurd (omega arith)
+  pub pass_out : (n : ℕ) → n ≡ 0 → passes_from n t who links buffer ≡ rests_at (refused ForwardLong) who links buffer
+  unfolding passes_from
+  pass_out zero e = refl
+  pass_out (suc n) e = absurd (omega arith)
 
 -- a walk that is equal to another says and leaves the same
-pub walks-as : {w v : Walk} {r : Walked} {left : List ℕ} → w ≡ v → Walks v r left → Walks w r left
-walks-as {r = r} {left} e x = subst⁻¹ (λ (u : Walk). Walks u r left) e x
+pub walks_as : {w v : Walk} {r : Walked} {left : List ℕ} → w ≡ v → Walks v r left → Walks w r left
+walks_as {r = r} {left} e x = subst⁻¹ (λ (u : Walk). Walks u r left) e x

@@ -6,30 +6,30 @@ use Prim.Native.Nat.{ℕ, zero, suc, ◌+◌, ◌-◌, ◌<◌, ◌≤◌}
 use mathlib.Core.List.{List, [], ◌∷◌}
 use native.Mathlib.Omega.{arith}
 use lib.ListN.{length, get_or, drop}
-use Rattle.bytes_number.proofs.Truth.{true-false}
+use Rattle.bytes_number.proofs.Truth.{true_false}
 use Rattle.bytes_number.specs.Number.{Bytes}
 use Rattle.refusal.specs.Answer.{Answer, refused, answered}
 use Rattle.frame_message.specs.Message.{Message}
 use Rattle.frame_message.specs.Frame.{frame_of}
 use Rattle.frame_message.specs.Reading.{reading_of, final}
-use Rattle.refusal.proofs.Answers.{answered-same}
-use Rattle.frame_message.proofs.Forms.{routes-few}
-use Rattle.table_identities.specs.Identities.{identityAt}
+use Rattle.refusal.proofs.Answers.{answered_same}
+use Rattle.frame_message.proofs.Forms.{routes_few}
+use Rattle.table_identities.specs.Identities.{identity_at}
 use Rattle.frame_rewrite.specs.Renewed.{cleared}
 use Rattle.step_routing.specs.declared.Broker.{Broker}
 use Rattle.step_routing.specs.Routed.{Tables, Outcome, delivered, forwarded, replied, silenced, home}
-use Rattle.step_pass.specs.Step.{step_of, leftBy}
-use Rattle.step_pass.proofs.Passing.{step-took}
-use Rattle.step_pass.proofs.Keeping.{Sound, sound-read, read-cleared, passes, pushed-few}
-use Rattle.step_pass.proofs.Forwarding.{PushedOn, PoppedOn, goes_on, on-sound}
-use Rattle.walk.specs.Walk.{Walk, onward, restsAt, afterStep, walkFrom}
+use Rattle.step_pass.specs.Step.{step_of, left_by}
+use Rattle.step_pass.proofs.Passing.{step_took}
+use Rattle.step_pass.proofs.Keeping.{Sound, sound_read, read_cleared, passes, pushed_few}
+use Rattle.step_pass.proofs.Forwarding.{PushedOn, PoppedOn, goes_on, on_sound}
+use Rattle.walk.specs.Walk.{Walk, onward, rests_at, after_step, walk_from}
 use Rattle.walk.specs.Runs.{is_forward, Run, rests, goes, IsRun}
 use Rattle.walk.proofs.Walking.{walk_turn}
 
 -- a run has a broker
-pub run-some : {t : Tables} {b : Broker} {buffer ranks left : List ℕ} {answer : Answer Outcome} → Run t b buffer ranks answer left → 1 ≤ length ranks
-run-some (rests b buffer answer e n) = omega arith
-run-some (goes b buffer next m ranks answer left e r) = omega arith
+pub run_some : {t : Tables} {b : Broker} {buffer ranks left : List ℕ} {answer : Answer Outcome} → Run t b buffer ranks answer left → 1 ≤ length ranks
+run_some (rests b buffer answer e n) = omega arith
+run_some (goes b buffer next m ranks answer left e r) = omega arith
 
 -- and ends otherwise than with 2
 pub run_ends : {t : Tables} {b : Broker} {buffer ranks left : List ℕ} {answer : Answer Outcome} → Run t b buffer ranks answer left → is_forward answer ≡ false
@@ -37,9 +37,9 @@ run_ends (rests b buffer answer e n) = n
 run_ends (goes b buffer next m ranks answer left e r) = run_ends r
 
 -- the last of a longer list is the last of the rest
-pub final-more : (r : ℕ) (rs : List ℕ) → 1 ≤ length rs → final 0 (r ∷ rs) ≡ final 0 rs
-final-more r [] h = absurd (omega arith)
-final-more r (s ∷ rs) h =
+pub final_more : (r : ℕ) (rs : List ℕ) → 1 ≤ length rs → final 0 (r ∷ rs) ≡ final 0 rs
+final_more r [] h = absurd (omega arith)
+final_more r (s ∷ rs) h =
     let n = length rs in
     let one : suc (suc n) - 1 ≡ suc n = omega arith in
     let two : n ≡ suc n - 1 = omega arith in
@@ -47,30 +47,30 @@ final-more r (s ∷ rs) h =
 
 -- ---- a run is a walk
 
-rest-after : (goOn : Broker → ℕ → List ℕ → Walk) (b : Broker) (links : ℕ) (buffer : List ℕ) (answer : Answer Outcome) → is_forward answer ≡ false →
-    afterStep goOn b links buffer answer ≡ restsAt answer b links buffer
-rest-after goOn b links buffer (refused r) e = refl
-rest-after goOn b links buffer (answered (delivered number)) e = refl
-rest-after goOn b links buffer (answered (forwarded next m)) e = absurd (true-false e)
-rest-after goOn b links buffer (answered (replied errnum m)) e = refl
-rest-after goOn b links buffer (answered (silenced errnum)) e = refl
-rest-after goOn b links buffer (answered home) e = refl
+rest_after : (go_on : Broker → ℕ → List ℕ → Walk) (b : Broker) (links : ℕ) (buffer : List ℕ) (answer : Answer Outcome) → is_forward answer ≡ false →
+    after_step go_on b links buffer answer ≡ rests_at answer b links buffer
+rest_after go_on b links buffer (refused r) e = refl
+rest_after go_on b links buffer (answered (delivered number)) e = refl
+rest_after go_on b links buffer (answered (forwarded next m)) e = absurd (true_false e)
+rest_after go_on b links buffer (answered (replied errnum m)) e = refl
+rest_after go_on b links buffer (answered (silenced errnum)) e = refl
+rest_after go_on b links buffer (answered home) e = refl
 
 -- what a walk comes to by the run of its steps, with so many links behind it
-abbrev pub cameTo : Answer Outcome → List ℕ → ℕ → List ℕ → Walk
-cameTo answer ranks links left = record { answer = answer; rank = final 0 ranks; links = links + (length ranks - 1); left = left }
+abbrev pub came_to : Answer Outcome → List ℕ → ℕ → List ℕ → Walk
+came_to answer ranks links left = record { answer = answer; rank = final 0 ranks; links = links + (length ranks - 1); left = left }
 
-pub run-walk : {t : Tables} {b : Broker} {buffer ranks left : List ℕ} {answer : Answer Outcome} → Run t b buffer ranks answer left →
-    (n links : ℕ) → length ranks ≤ n → walkFrom n t b links buffer ≡ cameTo answer ranks links left
-run-walk {t} (rests b buffer answer e stops) n links h =
+pub run_walk : {t : Tables} {b : Broker} {buffer ranks left : List ℕ} {answer : Answer Outcome} → Run t b buffer ranks answer left →
+    (n links : ℕ) → length ranks ≤ n → walk_from n t b links buffer ≡ came_to answer ranks links left
+run_walk {t} (rests b buffer answer e stops) n links h =
     let none : links ≡ links + (1 - 1) = omega arith in
-    walk_turn t b links buffer n (omega arith) ∙ ap (afterStep (walkFrom (n - 1) t) b links buffer) e ∙ rest-after (walkFrom (n - 1) t) b links buffer answer stops
-    ∙ (λ i. record { answer = answer; rank = b.rank; links = none i; left = leftBy answer buffer })
-run-walk {t} (goes b buffer next m ranks answer left e r) n links h =
-    let some = run-some r in
+    walk_turn t b links buffer n (omega arith) ∙ ap (after_step (walk_from (n - 1) t) b links buffer) e ∙ rest_after (walk_from (n - 1) t) b links buffer answer stops
+    ∙ (λ i. record { answer = answer; rank = b.rank; links = none i; left = left_by answer buffer })
+run_walk {t} (goes b buffer next m ranks answer left e r) n links h =
+    let some = run_some r in
     let more : links + 1 + (length ranks - 1) ≡ links + (suc (length ranks) - 1) = omega arith in
-    let last : final 0 ranks ≡ final 0 (b.rank ∷ ranks) = sym (final-more b.rank ranks some) in
-    walk_turn t b links buffer n (omega arith) ∙ ap (afterStep (walkFrom (n - 1) t) b links buffer) e ∙ run-walk r (n - 1) (links + 1) (omega arith)
+    let last : final 0 ranks ≡ final 0 (b.rank ∷ ranks) = sym (final_more b.rank ranks some) in
+    walk_turn t b links buffer n (omega arith) ∙ ap (after_step (walk_from (n - 1) t) b links buffer) e ∙ run_walk r (n - 1) (links + 1) (omega arith)
     ∙ (λ i. record { answer = answer; rank = last i; links = more i; left = left })
 
 -- ---- a walk is a run
@@ -94,14 +94,14 @@ record Ends (t : Tables) (b : Broker) (buffer : List ℕ) (n : ℕ) : Type 0 whe
   pub few : length ranks ≤ n
 
 -- a message that goes on needs one step fewer
-enough-on : (t : Tables) (b : Broker) (m new : Message) (n : ℕ) → Enough m (suc n) → PushedOn t b m new ⊎ PoppedOn m new → Enough new n
-enough-on t b m new n e on = ⊎_elim grows shrinks on
+enough_on : (t : Tables) (b : Broker) (m new : Message) (n : ℕ) → Enough m (suc n) → PushedOn t b m new ⊎ PoppedOn m new → Enough new n
+enough_on t b m new n e on = ⊎_elim grows shrinks on
   where
     grows : PushedOn t b m new → Enough new n
     grows p =
         let routes : length new.routes ≡ suc (length m.routes) = ap (λ (x : Message). length x.routes) p.same in
         let kind : new.header.kind ≡ 1 = ap (λ (x : Message). x.header.kind) p.same ∙ p.type in
-        let most = pushed-few (identityAt t.identities b.rank) m p.small in
+        let most = pushed_few (identity_at t.identities b.rank) m p.small in
         let before = e.request p.type in
         record { some = omega arith; request = λ k. omega arith; response = λ k. absurd (omega arith) }
 
@@ -116,16 +116,16 @@ enough-on t b m new n e on = ⊎_elim grows shrinks on
 -- one step more, where the rest ends
 module _ (n : ℕ) (t : Tables) (again : (b : Broker) (buffer : List ℕ) → Settles buffer n → Ends t b buffer n) (b : Broker) (buffer : List ℕ) (s : Settles buffer (suc n)) where
   stops : (answer : Answer Outcome) → step_of t b buffer ≡ answer → is_forward answer ≡ false → Ends t b buffer (suc n)
-  stops answer e f = record { ranks = b.rank ∷ []; answer = answer; left = leftBy answer buffer; run = rests b buffer answer e f; few = omega arith }
+  stops answer e f = record { ranks = b.rank ∷ []; answer = answer; left = left_by answer buffer; run = rests b buffer answer e f; few = omega arith }
 
   goes_further : (next : ℕ) (m : Message) → step_of t b buffer ≡ answered (forwarded next m) → Ends t b buffer (suc n)
   goes_further next m e =
-      let took = step-took t b buffer (forwarded next m) e in
+      let took = step_took t b buffer (forwarded next m) e in
       let known = s.1 took.message took.read in
-      let sound = on-sound t b took.message next m took.identities took.inside known.0 took.does in
-      let fewer = enough-on t b took.message m n known.1 (goes_on t b took.message next m took.does) in
-      let read = read-cleared m sound buffer in
-      let same : (x : Message) → reading_of (cleared (frame_of m) buffer) ≡ answered x → m ≡ x = λ x r. answered-same (sym read ∙ r) in
+      let sound = on_sound t b took.message next m took.identities took.inside known.0 took.does in
+      let fewer = enough_on t b took.message m n known.1 (goes_on t b took.message next m took.does) in
+      let read = read_cleared m sound buffer in
+      let same : (x : Message) → reading_of (cleared (frame_of m) buffer) ≡ answered x → m ≡ x = λ x r. answered_same (sym read ∙ r) in
       let rest =
       again (onward next b) (cleared (frame_of m) buffer)
       (fewer.some, λ x r. (subst (λ (y : Message). Sound y) (same x r) sound, subst (λ (y : Message). Enough y n) (same x r) fewer)) in
@@ -154,20 +154,20 @@ settles : (buffer : List ℕ) → Bytes buffer → Settles buffer 65
 settles buffer bytes = (
   omega arith,
   λ m e.
-      let sound = sound-read buffer m bytes e in
-      let few = routes-few m.routes (passes m sound).routes in
+      let sound = sound_read buffer m bytes e in
+      let few = routes_few m.routes (passes m sound).routes in
       (sound, record { some = omega arith; request = λ k. omega arith; response = λ k. omega arith }),
 )
 
 -- so a walk is a run, and more steps would change nothing
-pub walk-is-run : (t : Tables) (b : Broker) (buffer : List ℕ) → Bytes buffer → (more : ℕ) → IsRun t b buffer (walkFrom (65 + more) t b 0 buffer)
-walk-is-run t b buffer bytes more =
+pub walk_is_run : (t : Tables) (b : Broker) (buffer : List ℕ) → Bytes buffer → (more : ℕ) → IsRun t b buffer (walk_from (65 + more) t b 0 buffer)
+walk_is_run t b buffer bytes more =
     let end = ends 65 t b buffer (settles buffer bytes) in
-    let came = run-walk end.run (65 + more) 0 (omega (arith, end.few)) in
+    let came = run_walk end.run (65 + more) 0 (omega (arith, end.few)) in
     subst⁻¹ (λ (w : Walk). IsRun t b buffer w) came
     (record { ranks = end.ranks; run = end.run; ended = run_ends end.run; last = refl; links = omega arith })
 
-pub walk-settles : (t : Tables) (b : Broker) (buffer : List ℕ) → Bytes buffer → (more : ℕ) → walkFrom (65 + more) t b 0 buffer ≡ walkFrom 65 t b 0 buffer
-walk-settles t b buffer bytes more =
+pub walk_settles : (t : Tables) (b : Broker) (buffer : List ℕ) → Bytes buffer → (more : ℕ) → walk_from (65 + more) t b 0 buffer ≡ walk_from 65 t b 0 buffer
+walk_settles t b buffer bytes more =
     let end = ends 65 t b buffer (settles buffer bytes) in
-    run-walk end.run (65 + more) 0 (omega (arith, end.few)) ∙ sym (run-walk end.run 65 0 end.few)
+    run_walk end.run (65 + more) 0 (omega (arith, end.few)) ∙ sym (run_walk end.run 65 0 end.few)

@@ -4,7 +4,7 @@ use Rattle.std.specs.Prelude.{ℕ, ◌+◌, List}
 use Rattle.refusal.specs.Answer.{Answer, refused, answered}
 use Rattle.step_routing.specs.declared.Broker.{Broker}
 use Rattle.step_routing.specs.Routed.{Outcome, delivered, forwarded, replied, silenced, home}
-use Rattle.step_pass.specs.Step.{leftAfter, leftBy}
+use Rattle.step_pass.specs.Step.{left_after, left_by}
 
 -- what a walk comes to: the last step's answer or refusal, the rank of the broker that made it, the links crossed, and what is left in the buffer
 pub record Walk : Type 0 where
@@ -18,14 +18,14 @@ abbrev pub onward : ℕ → Broker → Broker
 onward next b = record { rank = next; userid = b.userid; rolemask = b.rolemask }
 
 -- a walk ends with a step's answer other than 2, or a refusal
-abbrev pub restsAt : Answer Outcome → Broker → ℕ → List ℕ → Walk
-restsAt answer b links buffer = record { answer = answer; rank = b.rank; links = links; left = leftBy answer buffer }
+abbrev pub rests_at : Answer Outcome → Broker → ℕ → List ℕ → Walk
+rests_at answer b links buffer = record { answer = answer; rank = b.rank; links = links; left = left_by answer buffer }
 
 -- what comes of a step's answer: after 2 the broker that it names goes on with what was left, and otherwise the walk rests
-abbrev pub afterStep : (Broker → ℕ → List ℕ → Walk) → Broker → ℕ → List ℕ → Answer Outcome → Walk
-afterStep goOn b links buffer (refused r) = restsAt (refused r) b links buffer
-afterStep goOn b links buffer (answered (delivered number)) = restsAt (answered (delivered number)) b links buffer
-afterStep goOn b links buffer (answered (forwarded next m)) = goOn (onward next b) (links + 1) (leftAfter (forwarded next m) buffer)
-afterStep goOn b links buffer (answered (replied errnum m)) = restsAt (answered (replied errnum m)) b links buffer
-afterStep goOn b links buffer (answered (silenced errnum)) = restsAt (answered (silenced errnum)) b links buffer
-afterStep goOn b links buffer (answered home) = restsAt (answered home) b links buffer
+abbrev pub after_step : (Broker → ℕ → List ℕ → Walk) → Broker → ℕ → List ℕ → Answer Outcome → Walk
+after_step go_on b links buffer (refused r) = rests_at (refused r) b links buffer
+after_step go_on b links buffer (answered (delivered number)) = rests_at (answered (delivered number)) b links buffer
+after_step go_on b links buffer (answered (forwarded next m)) = go_on (onward next b) (links + 1) (left_after (forwarded next m) buffer)
+after_step go_on b links buffer (answered (replied errnum m)) = rests_at (answered (replied errnum m)) b links buffer
+after_step go_on b links buffer (answered (silenced errnum)) = rests_at (answered (silenced errnum)) b links buffer
+after_step go_on b links buffer (answered home) = rests_at (answered home) b links buffer

@@ -6,7 +6,7 @@ use Rattle.frame_message.specs.Message.{Message}
 use Rattle.frame_message.specs.Reading.{final}
 use Rattle.step_routing.specs.declared.Broker.{Broker}
 use Rattle.step_routing.specs.Routed.{Tables, Outcome, delivered, forwarded, replied, silenced, home}
-use Rattle.step_pass.specs.Step.{step_of, leftAfter, leftBy}
+use Rattle.step_pass.specs.Step.{step_of, left_after, left_by}
 use Rattle.walk.specs.Walk.{onward, Walk}
 
 -- answer 2
@@ -22,10 +22,10 @@ is_forward (answered home) = false
 pub data Run (t : Tables) : Broker → List ℕ → List ℕ → Answer Outcome → List ℕ → Type 0 where
   rests :
       (b : Broker) (buffer : List ℕ) (answer : Answer Outcome) → step_of t b buffer ≡ answer → is_forward answer ≡ false →
-      Run t b buffer (b.rank ∷ []) answer (leftBy answer buffer)
+      Run t b buffer (b.rank ∷ []) answer (left_by answer buffer)
   goes :
       (b : Broker) (buffer : List ℕ) (next : ℕ) (m : Message) (ranks : List ℕ) (answer : Answer Outcome) (left : List ℕ) →
-      step_of t b buffer ≡ answered (forwarded next m) → Run t (onward next b) (leftAfter (forwarded next m) buffer) ranks answer left →
+      step_of t b buffer ≡ answered (forwarded next m) → Run t (onward next b) (left_after (forwarded next m) buffer) ranks answer left →
       Run t b buffer (b.rank ∷ ranks) answer left
 
 -- what a walk comes to is what a run of steps comes to: it ends with an answer other than 2 or a refusal, at the last broker of the run; "the links

@@ -1,5 +1,4 @@
 // A walk through the tables: steps one after another, until a broker does something else with the message than forward it.
-ghost use Rattle.bytes_number.specs.Lent.{was};
 ghost use Rattle.step_routing.specs.Routed.{tables_of};
 ghost use Rattle.walk.specs.Walk.{walk_of};
 ghost use Rattle.walk.specs.WorkingPasses.{Walks};
@@ -22,7 +21,7 @@ const LEAST: usize = 32776;
 
 // A walk that begins at a broker: 11 for a short buffer before all else, then the steps. The first of them checks the tables.
 pub fn walk(tree: &[u8], services: &[u8], identities: &[u8], b: Broker, buffer: &mut [u8]) -> Walked
-    ensures { Walks (walk_of (tables_of (was tree) (was services) (was identities)) b (was buffer)) result buffer.new }
+    ensures { Walks (walk_of (tables_of tree.now services.now identities.now) b buffer.old) result buffer.new }
 {
     if buffer.len() < LEAST {
         return Walked {

@@ -1,8 +1,7 @@
 // A walk behind its first link: one broker's pass after another, until a broker does something else with the message than forward it.
-ghost use Rattle.bytes_number.specs.Lent.{was};
 ghost use Rattle.step_routing.specs.Routed.{tables_of};
 ghost use Rattle.walk.specs.Onward.{onward};
-ghost use Rattle.walk.specs.WorkingPasses.{Walks, passesFrom};
+ghost use Rattle.walk.specs.WorkingPasses.{Walks, passes_from};
 
 use crate::Walked;
 use refusal::Refusal;
@@ -20,7 +19,7 @@ pub(crate) fn go_on(
     b: Broker,
     buffer: &mut [u8],
 ) -> Walked
-    ensures { Walks (passesFrom 64 (tables_of (was tree) (was services) (was identities)) (onward first b) 1 (was buffer)) result buffer.new }
+    ensures { Walks (passes_from 64 (tables_of tree.now services.now identities.now) (onward first b) 1 buffer.old) result buffer.new }
 {
     let mut rank = first;
     let mut links: u32 = 1;

@@ -1,20 +1,20 @@
 -- "The path that a request takes. Own definition, without the step": lists of ranks, from chains of parents alone.
 use Rattle.std.specs.Prelude.{ℕ, zero, suc, ◌-◌, max, Bool, true, false, cond, ◌||◌, List, [], ◌∷◌, ◌++◌, reverse, eqb, ltb, length}
 use Rattle.frame_message.specs.declared.Header.{Header}
-use Rattle.frame_message.specs.Header.{isUpstream}
+use Rattle.frame_message.specs.Header.{is_upstream}
 use Rattle.frame_message.specs.Reading.{final}
 use Rattle.table_records.specs.declared.Found.{Found}
 use Rattle.table_records.specs.declared.Found.TheVariants.{At, Nothing}
-use Rattle.table_tree.specs.Tree.{ranksIn, parentOf}
+use Rattle.table_tree.specs.Tree.{ranks_in, parent_of}
 use Rattle.table_tree.specs.Depths.{depth_of}
-use Rattle.table_services_find.specs.Lookup.{serviceOf, registeredAs}
+use Rattle.table_services_find.specs.Lookup.{service_of, registered_as}
 
 -- ---- chains of parents
 
 -- a rank and the so many parents above it
 unfoldable pub climbed : List ℕ → ℕ → ℕ → List ℕ
 climbed tree zero r = r ∷ []
-climbed tree (suc n) r = r ∷ climbed tree n (parentOf tree r)
+climbed tree (suc n) r = r ∷ climbed tree n (parent_of tree r)
 
 -- a rank, its parent, and so on up to rank 0, which is as many parents above it as it is deep
 unfoldable pub chain : List ℕ → ℕ → List ℕ
@@ -32,36 +32,36 @@ unfoldable pub below : ℕ → List ℕ → List ℕ
 below r [] = []
 below r (s ∷ rs) = cond (eqb s r) [] (s ∷ below r rs)
 
-unfoldable pub isIn : ℕ → List ℕ → Bool
-isIn r [] = false
-isIn r (s ∷ rs) = eqb s r || isIn r rs
+unfoldable pub is_in : ℕ → List ℕ → Bool
+is_in r [] = false
+is_in r (s ∷ rs) = eqb s r || is_in r rs
 
 -- ---- the brokers of a path
 
 -- "registers the service": the record that does it at a rank, or none
-abbrev pub recordOf : List ℕ → List ℕ → ℕ → Found
-recordOf services topic r = registeredAs services r (serviceOf topic)
+abbrev pub record_of : List ℕ → List ℕ → ℕ → Found
+record_of services topic r = registered_as services r (service_of topic)
 
-abbrev pub isFound : Found → Bool
-isFound (At number) = true
-isFound Nothing = false
+abbrev pub is_found : Found → Bool
+is_found (At number) = true
+is_found Nothing = false
 
 -- "registers the service and is not the named rank" (paper 02, ticket 3): the same, but that the named rank is skipped
 abbrev pub served_at : List ℕ → List ℕ → ℕ → ℕ → Found
-served_at services topic named r = cond (eqb r named) Nothing (recordOf services topic r)
+served_at services topic named r = cond (eqb r named) Nothing (record_of services topic r)
 
 -- "from the entry up to the nearest broker, itself included, that registers the service, else up to rank 0", by what a broker serves
-unfoldable pub upPath : List ℕ → (ℕ → Found) → ℕ → List ℕ
-upPath tree serves entry = up_to (λ r. isFound (serves r)) (chain tree entry)
+unfoldable pub up_path : List ℕ → (ℕ → Found) → ℕ → List ℕ
+up_path tree serves entry = up_to (λ r. is_found (serves r)) (chain tree entry)
 
 -- "the lowest common ancestor": the first in the chain of the one that is in the chain of the other
-unfoldable pub commonAncestor : List ℕ → ℕ → ℕ → ℕ
-commonAncestor tree a b = final 0 (up_to (λ r. isIn r (chain tree b)) (chain tree a))
+unfoldable pub common_ancestor : List ℕ → ℕ → ℕ → ℕ
+common_ancestor tree a b = final 0 (up_to (λ r. is_in r (chain tree b)) (chain tree a))
 
 -- "up to the lowest common ancestor and down to the target"
-unfoldable pub rankPath : List ℕ → ℕ → ℕ → List ℕ
-rankPath tree entry target =
-    let top = commonAncestor tree entry target in
+unfoldable pub rank_path : List ℕ → ℕ → ℕ → List ℕ
+rank_path tree entry target =
+    let top = common_ancestor tree entry target in
     below top (chain tree entry) ++ (top ∷ reverse (below top (chain tree target)))
 
 -- ---- the path and its end
@@ -89,28 +89,28 @@ abbrev pub stopping : ℕ → ℕ → Path
 stopping entry errnum = record { brokers = entry ∷ []; end = fails errnum }
 
 -- "for nodeid 4294967295, ..": any rank
-abbrev pub anyPath : List ℕ → List ℕ → List ℕ → ℕ → Path
-anyPath tree services topic entry = ending (recordOf services topic) (upPath tree (recordOf services topic) entry)
+abbrev pub any_path : List ℕ → List ℕ → List ℕ → ℕ → Path
+any_path tree services topic entry = ending (record_of services topic) (up_path tree (record_of services topic) entry)
 
 -- Another nodeid, upstream set: "from the entry up to the nearest broker, itself included, that registers the service and is not the named rank, else to
 -- rank 0, where the error is 38" (paper 02, ticket 3)
-abbrev pub upstreamPath : List ℕ → List ℕ → List ℕ → ℕ → ℕ → Path
-upstreamPath tree services topic entry named = ending (served_at services topic named) (upPath tree (served_at services topic named) entry)
+abbrev pub upstream_path : List ℕ → List ℕ → List ℕ → ℕ → ℕ → Path
+upstream_path tree services topic entry named = ending (served_at services topic named) (up_path tree (served_at services topic named) entry)
 
 -- "Another nodeid, upstream clear: up to the lowest common ancestor and down to the target; if it is not in the tree, error 113 on 0 links."
-abbrev pub targetPath : List ℕ → List ℕ → List ℕ → ℕ → ℕ → Path
-targetPath tree services topic entry target =
-    cond (ltb target (ranksIn tree)) (ending (recordOf services topic) (rankPath tree entry target)) (stopping entry 113)
+abbrev pub target_path : List ℕ → List ℕ → List ℕ → ℕ → ℕ → Path
+target_path tree services topic entry target =
+    cond (ltb target (ranks_in tree)) (ending (record_of services topic) (rank_path tree entry target)) (stopping entry 113)
 
 -- the path of a request with this header and topic that enters at a rank
-unfoldable pub pathOf : List ℕ → List ℕ → ℕ → Header → List ℕ → Path
-pathOf tree services entry h topic =
-    cond (eqb h.first 4294967295) (anyPath tree services topic entry)
-    (cond (isUpstream h.flags) (upstreamPath tree services topic entry h.first) (targetPath tree services topic entry h.first))
+unfoldable pub path_of : List ℕ → List ℕ → ℕ → Header → List ℕ → Path
+path_of tree services entry h topic =
+    cond (eqb h.first 4294967295) (any_path tree services topic entry)
+    (cond (is_upstream h.flags) (upstream_path tree services topic entry h.first) (target_path tree services topic entry h.first))
 
 -- "Links are the brokers on the path less one."
-abbrev pub linksOf : Path → ℕ
-linksOf p = length p.brokers - 1
+abbrev pub links_of : Path → ℕ
+links_of p = length p.brokers - 1
 
 -- ---- the tree's depth
 
@@ -120,5 +120,5 @@ deepest tree zero = 0
 deepest tree (suc n) = max (deepest tree n) (depth_of tree n)
 
 -- "The tree's depth is its largest depth."
-unfoldable pub treeDepth : List ℕ → ℕ
-treeDepth tree = deepest tree (ranksIn tree)
+unfoldable pub tree_depth : List ℕ → ℕ
+tree_depth tree = deepest tree (ranks_in tree)

@@ -2,13 +2,13 @@
 use Rattle.std.specs.Prelude.{◌≡◌, true, cond, ℕ, ◌-◌, List, [], ◌∷◌, ◌++◌, map, length, replicate}
 use Prim.Native.Char.{code}
 use Prim.Native.String.{String, [] as end-of-text, ◌∷◌ as ◌then◌}
-use Rattle.bytes_number.specs.Number.{four, rowBytes}
+use Rattle.bytes_number.specs.Number.{four, row_bytes}
 use Rattle.frame_message.specs.declared.Header.{Header}
-use Rattle.frame_message.specs.Header.{noResponse}
+use Rattle.frame_message.specs.Header.{no_response}
 use Rattle.frame_message.specs.Reading.{final}
-use Rattle.table_tree.specs.Depths.{treeGood}
-use Rattle.table_services.specs.Services.{longestName, servicesGood}
-use Rattle.walk_path.specs.Path.{End, delivers, fails, pathOf, linksOf}
+use Rattle.table_tree.specs.Depths.{tree_good}
+use Rattle.table_services.specs.Services.{longest_name, services_good}
+use Rattle.walk_path.specs.Path.{End, delivers, fails, path_of, links_of}
 
 -- a text's characters, which are ASCII here, as bytes
 abbrev pub bytes : String → List ℕ
@@ -21,15 +21,15 @@ abbrev pub none : ℕ
 none = 4294967295
 
 -- "4 bytes a rank, the parent"
-abbrev pub floorTree : List ℕ
-floorTree = rowBytes (none ∷ 0 ∷ 0 ∷ 1 ∷ 1 ∷ 2 ∷ 2 ∷ [])
+abbrev pub floor_tree : List ℕ
+floor_tree = row_bytes (none ∷ 0 ∷ 0 ∷ 1 ∷ 1 ∷ 2 ∷ 2 ∷ [])
 
 -- "rank (4), name length 1 to 27 (1), name .., zero padding"
 abbrev pub service : ℕ → List ℕ → List ℕ
-service rank name = four rank ++ (length name ∷ []) ++ name ++ replicate (longestName - length name) 0
+service rank name = four rank ++ (length name ∷ []) ++ name ++ replicate (longest_name - length name) 0
 
-abbrev pub floorServices : List ℕ
-floorServices = service 1 (bytes "bench") ++ service 4 (bytes "bench") ++ service 0 (bytes "log")
+abbrev pub floor_services : List ℕ
+floor_services = service 1 (bytes "bench") ++ service 4 (bytes "bench") ++ service 0 (bytes "log")
 
 -- ---- a row of the table
 
@@ -40,9 +40,9 @@ pub data Told : Type 0 where
   silenced : ℕ → Told
 
 -- the result of a path's end: an error is silenced where noresponse is set
-abbrev pub toldOf : ℕ → End → Told
-toldOf flags (delivers number) = delivered number
-toldOf flags (fails errnum) = cond (noResponse flags) (silenced errnum) (failed errnum)
+abbrev pub told_of : ℕ → End → Told
+told_of flags (delivers number) = delivered number
+told_of flags (fails errnum) = cond (no_response flags) (silenced errnum) (failed errnum)
 
 -- what enters, and how and where it ends
 pub data Row : Type 0 where
@@ -85,13 +85,13 @@ abbrev pub header : ℕ → ℕ → Header
 header nodeid flags = record { kind = 1; flags = flags; userid = none; rolemask = 0; first = nodeid; second = 1 }
 
 -- a row with its end, rank and links by the path of its request
-abbrev pub byPath : Row → Row
-byPath (walk entry nodeid flags topic told rank links) =
-    let path = pathOf floorTree floorServices entry (header nodeid flags) (bytes topic) in
-    walk entry nodeid flags topic (toldOf flags path.end) (final 0 path.brokers) (linksOf path)
+abbrev pub by_path : Row → Row
+by_path (walk entry nodeid flags topic told rank links) =
+    let path = path_of floor_tree floor_services entry (header nodeid flags) (bytes topic) in
+    walk entry nodeid flags topic (told_of flags path.end) (final 0 path.brokers) (links_of path)
 
 -- the floor's tables are right, and so is every row
 pub record WalksAreRight : Type 0 where
-  pub tree : treeGood floorTree ≡ true
-  pub services : servicesGood floorTree floorServices ≡ true
-  pub rows : map byPath table ≡ table
+  pub tree : tree_good floor_tree ≡ true
+  pub services : services_good floor_tree floor_services ≡ true
+  pub rows : map by_path table ≡ table

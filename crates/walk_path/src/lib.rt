@@ -1,5 +1,4 @@
 // The claims on the path that a request takes, for every slice and number that a call can get. Each theorem is the postcondition of an empty function.
-ghost use Rattle.bytes_number.specs.Lent.{was};
 ghost use Rattle.walk_path.specs.WorkingLeading.{IsFollowed};
 ghost use Rattle.walk_path.specs.Walks.{WalksAreRight};
 
@@ -7,7 +6,7 @@ use frame_message::Header;
 
 // In a right tree the brokers of a path, each by its own step, send the request along it, and the last ends it as the path does.
 pub fn is_followed(tree: &[u8], services: &[u8], entry: u32, header: Header, topic: &[u8])
-    ensures { IsFollowed (was tree) (was services) entry header (was topic) }
+    ensures { IsFollowed tree.now services.now entry header topic.now }
 {}
 
 // The paths on the example floor end as its table of walks says.

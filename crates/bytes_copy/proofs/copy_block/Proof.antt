@@ -22,43 +22,43 @@ invariant-loop2 src dst₀ n held i j₀ dst j = (j ≤ n) × (length dst ≡ le
 abbrev decreases-loop2 : tie.decreases-loop2
 decreases-loop2 src dst₀ n held i j₀ dst j = n - j
 
-loop-holds : tie.Need-loop-init invariant-loop decreases-loop invariant-loop2 decreases-loop2
-loop-holds c = search rules
+loop_holds : tie.Need-loop-init invariant-loop decreases-loop invariant-loop2 decreases-loop2
+loop_holds c = search rules
 
-shared-slice-read-held : tie.Need-shared-slice-read-held invariant-loop decreases-loop invariant-loop2 decreases-loop2
-shared-slice-read-held c = omega arith
+shared_slice_read_held : tie.Need-shared-slice-read-held invariant-loop decreases-loop invariant-loop2 decreases-loop2
+shared_slice_read_held c = omega arith
 
-array-write-held : tie.Need-array-write-held invariant-loop decreases-loop invariant-loop2 decreases-loop2
-array-write-held c = omega arith
+array_write_held : tie.Need-array-write-held invariant-loop decreases-loop invariant-loop2 decreases-loop2
+array_write_held c = omega arith
 
-add-i : tie.Need-overflow-add-i invariant-loop decreases-loop invariant-loop2 decreases-loop2
-add-i c = omega arith
+add_i : tie.Need-overflow-add-i invariant-loop decreases-loop invariant-loop2 decreases-loop2
+add_i c = omega arith
 
-loop-less : tie.Need-loop-smaller invariant-loop decreases-loop invariant-loop2 decreases-loop2
-loop-less c = omega arith
+loop_less : tie.Need-loop-smaller invariant-loop decreases-loop invariant-loop2 decreases-loop2
+loop_less c = omega arith
 
-loop-again : tie.Need-loop-preserved invariant-loop decreases-loop invariant-loop2 decreases-loop2
-loop-again c = let v = c.before.before.loop in
+loop_again : tie.Need-loop-preserved invariant-loop decreases-loop invariant-loop2 decreases-loop2
+loop_again c = let v = c.before.before.loop in
     let src = c.before.before.before.args.src.now in
     (omega arith, simp length-set v.invariant.1, held_more src v.held v.i _ (omega arith) (omega arith) (omega arith) v.invariant.2)
 
-loop2-holds : tie.Need-loop2-init invariant-loop decreases-loop invariant-loop2 decreases-loop2
-loop2-holds c = (omega arith, refl, refl)
+loop2_holds : tie.Need-loop2-init invariant-loop decreases-loop invariant-loop2 decreases-loop2
+loop2_holds c = (omega arith, refl, refl)
 
-array-read-dst : tie.Need-array-read-dst invariant-loop decreases-loop invariant-loop2 decreases-loop2
-array-read-dst c = omega arith
+array_read_dst : tie.Need-array-read-dst invariant-loop decreases-loop invariant-loop2 decreases-loop2
+array_read_dst c = omega arith
 
-slice-write-dst : tie.Need-slice-write-dst invariant-loop decreases-loop invariant-loop2 decreases-loop2
-slice-write-dst c = omega arith
+slice_write_dst : tie.Need-slice-write-dst invariant-loop decreases-loop invariant-loop2 decreases-loop2
+slice_write_dst c = omega arith
 
-add-j : tie.Need-overflow-add-j invariant-loop decreases-loop invariant-loop2 decreases-loop2
-add-j c = omega arith
+add_j : tie.Need-overflow-add-j invariant-loop decreases-loop invariant-loop2 decreases-loop2
+add_j c = omega arith
 
-loop2-less : tie.Need-loop2-smaller invariant-loop decreases-loop invariant-loop2 decreases-loop2
-loop2-less c = omega arith
+loop2_less : tie.Need-loop2-smaller invariant-loop decreases-loop invariant-loop2 decreases-loop2
+loop2_less c = omega arith
 
-loop2-again : tie.Need-loop2-preserved invariant-loop decreases-loop invariant-loop2 decreases-loop2
-loop2-again c = let v = c.before.loop2 in
+loop2_again : tie.Need-loop2-preserved invariant-loop decreases-loop invariant-loop2 decreases-loop2
+loop2_again c = let v = c.before.loop2 in
     let w = c.before.before.before.loop in
     let src = c.before.before.before.before.args.src.now in
     let dst = c.before.before.before.before.args.dst.now in
@@ -76,25 +76,25 @@ returns c = let v = c.before.loop2 in
     let all : v.j ≡ length src = omega arith in
     v.invariant.2 ∙ ap (λ (k : ℕ). take k src ++ drop k dst) all ∙ ap (λ (l : List ℕ). l ++ drop (length src) dst) (take-length src)
 
-pub copy-block-spec : {M : Type 1} → statement M
-copy-block-spec =
+pub copy_block_spec : {M : Type 1} → statement M
+copy_block_spec =
     tie.close
     (tie.spec
     invariant-loop
     decreases-loop
     invariant-loop2
     decreases-loop2
-    loop-holds
-    shared-slice-read-held
-    array-write-held
-    add-i
-    loop-less
-    loop-again
-    loop2-holds
-    array-read-dst
-    slice-write-dst
-    add-j
-    loop2-less
-    loop2-again
+    loop_holds
+    shared_slice_read_held
+    array_write_held
+    add_i
+    loop_less
+    loop_again
+    loop2_holds
+    array_read_dst
+    slice_write_dst
+    add_j
+    loop2_less
+    loop2_again
     same_length
     returns)

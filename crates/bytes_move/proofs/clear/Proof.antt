@@ -4,7 +4,7 @@ use mathlib.Core.Path.{◌≡◌, refl, ap, ◌∙◌}
 use mathlib.Core.List.{List, ◌++◌}
 use Prim.Native.Nat.{ℕ, ◌≤◌, ◌-◌, ◌+◌}
 use lib.ListN.{length, drop, set, replicate, length-set}
-use Rattle.bytes_move.proofs.Moving.{clear-more, clear-all}
+use Rattle.bytes_move.proofs.Moving.{clear_more, clear_all}
 use Rattle.bytes_move.proofs.clear.Statement.{statement}
 use Rattle.bytes_move.proofs.clear.Tie as tie
 
@@ -14,29 +14,29 @@ invariant-loop buffer₀ i₀ buffer i = (i ≤ length buffer₀) × (length buf
 abbrev decreases-loop : tie.decreases-loop
 decreases-loop buffer₀ i₀ buffer i = length buffer - i
 
-loop-holds : tie.Need-loop-init invariant-loop decreases-loop
-loop-holds c = (omega arith, refl, refl)
+loop_holds : tie.Need-loop-init invariant-loop decreases-loop
+loop_holds c = (omega arith, refl, refl)
 
-slice-write-buffer : tie.Need-slice-write-buffer invariant-loop decreases-loop
-slice-write-buffer c = omega arith
+slice_write_buffer : tie.Need-slice-write-buffer invariant-loop decreases-loop
+slice_write_buffer c = omega arith
 
-add-i : tie.Need-overflow-add-i invariant-loop decreases-loop
-add-i c = omega arith
+add_i : tie.Need-overflow-add-i invariant-loop decreases-loop
+add_i c = omega arith
 
-loop-less : tie.Need-loop-smaller invariant-loop decreases-loop
-loop-less c = simp length-set (omega arith)
+loop_less : tie.Need-loop-smaller invariant-loop decreases-loop
+loop_less c = simp length-set (omega arith)
 
-loop-again : tie.Need-loop-preserved invariant-loop decreases-loop
-loop-again c = let v = c.before.loop in
+loop_again : tie.Need-loop-preserved invariant-loop decreases-loop
+loop_again c = let v = c.before.loop in
     let buffer = c.before.before.args.buffer.now in
-    (omega arith, simp length-set v.invariant.1, ap (λ (l : List ℕ). set l v.i 0) v.invariant.2 ∙ clear-more buffer v.i (omega arith))
+    (omega arith, simp length-set v.invariant.1, ap (λ (l : List ℕ). set l v.i 0) v.invariant.2 ∙ clear_more buffer v.i (omega arith))
 
 same_length : tie.Need-same-length invariant-loop decreases-loop
 same_length c = c.before.loop.invariant.1
 
 returns : tie.Need-returns invariant-loop decreases-loop
 returns c = let v = c.before.loop in
-    v.invariant.2 ∙ clear-all c.before.before.args.buffer.now v.i (omega arith)
+    v.invariant.2 ∙ clear_all c.before.before.args.buffer.now v.i (omega arith)
 
 pub clear_spec : {M : Type 1} → statement M
 clear_spec =
@@ -44,10 +44,10 @@ clear_spec =
     (tie.spec
     invariant-loop
     decreases-loop
-    loop-holds
-    slice-write-buffer
-    add-i
-    loop-less
-    loop-again
+    loop_holds
+    slice_write_buffer
+    add_i
+    loop_less
+    loop_again
     same_length
     returns)

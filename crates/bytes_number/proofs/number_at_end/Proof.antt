@@ -13,48 +13,48 @@ use Rattle.bytes_number.proofs.number_at_end.Tie as tie
 returns : tie.Need-returns
 returns c = sym (ap number (drop_of_length-le c.before.before.args.bytes.now {i = c.before.before.args.at} (omega arith)))
 
-sub-rest : tie.Need-overflow-sub-rest
-sub-rest c = search rules
+sub_rest : tie.Need-overflow-sub-rest
+sub_rest c = search rules
 
-part-rest-start : tie.Need-slice-bounds-rest-start
-part-rest-start c = search rules
+part_rest_start : tie.Need-slice-bounds-rest-start
+part_rest_start c = search rules
 
-part-rest-end : tie.Need-slice-bounds-rest-end
-part-rest-end c = search rules
+part_rest_end : tie.Need-slice-bounds-rest-end
+part_rest_end c = search rules
 
-byte-at-requires : tie.Need-byte-at-requires
-byte-at-requires c κs = search rules
+byte_at_requires : tie.Need-byte-at-requires
+byte_at_requires c κs = search rules
 
-byte-at-requires-2 : tie.Need-byte-at-requires-2
-byte-at-requires-2 c κs = search rules
+byte_at_requires_2 : tie.Need-byte-at-requires-2
+byte_at_requires_2 c κs = search rules
 
-byte-at-requires-3 : tie.Need-byte-at-requires-3
-byte-at-requires-3 c κs = search rules
+byte_at_requires_3 : tie.Need-byte-at-requires-3
+byte_at_requires_3 c κs = search rules
 
-byte-at-requires-4 : tie.Need-byte-at-requires-4
-byte-at-requires-4 c κs = search rules
+byte_at_requires_4 : tie.Need-byte-at-requires-4
+byte_at_requires_4 c κs = search rules
 
-number-of-requires : tie.Need-number-of-requires
-number-of-requires c κs = search rules
+number_of_requires : tie.Need-number-of-requires
+number_of_requires c κs = search rules
 
-returns-2 : tie.Need-returns-2
-returns-2 c =
+returns_2 : tie.Need-returns-2
+returns_2 c =
     let args = c.before.before.before.before.before.before.before.before.args in
     let rest = take (length args.bytes.now - args.at) (drop args.at args.bytes.now) in
     let read : number (c.before.before.before.before.byte_at.result ∷ c.before.before.before.byte-at2.result ∷ c.before.before.byte-at3.result ∷ c.before.byte-at4.result ∷ []) ≡ number rest = cc in
     c.number_of_lem.ensures ∙ read ∙ ap number (part_to_end args.bytes.now args.at)
 
-pub number-at-end-spec : {M : Type 1} → statement M
-number-at-end-spec =
+pub number_at_end_spec : {M : Type 1} → statement M
+number_at_end_spec =
     tie.close
     (tie.spec
     returns
-    sub-rest
-    part-rest-start
-    part-rest-end
-    byte-at-requires
-    byte-at-requires-2
-    byte-at-requires-3
-    byte-at-requires-4
-    number-of-requires
-    returns-2)
+    sub_rest
+    part_rest_start
+    part_rest_end
+    byte_at_requires
+    byte_at_requires_2
+    byte_at_requires_3
+    byte_at_requires_4
+    number_of_requires
+    returns_2)

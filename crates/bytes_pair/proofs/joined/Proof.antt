@@ -3,14 +3,14 @@ use native.Mathlib.Omega.{arith}
 use Rattle.bytes_pair.proofs.joined.Statement.{statement}
 use Rattle.bytes_pair.proofs.joined.Tie as tie
 
-mul-result : tie.Need-overflow-mul-result
-mul-result c = omega arith
+mul_result : tie.Need-overflow-mul-result
+mul_result c = omega arith
 
-add-result : tie.Need-overflow-add-result
-add-result c = omega arith
+add_result : tie.Need-overflow-add-result
+add_result c = omega arith
 
 returns : tie.Need-returns
 returns c = omega arith
 
-pub joined-spec : {M : Type 1} → statement M
-joined-spec = tie.close (tie.spec mul-result add-result returns)
+pub joined_spec : {M : Type 1} → statement M
+joined_spec = tie.close (tie.spec mul_result add_result returns)

@@ -6,8 +6,8 @@ use Rattle.call_json.proofs.told.Tie as tie
 returns : tie.Need-returns
 returns c = omega arith
 
-returns-2 : tie.Need-returns-2
-returns-2 c = omega arith
+returns_2 : tie.Need-returns-2
+returns_2 c = omega arith
 
-pub told-spec : {M : Type 1} → statement M
-told-spec = tie.close (tie.spec returns returns-2)
+pub told_spec : {M : Type 1} → statement M
+told_spec = tie.close (tie.spec returns returns_2)

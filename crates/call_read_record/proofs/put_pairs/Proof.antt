@@ -4,10 +4,10 @@ use mathlib.Core.Path.{sym}
 use Prim.Native.Nat.{◌+◌, ◌-◌, ◌*◌, ◌≤◌}
 use lib.ListN.{length}
 use borrow.Author.Rules.{rules}
-use Rattle.bytes_number.proofs.Rows.{Rowed, row-length, rowed-none, rowed-at, rowed-length, rowed-more, rowed-all}
+use Rattle.bytes_number.proofs.Rows.{Rowed, row_length, rowed_none, rowed_at, rowed_length, rowed_more, rowed_all}
 use Rattle.bytes_number.proofs.Buffers.{laid_none}
-use Rattle.bytes_number.specs.Number.{rowBytes}
-use Rattle.call_read_record.proofs.Pairs.{rowed-two}
+use Rattle.bytes_number.specs.Number.{row_bytes}
+use Rattle.call_read_record.proofs.Pairs.{rowed_two}
 use Rattle.call_read_record.proofs.put_pairs.Statement.{statement}
 use Rattle.call_read_record.proofs.put_pairs.Tie as tie
 
@@ -25,131 +25,131 @@ room s = omega (arith, s.if1.true)
 fits : (h : tie.In-loop invariant-loop decreases-loop) → h.before.loop.at + 8 ≤ length h.before.loop.out
 fits h =
     let whole = room h.before.before in
-    omega (arith, h.loop-test.true, rowed-at h.before.loop.invariant whole, rowed-length h.before.loop.invariant whole)
+    omega (arith, h.loop-test.true, rowed_at h.before.loop.invariant whole, rowed_length h.before.loop.invariant whole)
 
 -- and behind them for the last one
 fits_last : (h : tie.Then2 invariant-loop decreases-loop) → h.before.before.loop.at + 4 ≤ length h.before.before.loop.out
 fits_last h =
     let whole = room h.before.before.before in
-    omega (arith, h.if2.true, rowed-at h.before.before.loop.invariant whole, rowed-length h.before.before.loop.invariant whole)
+    omega (arith, h.if2.true, rowed_at h.before.before.loop.invariant whole, rowed_length h.before.before.loop.invariant whole)
 
-mul-if1 : tie.Need-overflow-mul-if1 invariant-loop decreases-loop
-mul-if1 c = omega (arith, c.before.before.well-formed)
+mul_if1 : tie.Need-overflow-mul-if1 invariant-loop decreases-loop
+mul_if1 c = omega (arith, c.before.before.well-formed)
 
-loop-holds : tie.Need-loop-init invariant-loop decreases-loop
-loop-holds c = rowed-none _ _
+loop_holds : tie.Need-loop-init invariant-loop decreases-loop
+loop_holds c = rowed_none _ _
 
-sub-loop : tie.Need-overflow-sub-loop invariant-loop decreases-loop
-sub-loop c = c.loop.invariant.most
+sub_loop : tie.Need-overflow-sub-loop invariant-loop decreases-loop
+sub_loop c = c.loop.invariant.most
 
-sub-put-pair : tie.Need-overflow-sub-put-pair invariant-loop decreases-loop
-sub-put-pair c = omega (arith, fits c)
+sub_put_pair : tie.Need-overflow-sub-put-pair invariant-loop decreases-loop
+sub_put_pair c = omega (arith, fits c)
 
-part-put-pair-start : tie.Need-slice-bounds-put-pair-start invariant-loop decreases-loop
-part-put-pair-start c = omega (arith, fits c)
+part_put_pair_start : tie.Need-slice-bounds-put-pair-start invariant-loop decreases-loop
+part_put_pair_start c = omega (arith, fits c)
 
-part-put-pair-end : tie.Need-slice-bounds-put-pair-end invariant-loop decreases-loop
-part-put-pair-end c = search rules
+part_put_pair_end : tie.Need-slice-bounds-put-pair-end invariant-loop decreases-loop
+part_put_pair_end c = search rules
 
-mul-put-pair : tie.Need-overflow-mul-put-pair invariant-loop decreases-loop
-mul-put-pair c = omega (arith, c.before.loop-test.true, c.before.before.before.before.before.before.well-formed)
+mul_put_pair : tie.Need-overflow-mul-put-pair invariant-loop decreases-loop
+mul_put_pair c = omega (arith, c.before.loop-test.true, c.before.before.before.before.before.before.well-formed)
 
-shared-slice-read-put-pair : tie.Need-shared-slice-read-put-pair invariant-loop decreases-loop
-shared-slice-read-put-pair c = omega (arith, c.before.before.loop-test.true)
+shared_slice_read_put_pair : tie.Need-shared-slice-read-put-pair invariant-loop decreases-loop
+shared_slice_read_put_pair c = omega (arith, c.before.before.loop-test.true)
 
-add-put-pair : tie.Need-overflow-add-put-pair invariant-loop decreases-loop
-add-put-pair c = omega (arith, c.before.before.loop-test.true, c.before.before.before.before.before.before.before.well-formed)
+add_put_pair : tie.Need-overflow-add-put-pair invariant-loop decreases-loop
+add_put_pair c = omega (arith, c.before.before.loop-test.true, c.before.before.before.before.before.before.before.well-formed)
 
-mul-put-pair-2 : tie.Need-overflow-mul-put-pair-2 invariant-loop decreases-loop
-mul-put-pair-2 c = omega (arith, c.before.before.loop-test.true, c.before.before.before.before.before.before.before.well-formed)
+mul_put_pair_2 : tie.Need-overflow-mul-put-pair-2 invariant-loop decreases-loop
+mul_put_pair_2 c = omega (arith, c.before.before.loop-test.true, c.before.before.before.before.before.before.before.well-formed)
 
-shared-slice-read-put-pair-2 : tie.Need-shared-slice-read-put-pair-2 invariant-loop decreases-loop
-shared-slice-read-put-pair-2 c = omega (arith, c.before.before.before.loop-test.true)
+shared_slice_read_put_pair_2 : tie.Need-shared-slice-read-put-pair-2 invariant-loop decreases-loop
+shared_slice_read_put_pair_2 c = omega (arith, c.before.before.before.loop-test.true)
 
-put-pair-requires : tie.Need-put-pair-requires invariant-loop decreases-loop
-put-pair-requires c κs = tt
+put_pair_requires : tie.Need-put-pair-requires invariant-loop decreases-loop
+put_pair_requires c κs = tt
 
 add_at : tie.Need-overflow-add-at invariant-loop decreases-loop
 add_at c = let h = c.before.before.before.before.before.before in
-    omega (arith, fits h, rowed-length h.before.loop.invariant (room h.before.before), h.before.before.before.before.before.well-formed)
+    omega (arith, fits h, rowed_length h.before.loop.invariant (room h.before.before), h.before.before.before.before.before.well-formed)
 
-add-i : tie.Need-overflow-add-i invariant-loop decreases-loop
-add-i c = let h = c.before.before.before.before.before.before in
+add_i : tie.Need-overflow-add-i invariant-loop decreases-loop
+add_i c = let h = c.before.before.before.before.before.before in
     omega (arith, h.loop-test.true, h.before.before.before.before.before.well-formed)
 
-loop-less : tie.Need-loop-smaller invariant-loop decreases-loop
-loop-less c = omega (arith, c.before.before.before.before.before.before.loop-test.true)
+loop_less : tie.Need-loop-smaller invariant-loop decreases-loop
+loop_less c = omega (arith, c.before.before.before.before.before.before.loop-test.true)
 
-loop-again : tie.Need-loop-preserved invariant-loop decreases-loop
-loop-again c = let h = c.before.before.before.before.before.before in
-    rowed-two h.before.loop.invariant (room h.before.before) (omega (arith, h.loop-test.true)) c.before.before.put-pair.ensures
+loop_again : tie.Need-loop-preserved invariant-loop decreases-loop
+loop_again c = let h = c.before.before.before.before.before.before in
+    rowed_two h.before.loop.invariant (room h.before.before) (omega (arith, h.loop-test.true)) c.before.before.put-pair.ensures
 
-sub-put-number : tie.Need-overflow-sub-put-number invariant-loop decreases-loop
-sub-put-number c = omega (arith, fits_last c)
+sub_put_number : tie.Need-overflow-sub-put-number invariant-loop decreases-loop
+sub_put_number c = omega (arith, fits_last c)
 
-part-put-number-start : tie.Need-slice-bounds-put-number-start invariant-loop decreases-loop
-part-put-number-start c = omega (arith, fits_last c)
+part_put_number_start : tie.Need-slice-bounds-put-number-start invariant-loop decreases-loop
+part_put_number_start c = omega (arith, fits_last c)
 
-part-put-number-end : tie.Need-slice-bounds-put-number-end invariant-loop decreases-loop
-part-put-number-end c = search rules
+part_put_number_end : tie.Need-slice-bounds-put-number-end invariant-loop decreases-loop
+part_put_number_end c = search rules
 
-mul-put-number : tie.Need-overflow-mul-put-number invariant-loop decreases-loop
-mul-put-number c = omega (arith, c.before.if2.true, c.before.before.before.before.before.before.before.well-formed)
+mul_put_number : tie.Need-overflow-mul-put-number invariant-loop decreases-loop
+mul_put_number c = omega (arith, c.before.if2.true, c.before.before.before.before.before.before.before.well-formed)
 
-shared-slice-read-put-number : tie.Need-shared-slice-read-put-number invariant-loop decreases-loop
-shared-slice-read-put-number c = c.before.before.if2.true
+shared_slice_read_put_number : tie.Need-shared-slice-read-put-number invariant-loop decreases-loop
+shared_slice_read_put_number c = c.before.before.if2.true
 
-put-number-requires : tie.Need-put-number-requires invariant-loop decreases-loop
-put-number-requires c κs = tt
+put_number_requires : tie.Need-put-number-requires invariant-loop decreases-loop
+put_number_requires c κs = tt
 
 same_length : tie.Need-same-length invariant-loop decreases-loop
 same_length c = let h = c.before.before.before.before.before in
-    rowed-length (rowed-more h.before.before.loop.invariant (room h.before.before.before) h.if2.true c.before.before.put-number.ensures) (room h.before.before.before)
+    rowed_length (rowed_more h.before.before.loop.invariant (room h.before.before.before) h.if2.true c.before.before.put-number.ensures) (room h.before.before.before)
 
 returns : tie.Need-returns invariant-loop decreases-loop
 returns c = let h = c.before.before.before.before.before in
-    rowed-all (rowed-more h.before.before.loop.invariant (room h.before.before.before) h.if2.true c.before.before.put-number.ensures) (room h.before.before.before) (omega (arith, h.before.loop-test.false))
+    rowed_all (rowed_more h.before.before.loop.invariant (room h.before.before.before) h.if2.true c.before.before.put-number.ensures) (room h.before.before.before) (omega (arith, h.before.loop-test.false))
 
-same-length-2 : tie.Need-same-length-2 invariant-loop decreases-loop
-same-length-2 c = rowed-length c.before.before.loop.invariant (room c.before.before.before)
+same_length_2 : tie.Need-same-length-2 invariant-loop decreases-loop
+same_length_2 c = rowed_length c.before.before.loop.invariant (room c.before.before.before)
 
-returns-2 : tie.Need-returns-2 invariant-loop decreases-loop
-returns-2 c = rowed-all c.before.before.loop.invariant (room c.before.before.before) (omega (arith, c.if2.false))
+returns_2 : tie.Need-returns-2 invariant-loop decreases-loop
+returns_2 c = rowed_all c.before.before.loop.invariant (room c.before.before.before) (omega (arith, c.if2.false))
 
-returns-3 : tie.Need-returns-3 invariant-loop decreases-loop
-returns-3 c = let args = c.before.before.before.args in
-    sym (laid_none (rowBytes args.row.now) args.out.now (omega (arith, row-length args.row.now)))
+returns_3 : tie.Need-returns-3 invariant-loop decreases-loop
+returns_3 c = let args = c.before.before.before.args in
+    sym (laid_none (row_bytes args.row.now) args.out.now (omega (arith, row_length args.row.now)))
 
-pub put-pairs-spec : {M : Type 1} → statement M
-put-pairs-spec =
+pub put_pairs_spec : {M : Type 1} → statement M
+put_pairs_spec =
     tie.close
     (tie.spec
     invariant-loop
     decreases-loop
-    mul-if1
-    loop-holds
-    sub-loop
-    sub-put-pair
-    part-put-pair-start
-    part-put-pair-end
-    mul-put-pair
-    shared-slice-read-put-pair
-    add-put-pair
-    mul-put-pair-2
-    shared-slice-read-put-pair-2
-    put-pair-requires
+    mul_if1
+    loop_holds
+    sub_loop
+    sub_put_pair
+    part_put_pair_start
+    part_put_pair_end
+    mul_put_pair
+    shared_slice_read_put_pair
+    add_put_pair
+    mul_put_pair_2
+    shared_slice_read_put_pair_2
+    put_pair_requires
     add_at
-    add-i
-    loop-less
-    loop-again
-    sub-put-number
-    part-put-number-start
-    part-put-number-end
-    mul-put-number
-    shared-slice-read-put-number
-    put-number-requires
+    add_i
+    loop_less
+    loop_again
+    sub_put_number
+    part_put_number_start
+    part_put_number_end
+    mul_put_number
+    shared_slice_read_put_number
+    put_number_requires
     same_length
     returns
-    same-length-2
-    returns-2
-    returns-3)
+    same_length_2
+    returns_2
+    returns_3)

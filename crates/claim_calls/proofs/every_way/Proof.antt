@@ -6,5 +6,5 @@ use Rattle.claim_calls.proofs.every_way.Tie as tie
 returns : tie.Need-returns
 returns c = every_way c.args.tree.now
 
-pub every-way-spec : {M : Type 1} → statement M
-every-way-spec = tie.close (tie.spec returns)
+pub every_way_spec : {M : Type 1} → statement M
+every_way_spec = tie.close (tie.spec returns)

@@ -4,11 +4,11 @@ use Rattle.claim_mdp.proofs.Commands.{never_both}
 use Rattle.claim_calls.proofs.never_both_senders.Statement.{statement}
 use Rattle.claim_calls.proofs.never_both_senders.Tie as tie
 
-are-bytes-requires : tie.Need-are-bytes-requires
-are-bytes-requires c κs = search rules
+are_bytes_requires : tie.Need-are-bytes-requires
+are_bytes_requires c κs = search rules
 
 returns : tie.Need-returns
 returns c = never_both c.before.before.args.bytes.now c.are-bytes.ensures
 
-pub never-both-senders-spec : {M : Type 1} → statement M
-never-both-senders-spec = tie.close (tie.spec are-bytes-requires returns)
+pub never_both_senders_spec : {M : Type 1} → statement M
+never_both_senders_spec = tie.close (tie.spec are_bytes_requires returns)

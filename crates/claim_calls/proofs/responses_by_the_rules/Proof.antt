@@ -1,11 +1,11 @@
 -- `claim_calls::responses_by_the_rules` meets its contract.
 use Rattle.step_routing.specs.Routed.{tables_of}
-use Rattle.claim_steps.proofs.Deciding.{responses-by-the-rules}
+use Rattle.claim_steps.proofs.Deciding.{responses_by_the_rules}
 use Rattle.claim_calls.proofs.responses_by_the_rules.Statement.{statement}
 use Rattle.claim_calls.proofs.responses_by_the_rules.Tie as tie
 
 returns : tie.Need-returns
-returns c = responses-by-the-rules (tables_of c.args.tree.now c.args.services.now c.args.identities.now) c.args.broker
+returns c = responses_by_the_rules (tables_of c.args.tree.now c.args.services.now c.args.identities.now) c.args.broker
 
-pub responses-by-the-rules-spec : {M : Type 1} → statement M
-responses-by-the-rules-spec = tie.close (tie.spec returns)
+pub responses_by_the_rules_spec : {M : Type 1} → statement M
+responses_by_the_rules_spec = tie.close (tie.spec returns)

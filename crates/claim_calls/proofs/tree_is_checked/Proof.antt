@@ -1,10 +1,10 @@
 -- `claim_calls::tree_is_checked` meets its contract.
-use Rattle.claim_tables.proofs.Trees.{tree-is-checked}
+use Rattle.claim_tables.proofs.Trees.{tree_is_checked}
 use Rattle.claim_calls.proofs.tree_is_checked.Statement.{statement}
 use Rattle.claim_calls.proofs.tree_is_checked.Tie as tie
 
 returns : tie.Need-returns
-returns c = tree-is-checked c.args.tree.now
+returns c = tree_is_checked c.args.tree.now
 
-pub tree-is-checked-spec : {M : Type 1} → statement M
-tree-is-checked-spec = tie.close (tie.spec returns)
+pub tree_is_checked_spec : {M : Type 1} → statement M
+tree_is_checked_spec = tie.close (tie.spec returns)

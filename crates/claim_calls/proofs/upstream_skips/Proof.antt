@@ -6,5 +6,5 @@ use Rattle.claim_calls.proofs.upstream_skips.Tie as tie
 returns : tie.Need-returns
 returns c = let s = c.args in upstream-skips s.tree.now s.services.now s.entry s.header s.topic.now
 
-pub upstream-skips-spec : {M : Type 1} → statement M
-upstream-skips-spec = tie.close (tie.spec returns)
+pub upstream-skips_spec : {M : Type 1} → statement M
+upstream-skips_spec = tie.close (tie.spec returns)

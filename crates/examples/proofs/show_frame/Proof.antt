@@ -6,39 +6,39 @@ use borrow.Author.Rules.{rules}
 use Rattle.examples.proofs.show_frame.Statement.{statement}
 use Rattle.examples.proofs.show_frame.Tie as tie
 
-slice-aggregate-text : tie.Need-slice-aggregate-text
-slice-aggregate-text c = search rules
+slice_aggregate_text : tie.Need-slice-aggregate-text
+slice_aggregate_text c = search rules
 
-text-requires : tie.Need-text-requires
-text-requires c κs = search rules
+text_requires : tie.Need-text-requires
+text_requires c κs = search rules
 
-slice-aggregate-bytes : tie.Need-slice-aggregate-bytes
-slice-aggregate-bytes c = sym (length-take-le c.before.before.before.before.before.args.n c.before.before.before.before.before.args.out.now (omega arith))
+slice_aggregate_bytes : tie.Need-slice-aggregate-bytes
+slice_aggregate_bytes c = sym (length-take-le c.before.before.before.before.before.args.n c.before.before.before.before.before.args.out.now (omega arith))
 
-bytes-requires : tie.Need-bytes-requires
-bytes-requires c κs = search rules
+bytes_requires : tie.Need-bytes-requires
+bytes_requires c κs = search rules
 
-slice-aggregate-show-reading : tie.Need-slice-aggregate-show-reading
-slice-aggregate-show-reading c = search rules
+slice_aggregate_show_reading : tie.Need-slice-aggregate-show-reading
+slice_aggregate_show_reading c = search rules
 
-show-reading-requires : tie.Need-show-reading-requires
-show-reading-requires c κs = search rules
+show_reading_requires : tie.Need-show-reading-requires
+show_reading_requires c κs = search rules
 
 returns : tie.Need-returns
 returns c = search rules
 
-returns-2 : tie.Need-returns-2
-returns-2 c = search rules
+returns_2 : tie.Need-returns-2
+returns_2 c = search rules
 
-pub show-frame-spec : {M : Type 1} → statement M
-show-frame-spec =
+pub show_frame_spec : {M : Type 1} → statement M
+show_frame_spec =
     tie.close
     (tie.spec
-    slice-aggregate-text
-    text-requires
-    slice-aggregate-bytes
-    bytes-requires
-    slice-aggregate-show-reading
-    show-reading-requires
+    slice_aggregate_text
+    text_requires
+    slice_aggregate_bytes
+    bytes_requires
+    slice_aggregate_show_reading
+    show_reading_requires
     returns
-    returns-2)
+    returns_2)

@@ -8,5 +8,5 @@ use Rattle.frame_flags.proofs.has_payload.Tie as tie
 returns : tie.Need-returns
 returns c = same_test (λ e. omega (arith, eq-eqb, eqb-true)) (λ e. omega (arith, eq-eqb, eqb-true))
 
-pub has-payload-spec : {M : Type 1} → statement M
-has-payload-spec = tie.close (tie.spec returns)
+pub has_payload_spec : {M : Type 1} → statement M
+has_payload_spec = tie.close (tie.spec returns)

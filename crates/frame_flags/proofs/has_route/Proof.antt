@@ -8,5 +8,5 @@ use Rattle.frame_flags.proofs.has_route.Tie as tie
 returns : tie.Need-returns
 returns c = same_test (λ e. omega (arith, eq-eqb, eqb-true)) (λ e. omega (arith, eq-eqb, eqb-true))
 
-pub has-route-spec : {M : Type 1} → statement M
-has-route-spec = tie.close (tie.spec returns)
+pub has_route_spec : {M : Type 1} → statement M
+has_route_spec = tie.close (tie.spec returns)

@@ -8,5 +8,5 @@ use Rattle.frame_flags.proofs.has_topic.Tie as tie
 returns : tie.Need-returns
 returns c = same_test (λ e. omega (arith, eq-eqb, eqb-true)) (λ e. omega (arith, eq-eqb, eqb-true))
 
-pub has-topic-spec : {M : Type 1} → statement M
-has-topic-spec = tie.close (tie.spec returns)
+pub has_topic_spec : {M : Type 1} → statement M
+has_topic_spec = tie.close (tie.spec returns)

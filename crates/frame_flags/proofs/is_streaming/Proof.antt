@@ -8,5 +8,5 @@ use Rattle.frame_flags.proofs.is_streaming.Tie as tie
 returns : tie.Need-returns
 returns c = same_test (λ e. omega (arith, eq-eqb, eqb-true)) (λ e. omega (arith, eq-eqb, eqb-true))
 
-pub is-streaming-spec : {M : Type 1} → statement M
-is-streaming-spec = tie.close (tie.spec returns)
+pub is_streaming_spec : {M : Type 1} → statement M
+is_streaming_spec = tie.close (tie.spec returns)

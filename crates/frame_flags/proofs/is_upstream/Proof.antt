@@ -8,5 +8,5 @@ use Rattle.frame_flags.proofs.is_upstream.Tie as tie
 returns : tie.Need-returns
 returns c = same_test (λ e. omega (arith, eq-eqb, eqb-true)) (λ e. omega (arith, eq-eqb, eqb-true))
 
-pub is-upstream-spec : {M : Type 1} → statement M
-is-upstream-spec = tie.close (tie.spec returns)
+pub is_upstream_spec : {M : Type 1} → statement M
+is_upstream_spec = tie.close (tie.spec returns)

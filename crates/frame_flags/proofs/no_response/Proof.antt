@@ -8,5 +8,5 @@ use Rattle.frame_flags.proofs.no_response.Tie as tie
 returns : tie.Need-returns
 returns c = same_test (λ e. omega (arith, eq-eqb, eqb-true)) (λ e. omega (arith, eq-eqb, eqb-true))
 
-pub no-response-spec : {M : Type 1} → statement M
-no-response-spec = tie.close (tie.spec returns)
+pub no_response_spec : {M : Type 1} → statement M
+no_response_spec = tie.close (tie.spec returns)

@@ -7,8 +7,8 @@ use Rattle.frame_forms.proofs.nul.Tie as tie
 returns : tie.Need-returns
 returns c = simp (eq-eqb c.before.args.x 0 (omega arith))
 
-returns-2 : tie.Need-returns-2
-returns-2 c = simp (ne_eqb c.before.args.x 0 (λ e. omega arith))
+returns_2 : tie.Need-returns-2
+returns_2 c = simp (ne_eqb c.before.args.x 0 (λ e. omega arith))
 
-pub nul-spec : {M : Type 1} → statement M
-nul-spec = tie.close (tie.spec returns returns-2)
+pub nul_spec : {M : Type 1} → statement M
+nul_spec = tie.close (tie.spec returns returns_2)

@@ -7,17 +7,17 @@ use Rattle.frame_header_rules.proofs.is_type.Tie as tie
 returns : tie.Need-returns
 returns c = rw (eq-eqb c.before.args.kind 1 (omega (arith, c.if1.true)))
 
-returns-2 : tie.Need-returns-2
-returns-2 c = let k = c.before.before.args.kind in
+returns_2 : tie.Need-returns-2
+returns_2 c = let k = c.before.before.args.kind in
     rw (ne_eqb k 1 (λ e. omega (arith, c.before.if1.false)), eq-eqb k 2 (omega (arith, c.if2.true)))
 
-returns-3 : tie.Need-returns-3
-returns-3 c = let k = c.before.before.before.args.kind in
+returns_3 : tie.Need-returns-3
+returns_3 c = let k = c.before.before.before.args.kind in
     rw (ne_eqb k 1 (λ e. omega (arith, c.before.before.if1.false)), ne_eqb k 2 (λ e. omega (arith, c.before.if2.false)), eq-eqb k 4 (omega (arith, c.if3.true)))
 
-returns-4 : tie.Need-returns-4
-returns-4 c = let k = c.before.before.before.args.kind in
+returns_4 : tie.Need-returns-4
+returns_4 c = let k = c.before.before.before.args.kind in
     rw (ne_eqb k 1 (λ e. omega (arith, c.before.before.if1.false)), ne_eqb k 2 (λ e. omega (arith, c.before.if2.false)), ne_eqb k 4 (λ e. omega (arith, c.if3.false)))
 
-pub is-type-spec : {M : Type 1} → statement M
-is-type-spec = tie.close (tie.spec returns returns-2 returns-3 returns-4)
+pub is_type_spec : {M : Type 1} → statement M
+is_type_spec = tie.close (tie.spec returns returns_2 returns_3 returns_4)

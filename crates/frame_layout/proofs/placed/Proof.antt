@@ -4,31 +4,31 @@ use mathlib.Core.Path.{◌≡◌, ap, ◌∙◌}
 use mathlib.Core.Bool.{Bool}
 use Prim.Native.Nat.{◌-◌}
 use Rattle.frame_forms.specs.Count.{one}
-use Rattle.frame_message.specs.Header.{hasTopic, hasPayload}
-use Rattle.frame_layout.specs.WorkingPlacing.{placeIf}
+use Rattle.frame_message.specs.Header.{has_topic, has_payload}
+use Rattle.frame_layout.specs.WorkingPlacing.{place_if}
 use Rattle.frame_layout.proofs.placed.Statement.{statement}
 use Rattle.frame_layout.proofs.placed.Tie as tie
 
-has-topic-requires : tie.Need-has-topic-requires
-has-topic-requires c κs = search rules
+has_topic_requires : tie.Need-has-topic-requires
+has_topic_requires c κs = search rules
 
-shown-of-requires : tie.Need-shown-of-requires
-shown-of-requires c κs = search rules
+shown_of_requires : tie.Need-shown-of-requires
+shown_of_requires c κs = search rules
 
-place-if-requires : tie.Need-place-if-requires
-place-if-requires c κs = search rules
+place_if_requires : tie.Need-place-if-requires
+place_if_requires c κs = search rules
 
-first-route-requires : tie.Need-first-route-requires
-first-route-requires c κs = search rules
+first_route_requires : tie.Need-first-route-requires
+first_route_requires c κs = search rules
 
-place-if-requires-2 : tie.Need-place-if-requires-2
-place-if-requires-2 c κs = search rules
+place_if_requires_2 : tie.Need-place-if-requires-2
+place_if_requires_2 c κs = search rules
 
-has-payload-requires : tie.Need-has-payload-requires
-has-payload-requires c κs = search rules
+has_payload_requires : tie.Need-has-payload-requires
+has_payload_requires c κs = search rules
 
-place-if-requires-3 : tie.Need-place-if-requires-3
-place-if-requires-3 c κs = search rules
+place_if_requires_3 : tie.Need-place-if-requires-3
+place_if_requires_3 c κs = search rules
 
 returns : tie.Need-returns
 returns c =
@@ -39,9 +39,9 @@ returns c =
     let showing = ending.before in
     let asked = showing.before in
     let args = asked.before.args in
-    let shown : showing.Shown-of.result ≡ args.topic.len - one (hasTopic args.h.flags) = showing.Shown-of.ensures ∙ ap (λ (t : Bool). args.topic.len - one t) asked.has-topic.ensures in
-    let topic : placing.place-if2.result ≡ placeIf (hasTopic args.h.flags) args.topic.at = placing.place-if2.ensures ∙ ap (λ (t : Bool). placeIf t args.topic.at) asked.has-topic.ensures in
-    let payload : c.place-if3.result ≡ placeIf (hasPayload args.h.flags) args.payload.at = c.place-if3.ensures ∙ ap (λ (t : Bool). placeIf t args.payload.at) paying.has-payload.ensures in
+    let shown : showing.Shown-of.result ≡ args.topic.len - one (has_topic args.h.flags) = showing.Shown-of.ensures ∙ ap (λ (t : Bool). args.topic.len - one t) asked.has_topic_lem.ensures in
+    let topic : placing.place-if2.result ≡ place_if (has_topic args.h.flags) args.topic.at = placing.place-if2.ensures ∙ ap (λ (t : Bool). place_if t args.topic.at) asked.has_topic_lem.ensures in
+    let payload : c.place-if3.result ≡ place_if (has_payload args.h.flags) args.payload.at = c.place-if3.ensures ∙ ap (λ (t : Bool). place_if t args.payload.at) paying.has-payload.ensures in
     λ i. record {
       taken = ending.place-if.ensures i;
       header = args.h;
@@ -51,15 +51,15 @@ returns c =
       payload = record { start = payload i; len = args.payload.len };
     }
 
-pub placed-spec : {M : Type 1} → statement M
-placed-spec =
+pub placed_spec : {M : Type 1} → statement M
+placed_spec =
     tie.close
     (tie.spec
-    has-topic-requires
-    shown-of-requires
-    place-if-requires
-    first-route-requires
-    place-if-requires-2
-    has-payload-requires
-    place-if-requires-3
+    has_topic_requires
+    shown_of_requires
+    place_if_requires
+    first_route_requires
+    place_if_requires_2
+    has_payload_requires
+    place_if_requires_3
     returns)

@@ -6,10 +6,10 @@ use Prim.Native.Nat.{ℕ, ◌+◌, ◌-◌, ◌≤◌}
 use lib.ListN.{length, drop}
 use borrow.Author.Rules.{rules}
 use Rattle.bytes_number.specs.Number.{Bytes}
-use Rattle.bytes_number.proofs.Numbers.{bytes-of}
+use Rattle.bytes_number.proofs.Numbers.{bytes_of_lem}
 use Rattle.frame_part_size.specs.declared.Size.TheVariants.{Data}
 use Rattle.frame_part_size.specs.WorkingSizes.{size_at}
-use Rattle.frame_parts.proofs.Passing.{Passed, passed_none, passed-low, passed-all, passed-many, passed-wrong, passed-within, passed-none-empty, passed-this-empty, passed-earlier-empty, part-from}
+use Rattle.frame_parts.proofs.Passing.{Passed, passed_none, passed_low, passed_all, passed_many, passed_wrong, passed_within, passed_none_empty, passed_this_empty, passed_earlier_empty, part_from}
 use Rattle.frame_parts.proofs.count_parts.Statement.{statement}
 use Rattle.frame_parts.proofs.count_parts.Tie as tie
 
@@ -32,7 +32,7 @@ turn c = c.before.before.before.before
 
 -- it was read of the bytes that are left
 found : (c : tie.After-size-at invariant-loop decreases-loop) → c.size-at.result ≡ size_at (drop (turn c).loop.at (body_of (turn c)))
-found c = c.size-at.ensures ∙ ap size_at (part-from (body_of (turn c)) (turn c).loop.at)
+found c = c.size-at.ensures ∙ ap size_at (part_from (body_of (turn c)) (turn c).loop.at)
 
 -- a part was found
 module _ (c : tie.After-known-told invariant-loop decreases-loop) where
@@ -52,7 +52,7 @@ module _ (c : tie.After-known-told invariant-loop decreases-loop) where
   len = part.size.given.0.1.0
 
   bytes : Bytes (body_of here)
-  bytes = bytes-of (body_of here) (λ i. (here.before.shared-slice-known.given i).fits)
+  bytes = bytes_of_lem (body_of here) (λ i. (here.before.shared-slice-known.given i).fits)
 
   left : here.loop.at ≡ length (body_of here) → ⊥
   left = search rules
@@ -64,71 +64,71 @@ module _ (c : tie.After-known-told invariant-loop decreases-loop) where
   size = sym part.size.given.1 ∙ found sized
 
   within : here.loop.at + start + len ≤ length (body_of here)
-  within = passed-within here.loop.inv left bytes size
+  within = passed_within here.loop.inv left bytes size
 
-loop-holds : tie.Need-loop-init invariant-loop decreases-loop
-loop-holds c = passed_none c.before.args.most c.before.args.body.now
+loop_holds : tie.Need-loop-init invariant-loop decreases-loop
+loop_holds c = passed_none c.before.args.most c.before.args.body.now
 
-sub-size-at : tie.Need-overflow-sub-size-at invariant-loop decreases-loop
-sub-size-at c = search rules
+sub_size_at : tie.Need-overflow-sub-size-at invariant-loop decreases-loop
+sub_size_at c = search rules
 
-part-size-at-start : tie.Need-slice-bounds-size-at-start invariant-loop decreases-loop
-part-size-at-start c = search rules
+part_size_at_start : tie.Need-slice-bounds-size-at-start invariant-loop decreases-loop
+part_size_at_start c = search rules
 
-part-size-at-end : tie.Need-slice-bounds-size-at-end invariant-loop decreases-loop
-part-size-at-end c = search rules
+part_size_at_end : tie.Need-slice-bounds-size-at-end invariant-loop decreases-loop
+part_size_at_end c = search rules
 
-size-at-requires : tie.Need-size-at-requires invariant-loop decreases-loop
-size-at-requires c κs = tt
+size_at_requires : tie.Need-size-at-requires invariant-loop decreases-loop
+size_at_requires c κs = tt
 
 enum_told : tie.Need-enum-told invariant-loop decreases-loop
 enum_told c = search rules
 
-enum-known-size : tie.Need-enum-known-size invariant-loop decreases-loop
-enum-known-size c = search rules
+enum_known_size : tie.Need-enum-known-size invariant-loop decreases-loop
+enum_known_size c = search rules
 
-add-next : tie.Need-overflow-add-next invariant-loop decreases-loop
-add-next c = omega (arith, within c)
+add_next : tie.Need-overflow-add-next invariant-loop decreases-loop
+add_next c = omega (arith, within c)
 
-add-next-2 : tie.Need-overflow-add-next-2 invariant-loop decreases-loop
-add-next-2 c = omega (arith, within c)
+add_next_2 : tie.Need-overflow-add-next-2 invariant-loop decreases-loop
+add_next_2 c = omega (arith, within c)
 
-add-counted : tie.Need-overflow-add-counted invariant-loop decreases-loop
-add-counted c = omega (arith, passed-low (here c).loop.invariant, (here c).loop.invariant.within)
+add_counted : tie.Need-overflow-add-counted invariant-loop decreases-loop
+add_counted c = omega (arith, passed_low (here c).loop.invariant, (here c).loop.invariant.within)
 
 -- no part is empty so far
-loop-less : tie.Need-loop-smaller invariant-loop decreases-loop
-loop-less c = omega (arith, (here c.before.before).loop.inv.few)
+loop_less : tie.Need-loop-smaller invariant-loop decreases-loop
+loop_less c = omega (arith, (here c.before.before).loop.inv.few)
 
-loop-again : tie.Need-loop-preserved invariant-loop decreases-loop
-loop-again c = let k = c.before.before in
-    passed-none-empty (here k).loop.invariant (left k) (bytes k) (size k) (room k) (omega arith) (λ e. omega arith) (omega arith) (omega arith)
+loop_again : tie.Need-loop-preserved invariant-loop decreases-loop
+loop_again c = let k = c.before.before in
+    passed_none_empty (here k).loop.invariant (left k) (bytes k) (size k) (room k) (omega arith) (λ e. omega arith) (omega arith) (omega arith)
 
 -- this one is the first
-loop-less-2 : tie.Need-loop-smaller-2 invariant-loop decreases-loop
-loop-less-2 c = omega (arith, (here c.before.before).loop.inv.few)
+loop_less_2 : tie.Need-loop-smaller-2 invariant-loop decreases-loop
+loop_less_2 c = omega (arith, (here c.before.before).loop.inv.few)
 
-loop-again-2 : tie.Need-loop-preserved-2 invariant-loop decreases-loop
-loop-again-2 c = let k = c.before.before in
-    passed-this-empty (here k).loop.invariant (left k) (bytes k) (size k) (room k) (omega arith) (omega arith) (omega arith)
+loop_again_2 : tie.Need-loop-preserved-2 invariant-loop decreases-loop
+loop_again_2 c = let k = c.before.before in
+    passed_this_empty (here k).loop.invariant (left k) (bytes k) (size k) (room k) (omega arith) (omega arith) (omega arith)
 
 -- an earlier one is
-loop-less-3 : tie.Need-loop-smaller-3 invariant-loop decreases-loop
-loop-less-3 c = omega (arith, (here c.before).loop.inv.few)
+loop_less_3 : tie.Need-loop-smaller-3 invariant-loop decreases-loop
+loop_less_3 c = omega (arith, (here c.before).loop.inv.few)
 
-loop-again-3 : tie.Need-loop-preserved-3 invariant-loop decreases-loop
-loop-again-3 c = let k = c.before in
-    passed-earlier-empty (here k).loop.invariant (left k) (bytes k) (size k) (room k) (λ e. omega arith) (omega arith) (omega arith)
+loop_again_3 : tie.Need-loop-preserved-3 invariant-loop decreases-loop
+loop_again_3 c = let k = c.before in
+    passed_earlier_empty (here k).loop.invariant (left k) (bytes k) (size k) (room k) (λ e. omega arith) (omega arith) (omega arith)
 
 returns : tie.Need-returns invariant-loop decreases-loop
 returns c = let h = c.before in
-    passed-all h.loop.invariant (omega (arith, h.loop.invariant.within))
+    passed_all h.loop.invariant (omega (arith, h.loop.invariant.within))
 
 too_many : tie.Need-returns-2 invariant-loop decreases-loop
 too_many c =
     let h = c.before.before in
     let left : h.loop.at ≡ length (body_of h) → ⊥ = search rules in
-    passed-many h.loop.invariant left (omega (arith, h.loop.invariant.few))
+    passed_many h.loop.invariant left (omega (arith, h.loop.invariant.few))
 
 -- there was room for the part whose size is wrong: 5 comes before its size is read
 wrong_size : tie.Need-returns-3 invariant-loop decreases-loop
@@ -136,30 +136,30 @@ wrong_size c =
     let h = turn c.before.before in
     let left : h.loop.at ≡ length (body_of h) → ⊥ = search rules in
     let room : h.loop.count ≡ most_of h → ⊥ = search rules in
-    passed-wrong h.loop.inv left room (sym c.enum_told.given.1 ∙ found c.before.before)
+    passed_wrong h.loop.inv left room (sym c.enum_told.given.1 ∙ found c.before.before)
 
-pub count-parts-spec : {M : Type 1} → statement M
-count-parts-spec =
+pub count_parts_spec : {M : Type 1} → statement M
+count_parts_spec =
     tie.close
     (tie.spec
     invariant-loop
     decreases-loop
-    loop-holds
-    sub-size-at
-    part-size-at-start
-    part-size-at-end
-    size-at-requires
+    loop_holds
+    sub_size_at
+    part_size_at_start
+    part_size_at_end
+    size_at_requires
     enum_told
-    enum-known-size
-    add-next
-    add-next-2
-    add-counted
-    loop-less
-    loop-again
-    loop-less-2
-    loop-again-2
-    loop-less-3
-    loop-again-3
+    enum_known_size
+    add_next
+    add_next_2
+    add_counted
+    loop_less
+    loop_again
+    loop_less_2
+    loop_again_2
+    loop_less_3
+    loop_again_3
     returns
     too_many
     wrong_size)

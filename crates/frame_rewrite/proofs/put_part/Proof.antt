@@ -2,42 +2,42 @@
 use borrow.Author.Rules.{rules}
 use native.Mathlib.Omega.{arith}
 use mathlib.Core.Path.{sym}
-use Rattle.frame_rewrite.proofs.Renewing.{part-put, part-large, part-many, part-tight}
+use Rattle.frame_rewrite.proofs.Renewing.{part_put, part_large, part_many, part_tight}
 use Rattle.frame_rewrite.proofs.put_part.Statement.{statement}
 use Rattle.frame_rewrite.proofs.put_part.Tie as tie
 
-add-grown : tie.Need-overflow-add-grown
-add-grown c = search rules
+add_grown : tie.Need-overflow-add-grown
+add_grown c = search rules
 
-add-grown-2 : tie.Need-overflow-add-grown-2
-add-grown-2 c = search rules
+add_grown_2 : tie.Need-overflow-add-grown-2
+add_grown_2 c = search rules
 
-add-if3 : tie.Need-overflow-add-if3
-add-if3 c = search rules
+add_if3 : tie.Need-overflow-add-if3
+add_if3 c = search rules
 
 add_at : tie.Need-overflow-add-at
 add_at c = search rules
 
-add-at-2 : tie.Need-overflow-add-at-2
-add-at-2 c = search rules
+add_at_2 : tie.Need-overflow-add-at-2
+add_at_2 c = search rules
 
-move-within-requires : tie.Need-move-within-requires
-move-within-requires c κs = search rules
+move_within_requires : tie.Need-move-within-requires
+move_within_requires c κs = search rules
 
-sub-write-part : tie.Need-overflow-sub-write-part
-sub-write-part c = search rules
+sub_write_part : tie.Need-overflow-sub-write-part
+sub_write_part c = search rules
 
-part-write-part-start : tie.Need-slice-bounds-write-part-start
-part-write-part-start c = search rules
+part_write_part_start : tie.Need-slice-bounds-write-part-start
+part_write_part_start c = search rules
 
-part-write-part-end : tie.Need-slice-bounds-write-part-end
-part-write-part-end c = search rules
+part_write_part_end : tie.Need-slice-bounds-write-part-end
+part_write_part_end c = search rules
 
-write-part-requires : tie.Need-write-part-requires
-write-part-requires c κs = search rules
+write_part_requires : tie.Need-write-part-requires
+write_part_requires c κs = search rules
 
-renew-requires : tie.Need-renew-requires
-renew-requires c κs = search rules
+renew_requires : tie.Need-renew-requires
+renew_requires c κs = search rules
 
 same_length : tie.Need-same-length
 same_length c = search rules
@@ -48,37 +48,37 @@ returns c = let renewed = c.before.before in
     let moved = put.before.before.before.before in
     let room = moved.before.before in
     let args = room.before.before.before.before.before.args in
-    part-put args.buffer.now args.part.now args.size (omega (arith, room.before.before.if1.true)) (omega (arith, room.before.if2.true)) (omega (arith, room.if3.true)) moved.move-within.ensures put.write-part.ensures.1 renewed.renew.ensures
+    part_put args.buffer.now args.part.now args.size (omega (arith, room.before.before.if1.true)) (omega (arith, room.before.if2.true)) (omega (arith, room.if3.true)) moved.move-within.ensures put.write-part.ensures.1 renewed.renew.ensures
 
-returns-2 : tie.Need-returns-2
-returns-2 c = let args = c.before.before.before.before.before.args in
-    sym (part-tight args.buffer.now args.part.now args.size (omega arith))
+returns_2 : tie.Need-returns-2
+returns_2 c = let args = c.before.before.before.before.before.args in
+    sym (part_tight args.buffer.now args.part.now args.size (omega arith))
 
-returns-3 : tie.Need-returns-3
-returns-3 c = let args = c.before.before.before.before.args in
-    sym (part-many args.buffer.now args.part.now args.size (omega arith))
+returns_3 : tie.Need-returns-3
+returns_3 c = let args = c.before.before.before.before.args in
+    sym (part_many args.buffer.now args.part.now args.size (omega arith))
 
-returns-4 : tie.Need-returns-4
-returns-4 c = let args = c.before.before.before.args in
-    sym (part-large args.buffer.now args.part.now args.size (omega arith))
+returns_4 : tie.Need-returns-4
+returns_4 c = let args = c.before.before.before.args in
+    sym (part_large args.buffer.now args.part.now args.size (omega arith))
 
-pub put-part-spec : {M : Type 1} → statement M
-put-part-spec =
+pub put_part_spec : {M : Type 1} → statement M
+put_part_spec =
     tie.close
     (tie.spec
-    add-grown
-    add-grown-2
-    add-if3
+    add_grown
+    add_grown_2
+    add_if3
     add_at
-    add-at-2
-    move-within-requires
-    sub-write-part
-    part-write-part-start
-    part-write-part-end
-    write-part-requires
-    renew-requires
+    add_at_2
+    move_within_requires
+    sub_write_part
+    part_write_part_start
+    part_write_part_end
+    write_part_requires
+    renew_requires
     same_length
     returns
-    returns-2
-    returns-3
-    returns-4)
+    returns_2
+    returns_3
+    returns_4)

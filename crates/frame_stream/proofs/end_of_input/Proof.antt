@@ -6,8 +6,8 @@ use Rattle.frame_stream.proofs.end_of_input.Tie as tie
 returns : tie.Need-returns
 returns c = omega (arith, c.if1.true)
 
-returns-2 : tie.Need-returns-2
-returns-2 c = omega (arith, c.if1.false)
+returns_2 : tie.Need-returns-2
+returns_2 c = omega (arith, c.if1.false)
 
-pub end-of-input-spec : {M : Type 1} → statement M
-end-of-input-spec = tie.close (tie.spec returns returns-2)
+pub end_of_input_spec : {M : Type 1} → statement M
+end_of_input_spec = tie.close (tie.spec returns returns_2)

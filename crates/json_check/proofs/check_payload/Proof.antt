@@ -3,65 +3,65 @@ use borrow.Author.Rules.{rules}
 use mathlib.Core.Path.{◌≡◌, sym, ap, ◌∙◌}
 use mathlib.Core.List.{[]}
 use native.Mathlib.Omega.{arith}
-use Rattle.json_scan.specs.Scan.{inObject, behind, between, scan, depthLimit, verdictOf}
-use Rattle.json_scan.specs.WorkingReads.{resumed, valueBy}
-use Rattle.json_scan.proofs.Settled.{value-place, value-stop, value-deeper}
-use Rattle.json_check.proofs.Nesting.{reads-opened}
-use Rattle.json_check.proofs.Outer.{judged-over, judged-wrong, judged-object}
+use Rattle.json_scan.specs.Scan.{in_object, behind, between, scan, depth_limit, verdict_of}
+use Rattle.json_scan.specs.WorkingReads.{resumed, value_by}
+use Rattle.json_scan.proofs.Settled.{value_place, value_stop, value_deeper}
+use Rattle.json_check.proofs.Nesting.{reads_opened}
+use Rattle.json_check.proofs.Outer.{judged_over, judged_wrong, judged-object}
 use Rattle.json_check.proofs.check_payload.Statement.{statement}
 use Rattle.json_check.proofs.check_payload.Tie as tie
 
 -- what the outer object comes to is what the payload comes to
 whole :
     (c : tie.After-object-end) → let bytes = c.before.before.before.before.before.before.before.args.bytes.now in
-    resumed bytes (scan depthLimit (between behind) []) (valueBy c.object-end.result c.object-end.new.1.1.1.0) ≡ verdictOf bytes
+    resumed bytes (scan depth_limit (between behind) []) (value_by c.object-end.result c.object-end.new.1.1.1.0) ≡ verdict_of bytes
 whole c = let w = c.before.before.before.before.before in
-    judged-object w.before.before.args.bytes.now w.white-end.result w.white-end.ensures (omega arith) _ (reads-opened inObject _ _ (omega arith) (omega arith) c.object-end.ensures)
+    judged-object w.before.before.args.bytes.now w.white-end.result w.white-end.ensures (omega arith) _ (reads_opened in_object _ _ (omega arith) (omega arith) c.object-end.ensures)
 
-white-end-requires : tie.Need-white-end-requires
-white-end-requires c κs = search rules
+white_end_requires : tie.Need-white-end-requires
+white_end_requires c κs = search rules
 
 returns : tie.Need-returns
-returns c = judged-over c.before.before.before.args.bytes.now c.before.white-end.result c.before.white-end.ensures (omega arith)
+returns c = judged_over c.before.before.before.args.bytes.now c.before.white-end.result c.before.white-end.ensures (omega arith)
 
-shared-slice-read-if2 : tie.Need-shared-slice-read-if2
-shared-slice-read-if2 c = search rules
+shared_slice_read_if2 : tie.Need-shared-slice-read-if2
+shared_slice_read_if2 c = search rules
 
-returns-2 : tie.Need-returns-2
-returns-2 c = let w = c.before.before.before in
-    judged-wrong w.before.before.args.bytes.now w.white-end.result w.white-end.ensures (omega arith) (λ e. omega arith)
+returns_2 : tie.Need-returns-2
+returns_2 c = let w = c.before.before.before in
+    judged_wrong w.before.before.args.bytes.now w.white-end.result w.white-end.ensures (omega arith) (λ e. omega arith)
 
-object-end-requires : tie.Need-object-end-requires
-object-end-requires c κs = search rules
+object_end_requires : tie.Need-object-end-requires
+object_end_requires c κs = search rules
 
-payload-end-requires : tie.Need-payload-end-requires
-payload-end-requires c κs = search rules
+payload_end_requires : tie.Need-payload-end-requires
+payload_end_requires c κs = search rules
 
-returns-3 : tie.Need-returns-3
-returns-3 c = let d = c.before.before in
+returns_3 : tie.Need-returns-3
+returns_3 c = let d = c.before.before in
     let bytes = d.before.before.before.before.before.before.before.args.bytes.now in
-    sym (c.payload-end.ensures depthLimit) ∙ ap (resumed bytes (scan depthLimit (between behind) [])) (sym (value-place d.object-end.result d.object-end.new.1.1.1.0 (omega arith))) ∙ whole d
+    sym (c.payload-end.ensures depth_limit) ∙ ap (resumed bytes (scan depth_limit (between behind) [])) (sym (value_place d.object-end.result d.object-end.new.1.1.1.0 (omega arith))) ∙ whole d
 
-returns-4 : tie.Need-returns-4
-returns-4 c = let d = c.before.before in
+returns_4 : tie.Need-returns-4
+returns_4 c = let d = c.before.before in
     let bytes = d.before.before.before.before.before.before.before.args.bytes.now in
-    ap (resumed bytes (scan depthLimit (between behind) [])) (sym (value-stop d.object-end.result d.object-end.new.1.1.1.0 (omega arith))) ∙ whole d
+    ap (resumed bytes (scan depth_limit (between behind) [])) (sym (value_stop d.object-end.result d.object-end.new.1.1.1.0 (omega arith))) ∙ whole d
 
-returns-5 : tie.Need-returns-5
-returns-5 c = let d = c.before.before in
+returns_5 : tie.Need-returns-5
+returns_5 c = let d = c.before.before in
     let bytes = d.before.before.before.before.before.before.before.args.bytes.now in
-    ap (resumed bytes (scan depthLimit (between behind) [])) (sym (value-deeper d.object-end.result d.object-end.new.1.1.1.0 (omega arith))) ∙ whole d
+    ap (resumed bytes (scan depth_limit (between behind) [])) (sym (value_deeper d.object-end.result d.object-end.new.1.1.1.0 (omega arith))) ∙ whole d
 
-pub check-payload-spec : {M : Type 1} → statement M
-check-payload-spec =
+pub check_payload_spec : {M : Type 1} → statement M
+check_payload_spec =
     tie.close
     (tie.spec
-    white-end-requires
+    white_end_requires
     returns
-    shared-slice-read-if2
-    returns-2
-    object-end-requires
-    payload-end-requires
-    returns-3
-    returns-4
-    returns-5)
+    shared_slice_read_if2
+    returns_2
+    object_end_requires
+    payload_end_requires
+    returns_3
+    returns_4
+    returns_5)

@@ -8,8 +8,8 @@ use Rattle.json_number.proofs.is_e.Tie as tie
 returns : tie.Need-returns
 returns c = rw (eq-eqb c.before.args.c 101 (omega arith)) refl
 
-returns-2 : tie.Need-returns-2
-returns-2 c = rw (ne_eqb c.before.args.c 101 (λ e. omega arith)) refl
+returns_2 : tie.Need-returns-2
+returns_2 c = rw (ne_eqb c.before.args.c 101 (λ e. omega arith)) refl
 
-pub is-e-spec : {M : Type 1} → statement M
-is-e-spec = tie.close (tie.spec returns returns-2)
+pub is_e_spec : {M : Type 1} → statement M
+is_e_spec = tie.close (tie.spec returns returns_2)

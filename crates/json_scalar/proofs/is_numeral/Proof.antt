@@ -9,11 +9,11 @@ use Rattle.json_scalar.proofs.is_numeral.Tie as tie
 returns : tie.Need-returns
 returns c = rw (eq-eqb c.before.args.c 45 (omega arith)) refl
 
-is-digit-requires : tie.Need-is-digit-requires
-is-digit-requires c κs = search rules
+is_digit_requires : tie.Need-is-digit-requires
+is_digit_requires c κs = search rules
 
-returns-2 : tie.Need-returns-2
-returns-2 c = rw (ne_eqb c.before.before.args.c 45 (λ e. omega arith)) c.is_digit.ensures
+returns_2 : tie.Need-returns-2
+returns_2 c = rw (ne_eqb c.before.before.args.c 45 (λ e. omega arith)) c.is_digit.ensures
 
-pub is-numeral-spec : {M : Type 1} → statement M
-is-numeral-spec = tie.close (tie.spec returns is-digit-requires returns-2)
+pub is_numeral_spec : {M : Type 1} → statement M
+is_numeral_spec = tie.close (tie.spec returns is_digit_requires returns_2)

@@ -6,9 +6,9 @@ use native.Mathlib.Omega.{arith}
 use lib.ListN.{length, drop, get_or, drop_of_length-le}
 use Rattle.json_scan.specs.Scan.{Class, exactly}
 use Rattle.json_scan.proofs.Scanning.{drop_at}
-use Rattle.json_scan.proofs.Rest.{Passed, passed_none, passed-more, passed-wrong, passed_over, passed-all}
+use Rattle.json_scan.proofs.Rest.{Passed, passed_none, passed_more, passed_wrong, passed_over, passed_all}
 use Rattle.json_scalar.specs.WorkingScalars.{spelling}
-use Rattle.json_scalar.proofs.Steps.{is-exactly, not-exactly}
+use Rattle.json_scalar.proofs.Steps.{is_exactly, not_exactly}
 use Rattle.json_scalar.proofs.literal_end.Statement.{statement}
 use Rattle.json_scalar.proofs.literal_end.Tie as tie
 
@@ -25,51 +25,51 @@ left :
 left c = let start = c.before.before in
     subst (λ (ks : List Class). Passed start.args.bytes.now start.args.at (spelling start.args.word.now) c.before.loop.i ks) (ap spelling (drop_at start.args.word.now c.before.loop.j (omega arith))) c.before.loop.invariant
 
-loop-holds : tie.Need-loop-init invariant-loop decreases-loop
-loop-holds c = passed_none
+loop_holds : tie.Need-loop-init invariant-loop decreases-loop
+loop_holds c = passed_none
 
 returns : tie.Need-returns invariant-loop decreases-loop
 returns c = passed_over (left c.before) (omega arith)
 
-shared-slice-read-if2 : tie.Need-shared-slice-read-if2 invariant-loop decreases-loop
-shared-slice-read-if2 c = omega arith
+shared_slice_read_if2 : tie.Need-shared-slice-read-if2 invariant-loop decreases-loop
+shared_slice_read_if2 c = omega arith
 
-shared-slice-read-if2-2 : tie.Need-shared-slice-read-if2-2 invariant-loop decreases-loop
-shared-slice-read-if2-2 c = omega arith
+shared_slice_read_if2_2 : tie.Need-shared-slice-read-if2-2 invariant-loop decreases-loop
+shared_slice_read_if2_2 c = omega arith
 
-returns-2 : tie.Need-returns-2 invariant-loop decreases-loop
-returns-2 c = passed-wrong (left c.before.before.before.before) (omega arith) (not-exactly _ _ c.if2.true)
+returns_2 : tie.Need-returns-2 invariant-loop decreases-loop
+returns_2 c = passed_wrong (left c.before.before.before.before) (omega arith) (not_exactly _ _ c.if2.true)
 
-add-i : tie.Need-overflow-add-i invariant-loop decreases-loop
-add-i c = omega arith
+add_i : tie.Need-overflow-add-i invariant-loop decreases-loop
+add_i c = omega arith
 
-add-j : tie.Need-overflow-add-j invariant-loop decreases-loop
-add-j c = omega arith
+add_j : tie.Need-overflow-add-j invariant-loop decreases-loop
+add_j c = omega arith
 
-loop-less : tie.Need-loop-smaller invariant-loop decreases-loop
-loop-less c = omega arith
+loop_less : tie.Need-loop-smaller invariant-loop decreases-loop
+loop_less c = omega arith
 
-loop-again : tie.Need-loop-preserved invariant-loop decreases-loop
-loop-again c = passed-more (left c.before.before.before.before) (omega arith) (is-exactly _ _ c.if2.false)
+loop_again : tie.Need-loop-preserved invariant-loop decreases-loop
+loop_again c = passed_more (left c.before.before.before.before) (omega arith) (is_exactly _ _ c.if2.false)
 
-returns-3 : tie.Need-returns-3 invariant-loop decreases-loop
-returns-3 c = let start = c.before.before in
+returns_3 : tie.Need-returns-3 invariant-loop decreases-loop
+returns_3 c = let start = c.before.before in
     let over : length start.args.word.now ≤ c.before.loop.j = omega arith in
-    passed-all (subst (λ (ks : List Class). Passed start.args.bytes.now start.args.at (spelling start.args.word.now) c.before.loop.i ks) (ap spelling (drop_of_length-le start.args.word.now over)) c.before.loop.invariant) (omega arith)
+    passed_all (subst (λ (ks : List Class). Passed start.args.bytes.now start.args.at (spelling start.args.word.now) c.before.loop.i ks) (ap spelling (drop_of_length-le start.args.word.now over)) c.before.loop.invariant) (omega arith)
 
-pub literal-end-spec : {M : Type 1} → statement M
-literal-end-spec =
+pub literal_end_spec : {M : Type 1} → statement M
+literal_end_spec =
     tie.close
     (tie.spec
     invariant-loop
     decreases-loop
-    loop-holds
+    loop_holds
     returns
-    shared-slice-read-if2
-    shared-slice-read-if2-2
-    returns-2
-    add-i
-    add-j
-    loop-less
-    loop-again
-    returns-3)
+    shared_slice_read_if2
+    shared_slice_read_if2_2
+    returns_2
+    add_i
+    add_j
+    loop_less
+    loop_again
+    returns_3)

@@ -7,64 +7,64 @@ use native.Mathlib.Omega.{arith}
 use lib.ListN.{drop, replicate}
 use Rattle.json_scan.specs.declared.Reached.{Reached}
 use Rattle.json_scan.specs.Scan.{hex, behind, text, escape, rest}
-use Rattle.json_scan.specs.WorkingEnds.{followed, restEnd}
+use Rattle.json_scan.specs.WorkingEnds.{followed, rest_end}
 use Rattle.json_scan.specs.WorkingReads.{place_of, came}
-use Rattle.json_scan.proofs.Rest.{rest-onward}
-use Rattle.json_string.specs.WorkingText.{textEnd}
-use Rattle.json_string.proofs.Steps.{escape-step, escape-u, escape-wrong}
-use Rattle.json_string.proofs.Texts.{from-over, from_on, from_wrong, text-rest}
+use Rattle.json_scan.proofs.Rest.{rest_onward}
+use Rattle.json_string.specs.WorkingText.{text_end}
+use Rattle.json_string.proofs.Steps.{escape_step, escape_u, escape_wrong}
+use Rattle.json_string.proofs.Texts.{from_over, from_on, from_wrong, text_rest}
 use Rattle.json_string.proofs.escape_end.Statement.{statement}
 use Rattle.json_string.proofs.escape_end.Tie as tie
 
 returns : tie.Need-returns
-returns c = record { same = from-over (escape behind) _ _ (omega arith); onward = omega arith }
+returns c = record { same = from_over (escape behind) _ _ (omega arith); onward = omega arith }
 
-shared-slice-read-c : tie.Need-shared-slice-read-c
-shared-slice-read-c c = search rules
+shared_slice_read_c : tie.Need-shared-slice-read-c
+shared_slice_read_c c = search rules
 
-is-escape-requires : tie.Need-is-escape-requires
-is-escape-requires c κs = search rules
+is_escape_requires : tie.Need-is-escape-requires
+is_escape_requires c κs = search rules
 
-add-t9 : tie.Need-overflow-add-t9
-add-t9 c = search rules
+add_t9 : tie.Need-overflow-add-t9
+add_t9 c = search rules
 
-returns-2 : tie.Need-returns-2
-returns-2 c = record { same = from_on (escape behind) _ _ (omega arith) (text behind) refl (escape-step behind [] _ (sym c.before.is-escape.ensures ∙ c.if2.true)); onward = omega arith }
+returns_2 : tie.Need-returns-2
+returns_2 c = record { same = from_on (escape behind) _ _ (omega arith) (text behind) refl (escape_step behind [] _ (sym c.before.is-escape.ensures ∙ c.if2.true)); onward = omega arith }
 
-add-hex-end : tie.Need-overflow-add-hex-end
-add-hex-end c = search rules
+add_hex_end : tie.Need-overflow-add-hex-end
+add_hex_end c = search rules
 
-hex-end-requires : tie.Need-hex-end-requires
-hex-end-requires c κs = search rules
+hex_end_requires : tie.Need-hex-end-requires
+hex_end_requires c κs = search rules
 
-returns-3 : tie.Need-returns-3
-returns-3 c =
+returns_3 : tie.Need-returns-3
+returns_3 c =
     let start = c.before.before.before.before.before.before.before in
     let bytes = start.args.bytes.now in
     let at = start.args.at in
-    let told : c.hex-end.result ≡ restEnd (replicate 4 hex) (at + 1) (drop (at + 1) bytes) = c.hex-end.ensures in
-    let on : at + 1 ≤ place_of (came c.hex-end.result) = subst⁻¹ (λ (r : Reached). at + 1 ≤ place_of (came r)) told (rest-onward bytes (replicate 4 hex) (at + 1)) in
+    let told : c.hex-end.result ≡ rest_end (replicate 4 hex) (at + 1) (drop (at + 1) bytes) = c.hex-end.ensures in
+    let on : at + 1 ≤ place_of (came c.hex-end.result) = subst⁻¹ (λ (r : Reached). at + 1 ≤ place_of (came r)) told (rest_onward bytes (replicate 4 hex) (at + 1)) in
     record {
       same =
-          from_on (escape behind) bytes at (omega arith) (rest hex (hex ∷ hex ∷ hex ∷ []) (text behind)) refl (escape-u behind [] _ (omega arith))
-          ∙ text-rest bytes (replicate 4 hex) (at + 1)
-          ∙ ap (λ (r : Reached). followed r (λ i. textEnd i (drop i bytes))) (sym told);
+          from_on (escape behind) bytes at (omega arith) (rest hex (hex ∷ hex ∷ hex ∷ []) (text behind)) refl (escape_u behind [] _ (omega arith))
+          ∙ text_rest bytes (replicate 4 hex) (at + 1)
+          ∙ ap (λ (r : Reached). followed r (λ i. text_end i (drop i bytes))) (sym told);
       onward = omega (arith, on);
     }
 
-returns-4 : tie.Need-returns-4
-returns-4 c = record { same = from_wrong (escape behind) _ _ (omega arith) (escape-wrong behind [] _ (sym c.before.before.is-escape.ensures ∙ c.before.if2.false) (λ e. omega arith)); onward = omega arith }
+returns_4 : tie.Need-returns-4
+returns_4 c = record { same = from_wrong (escape behind) _ _ (omega arith) (escape_wrong behind [] _ (sym c.before.before.is-escape.ensures ∙ c.before.if2.false) (λ e. omega arith)); onward = omega arith }
 
-pub escape-end-spec : {M : Type 1} → statement M
-escape-end-spec =
+pub escape_end_spec : {M : Type 1} → statement M
+escape_end_spec =
     tie.close
     (tie.spec
     returns
-    shared-slice-read-c
-    is-escape-requires
-    add-t9
-    returns-2
-    add-hex-end
-    hex-end-requires
-    returns-3
-    returns-4)
+    shared_slice_read_c
+    is_escape_requires
+    add_t9
+    returns_2
+    add_hex_end
+    hex_end_requires
+    returns_3
+    returns_4)

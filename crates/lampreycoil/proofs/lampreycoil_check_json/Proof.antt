@@ -3,8 +3,8 @@ use borrow.Author.Rules.{rules}
 use Rattle.lampreycoil.proofs.lampreycoil_check_json.Statement.{statement}
 use Rattle.lampreycoil.proofs.lampreycoil_check_json.Tie as tie
 
-check-json-requires : tie.Need-check-json-requires
-check-json-requires c κs = search rules
+check_json_requires : tie.Need-check-json-requires
+check_json_requires c κs = search rules
 
 same_length : tie.Need-same-length
 same_length c = search rules
@@ -12,5 +12,5 @@ same_length c = search rules
 returns : tie.Need-returns
 returns c = let does = c.before.before.check-json.ensures in record { short = does.short; checks = does.checks }
 
-pub lampreycoil-check-json-spec : {M : Type 1} → statement M
-lampreycoil-check-json-spec = tie.close (tie.spec check-json-requires same_length returns)
+pub lampreycoil_check_json_spec : {M : Type 1} → statement M
+lampreycoil_check_json_spec = tie.close (tie.spec check_json_requires same_length returns)

@@ -3,17 +3,17 @@ use borrow.Author.Rules.{rules}
 use Rattle.lampreycoil.proofs.lampreycoil_read_stream.Statement.{statement}
 use Rattle.lampreycoil.proofs.lampreycoil_read_stream.Tie as tie
 
-read-stream-requires : tie.Need-read-stream-requires
-read-stream-requires c κs = search rules
+read_stream_requires : tie.Need-read-stream-requires
+read_stream_requires c κs = search rules
 
 same_length : tie.Need-same-length
 same_length c = search rules
 
-same-length-2 : tie.Need-same-length-2
-same-length-2 c = search rules
+same_length_2 : tie.Need-same-length-2
+same_length_2 c = search rules
 
 returns : tie.Need-returns
 returns c = c.before.before.before.before.read-stream.ensures
 
-pub lampreycoil-read-stream-spec : {M : Type 1} → statement M
-lampreycoil-read-stream-spec = tie.close (tie.spec read-stream-requires same_length same-length-2 returns)
+pub lampreycoil_read_stream_spec : {M : Type 1} → statement M
+lampreycoil_read_stream_spec = tie.close (tie.spec read_stream_requires same_length same_length_2 returns)

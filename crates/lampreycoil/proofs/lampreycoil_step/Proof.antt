@@ -3,18 +3,18 @@ use borrow.Author.Rules.{rules}
 use Rattle.lampreycoil.proofs.lampreycoil_step.Statement.{statement}
 use Rattle.lampreycoil.proofs.lampreycoil_step.Tie as tie
 
-step-requires : tie.Need-step-requires
-step-requires c κs = search rules
+step_requires : tie.Need-step-requires
+step_requires c κs = search rules
 
 same_length : tie.Need-same-length
 same_length c = search rules
 
-same-length-2 : tie.Need-same-length-2
-same-length-2 c = search rules
+same_length_2 : tie.Need-same-length-2
+same_length_2 c = search rules
 
 returns : tie.Need-returns
 returns c = let does = c.before.before.before.before.step.ensures in
     record { returns = does.returns; leaves = does.leaves; lists = does.lists }
 
-pub lampreycoil-step-spec : {M : Type 1} → statement M
-lampreycoil-step-spec = tie.close (tie.spec step-requires same_length same-length-2 returns)
+pub lampreycoil_step_spec : {M : Type 1} → statement M
+lampreycoil_step_spec = tie.close (tie.spec step_requires same_length same_length_2 returns)

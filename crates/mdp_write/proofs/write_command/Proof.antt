@@ -4,13 +4,13 @@ use mathlib.Core.Path.{sym, ap, ◌∙◌}
 use mathlib.Core.List.{List}
 use Prim.Native.Nat.{ℕ}
 use lib.ListN.{length}
-use Rattle.bytes_number.proofs.Numbers.{bytes-of}
-use Rattle.refusal.specs.Answer.{Answer, writtenOver}
-use Rattle.frame_message.specs.Working.{writtenAs}
+use Rattle.bytes_number.proofs.Numbers.{bytes_of_lem}
+use Rattle.refusal.specs.Answer.{Answer, written_over}
+use Rattle.frame_message.specs.Working.{written_as}
 use Rattle.frame_message.specs.declared.Written.TheVariants.{Frame}
-use Rattle.frame_write_check.proofs.Answers.{told-refused}
-use Rattle.mdp_command.specs.CommandWriting.{Given, given_of, commandInto}
-use Rattle.mdp_write.proofs.Wholes.{Told, told-given}
+use Rattle.frame_write_check.proofs.Answers.{told_refused}
+use Rattle.mdp_command.specs.CommandWriting.{Given, given_of, command_into}
+use Rattle.mdp_write.proofs.Wholes.{Told, told_given}
 use Rattle.mdp_write.proofs.write_command.Statement.{statement}
 use Rattle.mdp_write.proofs.write_command.Tie as tie
 
@@ -19,7 +19,7 @@ abbrev given : tie.Start → Given
 given s = given_of s.args.sender s.args.code s.args.name.now s.args.address.now s.args.body.now
 
 abbrev answer : tie.Start → Answer (List ℕ)
-answer s = commandInto (length s.args.out.now) (given s)
+answer s = command_into (length s.args.out.now) (given s)
 
 -- the command was looked at
 module _ (d : tie.After-check-command) where
@@ -29,51 +29,51 @@ module _ (d : tie.After-check-command) where
 told : (c : tie.After-checked2) → let s = start c.before.before in Told (length s.args.out.now) (given s) c.checked2.given.0.0
 told c = let d = c.before.before in
     let s = start d in
-    told-given (length s.args.out.now) (given s) (bytes-of s.args.body.now (λ i. (d.before.before.before.shared-slice-known3.given i).fits)) (sym d.check-command.ensures ∙ c.checked2.given.1)
+    told_given (length s.args.out.now) (given s) (bytes_of_lem s.args.body.now (λ i. (d.before.before.before.shared-slice-known3.given i).fits)) (sym d.check-command.ensures ∙ c.checked2.given.1)
 
-mark-of-requires : tie.Need-mark-of-requires
-mark-of-requires c κs = search rules
+mark_of_requires : tie.Need-mark-of-requires
+mark_of_requires c κs = search rules
 
-check-command-requires : tie.Need-check-command-requires
-check-command-requires c κs = search rules
+check_command_requires : tie.Need-check-command-requires
+check_command_requires c κs = search rules
 
-enum-known-checked : tie.Need-enum-known-checked
-enum-known-checked c = search rules
+enum_known_checked : tie.Need-enum-known-checked
+enum_known_checked c = search rules
 
-enum-known-checked-2 : tie.Need-enum-known-checked-2
-enum-known-checked-2 c = search rules
+enum_known_checked_2 : tie.Need-enum-known-checked-2
+enum_known_checked_2 c = search rules
 
-slice-aggregate-write-whole : tie.Need-slice-aggregate-write-whole
-slice-aggregate-write-whole c = search rules
+slice_aggregate_write_whole : tie.Need-slice-aggregate-write-whole
+slice_aggregate_write_whole c = search rules
 
-write-whole-requires : tie.Need-write-whole-requires
-write-whole-requires c κs = let e = c.before.before.before in
+write_whole_requires : tie.Need-write-whole-requires
+write_whole_requires c κs = let e = c.before.before.before in
     (e.before.before.before.mark_of.ensures, (told e).ranges)
 
 returns : tie.Need-returns
 returns c = let s = start c.before.before.before in
-    let into = told-refused (answer s) (sym c.before.before.before.check-command.ensures ∙ c.before.checked.given.1) in
-    (ap writtenAs (sym into), ap (λ (a : Answer (List ℕ)). writtenOver a s.args.out.now) (sym into))
+    let into = told_refused (answer s) (sym c.before.before.before.check-command.ensures ∙ c.before.checked.given.1) in
+    (ap written_as (sym into), ap (λ (a : Answer (List ℕ)). written_over a s.args.out.now) (sym into))
 
 same_length : tie.Need-same-length
 same_length c = search rules
 
-returns-2 : tie.Need-returns-2
-returns-2 c = let e = c.before.before in
+returns_2 : tie.Need-returns-2
+returns_2 c = let e = c.before.before in
     let t = told e.before.before.before.before in
     let out = (start e.before.before.before.before.before.before).args.out.now in
-    (ap Frame t.long ∙ ap writtenAs (sym t.writes), e.write-whole.ensures ∙ ap (λ (a : Answer (List ℕ)). writtenOver a out) (sym t.writes))
+    (ap Frame t.long ∙ ap written_as (sym t.writes), e.write-whole.ensures ∙ ap (λ (a : Answer (List ℕ)). written_over a out) (sym t.writes))
 
-pub write-command-spec : {M : Type 1} → statement M
-write-command-spec =
+pub write_command_spec : {M : Type 1} → statement M
+write_command_spec =
     tie.close
     (tie.spec
-    mark-of-requires
-    check-command-requires
-    enum-known-checked
-    enum-known-checked-2
-    slice-aggregate-write-whole
-    write-whole-requires
+    mark_of_requires
+    check_command_requires
+    enum_known_checked
+    enum_known_checked_2
+    slice_aggregate_write_whole
+    write_whole_requires
     returns
     same_length
-    returns-2)
+    returns_2)

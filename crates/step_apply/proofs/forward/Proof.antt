@@ -3,7 +3,7 @@ use borrow.Author.Rules.{rules}
 use native.Mathlib.Omega.{arith}
 use Prim.Native.Nat.{ℕ, ◌+◌, ◌<◌, ◌≤◌}
 use lib.ListN.{length}
-use Rattle.step_apply.proofs.Growing.{grown-many, grown-long, grown-tight, grown-fits, forwards-not, forwards-on}
+use Rattle.step_apply.proofs.Growing.{grown_many, grown_long, grown_tight, grown_fits, forwards_not, forwards_on}
 use Rattle.step_apply.proofs.forward.Statement.{statement}
 use Rattle.step_apply.proofs.forward.Tie as tie
 
@@ -33,54 +33,54 @@ module _ (e : tie.Else3) where
 
 returns : tie.Need-returns
 returns c = let s = c.before.before.before in
-    forwards-not (grown-many (routes s) (size s) (part s) (room s) (omega (arith, c.if1.true)))
+    forwards_not (grown_many (routes s) (size s) (part s) (room s) (omega (arith, c.if1.true)))
 
-returns-2 : tie.Need-returns-2
-returns-2 c = let s = c.before.before.before.before in
-    forwards-not (grown-long (routes s) (size s) (part s) (room s) (omega (arith, c.if2.true)))
+returns_2 : tie.Need-returns-2
+returns_2 c = let s = c.before.before.before.before in
+    forwards_not (grown_long (routes s) (size s) (part s) (room s) (omega (arith, c.if2.true)))
 
-add-grown : tie.Need-overflow-add-grown
-add-grown c = search rules
+add_grown : tie.Need-overflow-add-grown
+add_grown c = search rules
 
-add-grown-2 : tie.Need-overflow-add-grown-2
-add-grown-2 c = search rules
+add_grown_2 : tie.Need-overflow-add-grown-2
+add_grown_2 c = search rules
 
-returns-3 : tie.Need-returns-3
-returns-3 c = let s = c.before.before.before.before.before in
-    forwards-not (grown-long (routes s) (size s) (part s) (room s) (omega (arith, c.if3.true)))
+returns_3 : tie.Need-returns-3
+returns_3 c = let s = c.before.before.before.before.before in
+    forwards_not (grown_long (routes s) (size s) (part s) (room s) (omega (arith, c.if3.true)))
 
-add-if4 : tie.Need-overflow-add-if4
-add-if4 c = search rules
+add_if4 : tie.Need-overflow-add-if4
+add_if4 c = search rules
 
-returns-4 : tie.Need-returns-4
-returns-4 c = let e = c.before in
+returns_4 : tie.Need-returns-4
+returns_4 c = let e = c.before in
     let s = begun e in
-    forwards-not (grown-tight (routes s) (size s) (part s) (room s) (few e) (fits e) (omega (arith, c.if4.true)))
+    forwards_not (grown_tight (routes s) (size s) (part s) (room s) (few e) (fits e) (omega (arith, c.if4.true)))
 
-put-part-requires : tie.Need-put-part-requires
-put-part-requires c κs = search rules
+put_part_requires : tie.Need-put-part-requires
+put_part_requires c κs = search rules
 
 same_length : tie.Need-same-length
 same_length c = search rules
 
-returns-5 : tie.Need-returns-5
-returns-5 c = let put = c.before.before in
+returns_5 : tie.Need-returns-5
+returns_5 c = let put = c.before.before in
     let last = put.before.before in
     let e = last.before in
     let s = begun e in
-    forwards-on (size s) (omega arith) (grown-fits (routes s) (size s) (part s) (room s) (few e) (fits e) (omega (arith, last.if4.false))) put.put-part.ensures
+    forwards_on (size s) (omega arith) (grown_fits (routes s) (size s) (part s) (room s) (few e) (fits e) (omega (arith, last.if4.false))) put.put-part.ensures
 
-pub forward-spec : {M : Type 1} → statement M
-forward-spec =
+pub forward_spec : {M : Type 1} → statement M
+forward_spec =
     tie.close
     (tie.spec
     returns
-    returns-2
-    add-grown
-    add-grown-2
-    returns-3
-    add-if4
-    returns-4
-    put-part-requires
+    returns_2
+    add_grown
+    add_grown_2
+    returns_3
+    add_if4
+    returns_4
+    put_part_requires
     same_length
-    returns-5)
+    returns_5)

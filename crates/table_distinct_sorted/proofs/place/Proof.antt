@@ -4,21 +4,21 @@ use mathlib.Core.Path.{◌≡◌, sym, ◌∙◌}
 use mathlib.Core.List.{List}
 use native.Mathlib.Omega.{arith}
 use lib.ListN.{length, get_or}
-use Rattle.table_records.specs.Records.{recordAt}
-use Rattle.table_records.proofs.Records.{record-fits, length-record}
+use Rattle.table_records.specs.Records.{record_at}
+use Rattle.table_records.proofs.Records.{record_fits, length_record}
 use Rattle.table_distinct_sorted.specs.WorkingOrder.{before}
-use Rattle.table_distinct_sorted.proofs.Order.{one-length, Halved, halved-start, halved-low, halved-high, halved-end}
+use Rattle.table_distinct_sorted.proofs.Order.{one-length, Halved, halved_start, halved_low, halved_high, halved_end}
 use Rattle.table_distinct_sorted.proofs.place.Statement.{statement}
 use Rattle.table_distinct_sorted.proofs.place.Tie as tie
 
 abbrev invariant-loop : tie.invariant-loop
-invariant-loop table width order i low₀ high₀ low high = Halved (recordAt width table) order i low high
+invariant-loop table width order i low₀ high₀ low high = Halved (record_at width table) order i low high
 
 abbrev decreases-loop : tie.decreases-loop
 decreases-loop table width order i low₀ high₀ low high = high - low
 
-loop-holds : tie.Need-loop-init invariant-loop decreases-loop
-loop-holds c = halved-start _ _ _
+loop_holds : tie.Need-loop-init invariant-loop decreases-loop
+loop_holds c = halved_start _ _ _
 
 -- a turn: the place in the middle, and the record there
 module _ (h : tie.In-loop invariant-loop decreases-loop) where
@@ -43,29 +43,29 @@ module _ (h : tie.In-loop invariant-loop decreases-loop) where
   known : j < start.args.i
   known = start.pre.2.known middle within
 
-sub-middle : tie.Need-overflow-sub-middle invariant-loop decreases-loop
-sub-middle c = omega arith
+sub_middle : tie.Need-overflow-sub-middle invariant-loop decreases-loop
+sub_middle c = omega arith
 
-add-middle : tie.Need-overflow-add-middle invariant-loop decreases-loop
-add-middle c = omega (arith, within c, (start c).requires.0)
+add_middle : tie.Need-overflow-add-middle invariant-loop decreases-loop
+add_middle c = omega (arith, within c, (start c).requires.0)
 
-mul-j : tie.Need-overflow-mul-j invariant-loop decreases-loop
-mul-j c = omega (arith, within c, (start c).requires.0)
+mul_j : tie.Need-overflow-mul-j invariant-loop decreases-loop
+mul_j c = omega (arith, within c, (start c).requires.0)
 
-element-copy-out-j : tie.Need-element-copy-out-j invariant-loop decreases-loop
-element-copy-out-j c = omega (arith, within c, (start c).requires.0)
+element_copy_out_j : tie.Need-element-copy-out-j invariant-loop decreases-loop
+element_copy_out_j c = omega (arith, within c, (start c).requires.0)
 
-cast-j : tie.Need-overflow-cast-j invariant-loop decreases-loop
-cast-j c = omega (arith, known c.before, (start c.before).pre.0)
+cast_j : tie.Need-overflow-cast-j invariant-loop decreases-loop
+cast_j c = omega (arith, known c.before, (start c.before).pre.0)
 
-record-at-requires : tie.Need-record-at-requires invariant-loop decreases-loop
-record-at-requires c κs = tt
+record_at_requires : tie.Need-record-at-requires invariant-loop decreases-loop
+record_at_requires c κs = tt
 
-record-at-requires-2 : tie.Need-record-at-requires-2 invariant-loop decreases-loop
-record-at-requires-2 c κs = tt
+record_at_requires_2 : tie.Need-record-at-requires-2 invariant-loop decreases-loop
+record_at_requires_2 c κs = tt
 
-is-before-requires : tie.Need-is-before-requires invariant-loop decreases-loop
-is-before-requires c κs = tt
+is_before_requires : tie.Need-is-before-requires invariant-loop decreases-loop
+is_before_requires c κs = tt
 
 -- what the call says of the two records
 module _ (c : tie.After-is-before invariant-loop decreases-loop) where
@@ -73,58 +73,58 @@ module _ (c : tie.After-is-before invariant-loop decreases-loop) where
   turn = c.before.before.before.before
 
   -- both are whole
-  alike : length (recordAt (width turn) (table turn) (j turn)) ≡ length (recordAt (width turn) (table turn) (start turn).args.i)
+  alike : length (record_at (width turn) (table turn) (j turn)) ≡ length (record_at (width turn) (table turn) (start turn).args.i)
   alike =
-      let fits = record-fits (width turn) (start turn).args.i (j turn) (table turn) (known turn) (omega (arith, (start turn).pre.1)) in
-      length-record (width turn) (j turn) (table turn) fits ∙ sym (length-record (width turn) (start turn).args.i (table turn) (start turn).pre.1)
+      let fits = record_fits (width turn) (start turn).args.i (j turn) (table turn) (known turn) (omega (arith, (start turn).pre.1)) in
+      length_record (width turn) (j turn) (table turn) fits ∙ sym (length_record (width turn) (start turn).args.i (table turn) (start turn).pre.1)
 
-  said : c.is-before.result ≡ before (recordAt (width turn) (table turn) (j turn)) (recordAt (width turn) (table turn) (start turn).args.i)
+  said : c.is-before.result ≡ before (record_at (width turn) (table turn) (j turn)) (record_at (width turn) (table turn) (start turn).args.i)
   said =
       rw (← c.before.before.record-at.ensures, ← c.before.record-at2.ensures) c.is-before.ensures
-      ∙ one-length (recordAt (width turn) (table turn) (j turn)) (recordAt (width turn) (table turn) (start turn).args.i) alike
+      ∙ one-length (record_at (width turn) (table turn) (j turn)) (record_at (width turn) (table turn) (start turn).args.i) alike
 
 add_low : tie.Need-overflow-add-low invariant-loop decreases-loop
 add_low c = omega (arith, within (turn c.before), (start (turn c.before)).pre.0)
 
-loop-less : tie.Need-loop-smaller invariant-loop decreases-loop
-loop-less c = omega arith
+loop_less : tie.Need-loop-smaller invariant-loop decreases-loop
+loop_less c = omega arith
 
-loop-again : tie.Need-loop-preserved invariant-loop decreases-loop
-loop-again c =
+loop_again : tie.Need-loop-preserved invariant-loop decreases-loop
+loop_again c =
     let h = turn c.before in
-    halved-low (recordAt (width h) (table h)) (start h).args.order.now (start h).args.i (start h).pre.2 h.before.loop.low h.before.loop.high (middle h) h.before.loop.inv (omega arith) (omega arith) (sym (said c.before) ∙ c.if1.true)
+    halved_low (record_at (width h) (table h)) (start h).args.order.now (start h).args.i (start h).pre.2 h.before.loop.low h.before.loop.high (middle h) h.before.loop.inv (omega arith) (omega arith) (sym (said c.before) ∙ c.if1.true)
 
-loop-less-2 : tie.Need-loop-smaller-2 invariant-loop decreases-loop
-loop-less-2 c = omega arith
+loop_less_2 : tie.Need-loop-smaller-2 invariant-loop decreases-loop
+loop_less_2 c = omega arith
 
-loop-again-2 : tie.Need-loop-preserved-2 invariant-loop decreases-loop
-loop-again-2 c =
+loop_again_2 : tie.Need-loop-preserved-2 invariant-loop decreases-loop
+loop_again_2 c =
     let h = turn c.before in
-    halved-high (recordAt (width h) (table h)) (start h).args.order.now (start h).args.i (start h).pre.2 h.before.loop.low h.before.loop.high (middle h) h.before.loop.inv (omega arith) (omega arith) (sym (said c.before) ∙ c.if1.false)
+    halved_high (record_at (width h) (table h)) (start h).args.order.now (start h).args.i (start h).pre.2 h.before.loop.low h.before.loop.high (middle h) h.before.loop.inv (omega arith) (omega arith) (sym (said c.before) ∙ c.if1.false)
 
 returns : tie.Need-returns invariant-loop decreases-loop
 returns c =
     let begun = c.before.before.before in
-    halved-end (recordAt begun.args.width begun.args.table.now) begun.args.order.now begun.args.i c.before.loop.low c.before.loop.high (omega arith) c.before.loop.invariant
+    halved_end (record_at begun.args.width begun.args.table.now) begun.args.order.now begun.args.i c.before.loop.low c.before.loop.high (omega arith) c.before.loop.invariant
 
-pub place-spec : {M : Type 1} → statement M
-place-spec =
+pub place_spec : {M : Type 1} → statement M
+place_spec =
     tie.close
     (tie.spec
     invariant-loop
     decreases-loop
-    loop-holds
-    sub-middle
-    add-middle
-    mul-j
-    element-copy-out-j
-    cast-j
-    record-at-requires
-    record-at-requires-2
-    is-before-requires
+    loop_holds
+    sub_middle
+    add_middle
+    mul_j
+    element_copy_out_j
+    cast_j
+    record_at_requires
+    record_at_requires_2
+    is_before_requires
     add_low
-    loop-less
-    loop-again
-    loop-less-2
-    loop-again-2
+    loop_less
+    loop_again
+    loop_less_2
+    loop_again_2
     returns)

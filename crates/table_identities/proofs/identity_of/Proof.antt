@@ -3,11 +3,11 @@ use borrow.Author.Rules.{rules}
 use Rattle.table_identities.proofs.identity_of.Statement.{statement}
 use Rattle.table_identities.proofs.identity_of.Tie as tie
 
-record-at-requires : tie.Need-record-at-requires
-record-at-requires c κs = search rules
+record_at_requires : tie.Need-record-at-requires
+record_at_requires c κs = search rules
 
 returns : tie.Need-returns
 returns c = c.record-at.ensures
 
-pub identity-of-spec : {M : Type 1} → statement M
-identity-of-spec = tie.close (tie.spec record-at-requires returns)
+pub identity_of_spec : {M : Type 1} → statement M
+identity_of_spec = tie.close (tie.spec record_at_requires returns)

@@ -9,9 +9,9 @@ use Rattle.refusal.specs.Answer.{Answer}
 use Rattle.step_routing.specs.declared.Broker.{Broker}
 use Rattle.step_routing.specs.Routed.{Tables, Outcome, tables_of}
 use Rattle.step_pass.specs.Step.{step_of}
-use Rattle.call_step_record.specs.WorkingRows.{refusalIn}
-use Rattle.call_specs.specs.Calls.{hostBroker}
-use Rattle.call_specs.proofs.StepCalls.{step-short, step-on, tells-on, tells-refused, tells-no, tells-yes}
+use Rattle.call_step_record.specs.WorkingRows.{refusal_in}
+use Rattle.call_specs.specs.Calls.{host_broker}
+use Rattle.call_specs.proofs.StepCalls.{step_short, step_on, tells_on, tells_refused, tells_no, tells_yes}
 use Rattle.call_step.proofs.steps.step.Statement.{statement}
 use Rattle.call_step.proofs.steps.step.Tie as tie
 
@@ -20,7 +20,7 @@ module _ (s : tie.Start) where
   tables = tables_of s.args.tree.now s.args.services.now s.args.identities.now
 
   abbrev who : Broker
-  who = hostBroker s.args.rank
+  who = host_broker s.args.rank
 
   abbrev b : List ℕ
   b = s.args.buffer.now
@@ -42,71 +42,71 @@ module _ (d : tie.After-refusal-in) where
   abbrev answer : Answer Outcome
   answer = step_of (tables start) (who start) (b start)
 
-number-requires : tie.Need-number-requires
-number-requires c κs = search rules
+number_requires : tie.Need-number-requires
+number_requires c κs = search rules
 
 returns : tie.Need-returns
 returns c = let s = c.before.before.before.before.before.before.before in
-    tells-refused (step-short (tables s) (who s) (b s) (length (row s)) (omega (arith, c.before.if1.true))) c.number.ensures
+    tells_refused (step_short (tables s) (who s) (b s) (length (row s)) (omega (arith, c.before.if1.true))) c.number.ensures
 
-step-requires : tie.Need-step-requires
-step-requires c κs = search rules
+step_requires : tie.Need-step-requires
+step_requires c κs = search rules
 
-refusal-in-requires : tie.Need-refusal-in-requires
-refusal-in-requires c κs = search rules
+refusal_in_requires : tie.Need-refusal-in-requires
+refusal_in_requires c κs = search rules
 
 same_length : tie.Need-same-length
 same_length c = search rules
 
-returns-2 : tie.Need-returns-2
-returns-2 c = let d = c.before in
+returns_2 : tie.Need-returns-2
+returns_2 c = let d = c.before in
     let s = start d in
-    tells-on (step-on (tables s) (who s) (b s) (length (row s)) (room d))
-    (tells-no (answer d) (made d).step.ensures.told (made d).step.ensures.leaves d.refusal-in.ensures (λ e. omega (arith, c.if2.true)))
+    tells_on (step_on (tables s) (who s) (b s) (length (row s)) (room d))
+    (tells_no (answer d) (made d).step.ensures.told (made d).step.ensures.leaves d.refusal-in.ensures (λ e. omega (arith, c.if2.true)))
 
-frame-length-requires : tie.Need-frame-length-requires
-frame-length-requires c κs = search rules
+frame_length_requires : tie.Need-frame-length-requires
+frame_length_requires c κs = search rules
 
-step-row-requires : tie.Need-step-row-requires
-step-row-requires c κs = search rules
+step_row_requires : tie.Need-step-row-requires
+step_row_requires c κs = search rules
 
-slice-aggregate-put-row : tie.Need-slice-aggregate-put-row
-slice-aggregate-put-row c = search rules
+slice_aggregate_put_row : tie.Need-slice-aggregate-put-row
+slice_aggregate_put_row c = search rules
 
-put-row-requires : tie.Need-put-row-requires
-put-row-requires c κs = search rules
+put_row_requires : tie.Need-put-row-requires
+put_row_requires c κs = search rules
 
-same-length-2 : tie.Need-same-length-2
-same-length-2 c = search rules
+same_length_2 : tie.Need-same-length-2
+same_length_2 c = search rules
 
-same-length-3 : tie.Need-same-length-3
-same-length-3 c = search rules
+same_length_3 : tie.Need-same-length-3
+same_length_3 c = search rules
 
-returns-3 : tie.Need-returns-3
-returns-3 c = let put = c.before.before in
+returns_3 : tie.Need-returns-3
+returns_3 c = let put = c.before.before in
     let listed = put.before.before in
     let measured = listed.before in
     let no = measured.before.before.before in
     let d = no.before in
     let s = start d in
-    let none : refusalIn (made d).step.result ≡ 0 = sym d.refusal-in.ensures ∙ omega (arith, no.if2.false) in
-    tells-on (step-on (tables s) (who s) (b s) (length (row s)) (room d))
-    (tells-yes (answer d) (made d).step.ensures.told (made d).step.ensures.leaves none measured.frame-length.ensures listed.step_row.ensures (room d) put.put-row.ensures)
+    let none : refusal_in (made d).step.result ≡ 0 = sym d.refusal-in.ensures ∙ omega (arith, no.if2.false) in
+    tells_on (step_on (tables s) (who s) (b s) (length (row s)) (room d))
+    (tells_yes (answer d) (made d).step.ensures.told (made d).step.ensures.leaves none measured.frame_length_lem.ensures listed.step_row.ensures (room d) put.put-row.ensures)
 
 pub step_spec : {M : Type 1} → statement M
 step_spec =
     tie.close
     (tie.spec
-    number-requires
+    number_requires
     returns
-    step-requires
-    refusal-in-requires
+    step_requires
+    refusal_in_requires
     same_length
-    returns-2
-    frame-length-requires
-    step-row-requires
-    slice-aggregate-put-row
-    put-row-requires
-    same-length-2
-    same-length-3
-    returns-3)
+    returns_2
+    frame_length_requires
+    step_row_requires
+    slice_aggregate_put_row
+    put_row_requires
+    same_length_2
+    same_length_3
+    returns_3)

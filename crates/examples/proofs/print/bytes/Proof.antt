@@ -11,45 +11,45 @@ invariant-loop s i₀ t3 i = i ≤ length s
 abbrev decreases-loop : tie.decreases-loop
 decreases-loop s i₀ t3 i = length s - i
 
-loop-holds : tie.Need-loop-init invariant-loop decreases-loop
-loop-holds c = search rules
+loop_holds : tie.Need-loop-init invariant-loop decreases-loop
+loop_holds c = search rules
 
-slice-aggregate-text : tie.Need-slice-aggregate-text invariant-loop decreases-loop
-slice-aggregate-text c = search rules
+slice_aggregate_text : tie.Need-slice-aggregate-text invariant-loop decreases-loop
+slice_aggregate_text c = search rules
 
-text-requires : tie.Need-text-requires invariant-loop decreases-loop
-text-requires c κs = search rules
+text_requires : tie.Need-text-requires invariant-loop decreases-loop
+text_requires c κs = search rules
 
-shared-slice-read-byte : tie.Need-shared-slice-read-byte invariant-loop decreases-loop
-shared-slice-read-byte c = search rules
+shared_slice_read_byte : tie.Need-shared-slice-read-byte invariant-loop decreases-loop
+shared_slice_read_byte c = search rules
 
-byte-requires : tie.Need-byte-requires invariant-loop decreases-loop
-byte-requires c κs = search rules
+byte_requires : tie.Need-byte-requires invariant-loop decreases-loop
+byte_requires c κs = search rules
 
-add-i : tie.Need-overflow-add-i invariant-loop decreases-loop
-add-i c = search rules
+add_i : tie.Need-overflow-add-i invariant-loop decreases-loop
+add_i c = search rules
 
-loop-less : tie.Need-loop-smaller invariant-loop decreases-loop
-loop-less c = search rules
+loop_less : tie.Need-loop-smaller invariant-loop decreases-loop
+loop_less c = search rules
 
-loop-again : tie.Need-loop-preserved invariant-loop decreases-loop
-loop-again c = search rules
+loop_again : tie.Need-loop-preserved invariant-loop decreases-loop
+loop_again c = search rules
 
 returns : tie.Need-returns invariant-loop decreases-loop
 returns c = search rules
 
-pub bytes-spec : {M : Type 1} → statement M
-bytes-spec =
+pub bytes_spec : {M : Type 1} → statement M
+bytes_spec =
     tie.close
     (tie.spec
     invariant-loop
     decreases-loop
-    loop-holds
-    slice-aggregate-text
-    text-requires
-    shared-slice-read-byte
-    byte-requires
-    add-i
-    loop-less
-    loop-again
+    loop_holds
+    slice_aggregate_text
+    text_requires
+    shared_slice_read_byte
+    byte_requires
+    add_i
+    loop_less
+    loop_again
     returns)

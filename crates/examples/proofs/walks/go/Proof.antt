@@ -13,61 +13,61 @@ invariant-loop entry picture₀ buffer₀ rank₀ links₀ picture buffer rank l
 abbrev decreases-loop : tie.decreases-loop
 decreases-loop entry picture₀ buffer₀ rank₀ links₀ picture buffer rank links = 64 - links
 
-loop-holds : tie.Need-loop-init invariant-loop decreases-loop
-loop-holds c = search rules
+loop_holds : tie.Need-loop-init invariant-loop decreases-loop
+loop_holds c = search rules
 
-visit-requires : tie.Need-visit-requires invariant-loop decreases-loop
-visit-requires c κs = search rules
+visit_requires : tie.Need-visit-requires invariant-loop decreases-loop
+visit_requires c κs = search rules
 
-step-requires : tie.Need-step-requires invariant-loop decreases-loop
-step-requires c κs = search rules
+step_requires : tie.Need-step-requires invariant-loop decreases-loop
+step_requires c κs = search rules
 
-enum-known-stepped : tie.Need-enum-known-stepped invariant-loop decreases-loop
-enum-known-stepped c = search rules
+enum_known_stepped : tie.Need-enum-known-stepped invariant-loop decreases-loop
+enum_known_stepped c = search rules
 
-add-links : tie.Need-overflow-add-links invariant-loop decreases-loop
-add-links c = search rules
+add_links : tie.Need-overflow-add-links invariant-loop decreases-loop
+add_links c = search rules
 
-loop-less : tie.Need-loop-smaller invariant-loop decreases-loop
-loop-less c = search rules
+loop_less : tie.Need-loop-smaller invariant-loop decreases-loop
+loop_less c = search rules
 
-loop-again : tie.Need-loop-preserved invariant-loop decreases-loop
-loop-again c = search rules
+loop_again : tie.Need-loop-preserved invariant-loop decreases-loop
+loop_again c = search rules
 
 same_length : tie.Need-same-length invariant-loop decreases-loop
 same_length c = search rules
 
-same-length-2 : tie.Need-same-length-2 invariant-loop decreases-loop
-same-length-2 c = search rules
+same_length_2 : tie.Need-same-length-2 invariant-loop decreases-loop
+same_length_2 c = search rules
 
 returns : tie.Need-returns invariant-loop decreases-loop
 returns c = search rules
 
-same-length-3 : tie.Need-same-length-3 invariant-loop decreases-loop
-same-length-3 c = search rules
+same_length_3 : tie.Need-same-length-3 invariant-loop decreases-loop
+same_length_3 c = search rules
 
-same-length-4 : tie.Need-same-length-4 invariant-loop decreases-loop
-same-length-4 c = search rules
+same_length_4 : tie.Need-same-length-4 invariant-loop decreases-loop
+same_length_4 c = search rules
 
-returns-2 : tie.Need-returns-2 invariant-loop decreases-loop
-returns-2 c = search rules
+returns_2 : tie.Need-returns-2 invariant-loop decreases-loop
+returns_2 c = search rules
 
-pub go-spec : {M : Type 1} → statement M
-go-spec =
+pub go_spec : {M : Type 1} → statement M
+go_spec =
     tie.close
     (tie.spec
     invariant-loop
     decreases-loop
-    loop-holds
-    visit-requires
-    step-requires
-    enum-known-stepped
-    add-links
-    loop-less
-    loop-again
+    loop_holds
+    visit_requires
+    step_requires
+    enum_known_stepped
+    add_links
+    loop_less
+    loop_again
     same_length
-    same-length-2
+    same_length_2
     returns
-    same-length-3
-    same-length-4
-    returns-2)
+    same_length_3
+    same_length_4
+    returns_2)

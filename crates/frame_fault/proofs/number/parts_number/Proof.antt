@@ -6,10 +6,10 @@ use mathlib.Core.List.{List}
 use Prim.Native.Nat.{ℕ, ◌≤◌}
 use borrow.Author.Tests.{not-true, not-false}
 use Rattle.bytes_number.specs.Number.{Bytes}
-use Rattle.bytes_number.proofs.Numbers.{bytes-of}
+use Rattle.bytes_number.proofs.Numbers.{bytes_of_lem}
 use Rattle.frame_parts.specs.declared.PartCounts.{PartCounts}
-use Rattle.frame_fault.proofs.Places.{last-low}
-use Rattle.frame_fault.proofs.Telling.{early-told, early-none, early-parts, early-routes}
+use Rattle.frame_fault.proofs.Places.{last_low}
+use Rattle.frame_fault.proofs.Telling.{early_told, early_none, early_parts, early_routes}
 use Rattle.frame_fault.proofs.number.parts_number.Statement.{statement}
 use Rattle.frame_fault.proofs.number.parts_number.Tie as tie
 
@@ -24,67 +24,67 @@ module _ (k : tie.After-shared-slice-known) where
   counts = start.args.counts
 
   bytes : Bytes body
-  bytes = bytes-of body (λ i. (k.shared-slice-known.given i).fits)
+  bytes = bytes_of_lem body (λ i. (k.shared-slice-known.given i).fits)
 
   low : counts.last ≤ 32768
-  low = last-low body bytes counts start.pre.0.1 start.pre.0.0
+  low = last_low body bytes counts start.pre.0.1 start.pre.0.0
 
-add-byte-at : tie.Need-overflow-add-byte-at
-add-byte-at c = omega (arith, low c)
+add_byte_at : tie.Need-overflow-add-byte-at
+add_byte_at c = omega (arith, low c)
 
-byte-at-requires : tie.Need-byte-at-requires
-byte-at-requires c κs = search rules
+byte_at_requires : tie.Need-byte-at-requires
+byte_at_requires c κs = search rules
 
-add-byte-at-2 : tie.Need-overflow-add-byte-at-2
-add-byte-at-2 c = omega (arith, low c.before)
+add_byte_at_2 : tie.Need-overflow-add-byte-at-2
+add_byte_at_2 c = omega (arith, low c.before)
 
-byte-at-requires-2 : tie.Need-byte-at-requires-2
-byte-at-requires-2 c κs = search rules
+byte_at_requires_2 : tie.Need-byte-at-requires-2
+byte_at_requires_2 c κs = search rules
 
-routes-counted-requires : tie.Need-routes-counted-requires
-routes-counted-requires c κs = search rules
+routes_counted_requires : tie.Need-routes-counted-requires
+routes_counted_requires c κs = search rules
 
-parts-agree-requires : tie.Need-parts-agree-requires
-parts-agree-requires c κs = search rules
+parts_agree_requires : tie.Need-parts-agree-requires
+parts_agree_requires c κs = search rules
 
-number-requires : tie.Need-number-requires
-number-requires c κs = search rules
+number_requires : tie.Need-number-requires
+number_requires c κs = search rules
 
 returns : tie.Need-returns
 returns c = let d = c.before.before in
     let r = d.before in
     let b = r.before in
     let k = b.before.before in
-    early-told c.number.ensures
-    (early-parts (body k) (bytes k) (counts k) (start k).requires.0.1 (start k).requires.0.0 (start k).requires.1 b.byte-at2.ensures (omega arith) b.before.byte_at.ensures (omega arith) r.routes-counted.ensures d.parts-agree.ensures (not-true _ c.before.if1.true))
+    early_told c.number.ensures
+    (early_parts (body k) (bytes k) (counts k) (start k).requires.0.1 (start k).requires.0.0 (start k).requires.1 b.byte-at2.ensures (omega arith) b.before.byte_at.ensures (omega arith) r.routes-counted.ensures d.parts-agree.ensures (not-true _ c.before.if1.true))
 
-number-requires-2 : tie.Need-number-requires-2
-number-requires-2 c κs = search rules
+number_requires_2 : tie.Need-number-requires-2
+number_requires_2 c κs = search rules
 
-returns-2 : tie.Need-returns-2
-returns-2 c = let e = c.before.before in
+returns_2 : tie.Need-returns-2
+returns_2 c = let e = c.before.before in
     let d = e.before in
     let r = d.before in
     let b = r.before in
     let k = b.before.before in
-    early-told c.number2.ensures
-    (early-routes (body k) (bytes k) (counts k) (start k).requires.0.1 (start k).requires.0.0 (start k).requires.1 b.byte-at2.ensures (omega arith) b.before.byte_at.ensures (omega arith) r.routes-counted.ensures d.parts-agree.ensures (not-false _ e.if1.false) (omega (arith, c.before.if2.true)))
+    early_told c.number2.ensures
+    (early_routes (body k) (bytes k) (counts k) (start k).requires.0.1 (start k).requires.0.0 (start k).requires.1 b.byte-at2.ensures (omega arith) b.before.byte_at.ensures (omega arith) r.routes-counted.ensures d.parts-agree.ensures (not-false _ e.if1.false) (omega (arith, c.before.if2.true)))
 
-returns-3 : tie.Need-returns-3
-returns-3 c = early-none
+returns_3 : tie.Need-returns-3
+returns_3 c = early_none
 
-pub parts-number-spec : {M : Type 1} → statement M
-parts-number-spec =
+pub parts_number_spec : {M : Type 1} → statement M
+parts_number_spec =
     tie.close
     (tie.spec
-    add-byte-at
-    byte-at-requires
-    add-byte-at-2
-    byte-at-requires-2
-    routes-counted-requires
-    parts-agree-requires
-    number-requires
+    add_byte_at
+    byte_at_requires
+    add_byte_at_2
+    byte_at_requires_2
+    routes_counted_requires
+    parts_agree_requires
+    number_requires
     returns
-    number-requires-2
-    returns-2
-    returns-3)
+    number_requires_2
+    returns_2
+    returns_3)

@@ -7,8 +7,8 @@ use Rattle.frame_fault.proofs.place.field_byte.Tie as tie
 returns : tie.Need-returns
 returns c = rw (eq-eqb c.before.args.kind 1 (omega (arith, c.if1.true)))
 
-returns-2 : tie.Need-returns-2
-returns-2 c = rw (ne_eqb c.before.args.kind 1 (λ e. omega (arith, c.if1.false)))
+returns_2 : tie.Need-returns-2
+returns_2 c = rw (ne_eqb c.before.args.kind 1 (λ e. omega (arith, c.if1.false)))
 
-pub field-byte-spec : {M : Type 1} → statement M
-field-byte-spec = tie.close (tie.spec returns returns-2)
+pub field_byte_spec : {M : Type 1} → statement M
+field_byte_spec = tie.close (tie.spec returns returns_2)

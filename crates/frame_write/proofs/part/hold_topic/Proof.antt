@@ -4,19 +4,19 @@ use mathlib.Core.Path.{◌∙◌}
 use mathlib.Core.List.{[], ◌∷◌}
 use lib.ListN.{length, length-append, length-set}
 use Rattle.bytes_number.specs.WorkingLays.{Lays}
-use Rattle.bytes_number.proofs.Laying.{lays-room, lays-byte}
+use Rattle.bytes_number.proofs.Laying.{lays_room, lays_byte}
 use borrow.Author.Rules.{rules}
 use Rattle.frame_write.proofs.part.hold_topic.Statement.{statement}
 use Rattle.frame_write.proofs.part.hold_topic.Tie as tie
 
-copy-requires : tie.Need-copy-requires
-copy-requires c κs = tt
+copy_requires : tie.Need-copy-requires
+copy_requires c κs = tt
 
-slice-write-held : tie.Need-slice-write-held
-slice-write-held c = omega (arith, c.before.before.copy.auto.1.0)
+slice_write_held : tie.Need-slice-write-held
+slice_write_held c = omega (arith, c.before.before.copy.auto.1.0)
 
-add-result : tie.Need-overflow-add-result
-add-result c = search rules
+add_result : tie.Need-overflow-add-result
+add_result c = search rules
 
 same_length : tie.Need-same-length
 same_length c = let topic = c.before.before.before.before.before.before.args.topic.now in
@@ -24,8 +24,8 @@ same_length c = let topic = c.before.before.before.before.before.before.args.top
 
 returns : tie.Need-returns
 returns c = let args = c.before.before.before.before.before.before.args in
-    let laid : Lays args.topic.now args.held.now c.before.before.copy.new.1.0 (length args.topic.now) = lays-room (omega arith) c.before.before.copy.ensures in
-    record { told = omega (arith, length-append args.topic.now (0 ∷ [])); bytes = (lays-byte laid 0 (omega arith)).bytes }
+    let laid : Lays args.topic.now args.held.now c.before.before.copy.new.1.0 (length args.topic.now) = lays_room (omega arith) c.before.before.copy.ensures in
+    record { told = omega (arith, length-append args.topic.now (0 ∷ [])); bytes = (lays_byte laid 0 (omega arith)).bytes }
 
-pub hold-topic-spec : {M : Type 1} → statement M
-hold-topic-spec = tie.close (tie.spec copy-requires slice-write-held add-result same_length returns)
+pub hold_topic_spec : {M : Type 1} → statement M
+hold_topic_spec = tie.close (tie.spec copy_requires slice_write_held add_result same_length returns)

@@ -2,31 +2,31 @@
 use native.Mathlib.Omega.{arith}
 use mathlib.Core.List.{[], ◌∷◌, ◌++◌}
 use lib.ListN.{length-append}
-use Rattle.frame_write.proofs.Parts.{one-part, held-front}
-use Rattle.frame_part_write.proofs.Writing.{part-laid}
+use Rattle.frame_write.proofs.Parts.{one_part, held_front}
+use Rattle.frame_part_write.proofs.Writing.{part_laid}
 use borrow.Author.Rules.{rules}
 use Rattle.frame_write.proofs.part.write_topic.Statement.{statement}
 use Rattle.frame_write.proofs.part.write_topic.Tie as tie
 
-slice-aggregate-hold-topic : tie.Need-slice-aggregate-hold-topic
-slice-aggregate-hold-topic c = search rules
+slice_aggregate_hold_topic : tie.Need-slice-aggregate-hold-topic
+slice_aggregate_hold_topic c = search rules
 
-hold-topic-requires : tie.Need-hold-topic-requires
-hold-topic-requires c κs = search rules
+hold_topic_requires : tie.Need-hold-topic-requires
+hold_topic_requires c κs = search rules
 
-sub-write-part : tie.Need-overflow-sub-write-part
-sub-write-part c = search rules
+sub_write_part : tie.Need-overflow-sub-write-part
+sub_write_part c = search rules
 
-part-write-part-start : tie.Need-slice-bounds-write-part-start
-part-write-part-start c = search rules
+part_write_part_start : tie.Need-slice-bounds-write-part-start
+part_write_part_start c = search rules
 
-part-write-part-end : tie.Need-slice-bounds-write-part-end
-part-write-part-end c = let d = c.before.before.before in
+part_write_part_end : tie.Need-slice-bounds-write-part-end
+part_write_part_end c = let d = c.before.before.before in
     let topic = d.before.before.before.before.before.args.topic.now in
     omega (arith, d.hold-topic.ensures.told, length-append topic (0 ∷ []), d.hold-topic.auto.0)
 
-write-part-requires : tie.Need-write-part-requires
-write-part-requires c κs = tt
+write_part_requires : tie.Need-write-part-requires
+write_part_requires c κs = tt
 
 same_length : tie.Need-same-length
 same_length c = search rules
@@ -35,22 +35,22 @@ returns : tie.Need-returns
 returns c = let d = c.before.before.before.before.before.before.before in
     let start = d.before.before.before.before.before in
     let topic = start.args.topic.now ++ (0 ∷ []) in
-    let one = one-part topic d.before.before.if1.true in
-    rw one (part-laid (held-front topic d.hold-topic.ensures) (rw one at start.requires.1) c.before.before.write-part.ensures)
+    let one = one_part topic d.before.before.if1.true in
+    rw one (part_laid (held_front topic d.hold-topic.ensures) (rw one at start.requires.1) c.before.before.write-part.ensures)
 
-returns-2 : tie.Need-returns-2
-returns-2 c = search rules
+returns_2 : tie.Need-returns-2
+returns_2 c = search rules
 
-pub write-topic-spec : {M : Type 1} → statement M
-write-topic-spec =
+pub write_topic_spec : {M : Type 1} → statement M
+write_topic_spec =
     tie.close
     (tie.spec
-    slice-aggregate-hold-topic
-    hold-topic-requires
-    sub-write-part
-    part-write-part-start
-    part-write-part-end
-    write-part-requires
+    slice_aggregate_hold_topic
+    hold_topic_requires
+    sub_write_part
+    part_write_part_start
+    part_write_part_end
+    write_part_requires
     same_length
     returns
-    returns-2)
+    returns_2)

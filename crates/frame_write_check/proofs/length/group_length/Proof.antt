@@ -4,17 +4,17 @@ use borrow.Author.Rules.{rules}
 use Rattle.frame_write_check.proofs.length.group_length.Statement.{statement}
 use Rattle.frame_write_check.proofs.length.group_length.Tie as tie
 
-mul-result : tie.Need-overflow-mul-result
-mul-result c = search rules
+mul_result : tie.Need-overflow-mul-result
+mul_result c = search rules
 
-add-result : tie.Need-overflow-add-result
-add-result c = search rules
+add_result : tie.Need-overflow-add-result
+add_result c = search rules
 
 returns : tie.Need-returns
 returns c = rw c.if1.true (omega arith)
 
-returns-2 : tie.Need-returns-2
-returns-2 c = search rules
+returns_2 : tie.Need-returns-2
+returns_2 c = search rules
 
-pub group-length-spec : {M : Type 1} → statement M
-group-length-spec = tie.close (tie.spec mul-result add-result returns returns-2)
+pub group_length_spec : {M : Type 1} → statement M
+group_length_spec = tie.close (tie.spec mul_result add_result returns returns_2)

@@ -5,8 +5,8 @@ use Rattle.mdp_read.proofs.judge.place_if.Tie as tie
 returns : tie.Need-returns
 returns c = rw c.if1.true
 
-returns-2 : tie.Need-returns-2
-returns-2 c = rw c.if1.false
+returns_2 : tie.Need-returns-2
+returns_2 c = rw c.if1.false
 
-pub place-if-spec : {M : Type 1} → statement M
-place-if-spec = tie.close (tie.spec returns returns-2)
+pub place_if_spec : {M : Type 1} → statement M
+place_if_spec = tie.close (tie.spec returns returns_2)

@@ -6,35 +6,35 @@ use mathlib.Core.List.{List}
 use Prim.Native.Nat.{ℕ, ◌≤◌}
 use lib.ListN.{length}
 use Rattle.bytes_number.specs.Laid.{laid}
-use Rattle.bytes_number.proofs.Laying.{lays-leaf, lays-within}
+use Rattle.bytes_number.proofs.Laying.{lays_leaf, lays_within}
 use Rattle.frame_message.specs.Frame.{joined}
-use Rattle.mdp_write.specs.WorkingFront.{frontOf}
-use Rattle.mdp_write.proofs.Fronts.{fore-fits, no_more}
+use Rattle.mdp_write.specs.WorkingFront.{front_of}
+use Rattle.mdp_write.proofs.Fronts.{fore_fits, no_more}
 use Rattle.mdp_write.proofs.whole.write_whole.Statement.{statement}
 use Rattle.mdp_write.proofs.whole.write_whole.Tie as tie
 
-front-room : (s : tie.Start) → length (joined (frontOf s.args.sender s.args.code s.args.name.now s.args.address.now)) ≤ length s.args.out.now
-front-room s = fore-fits (joined (frontOf s.args.sender s.args.code s.args.name.now s.args.address.now)) s.args.body.now s.requires.1
+front_room : (s : tie.Start) → length (joined (front_of s.args.sender s.args.code s.args.name.now s.args.address.now)) ≤ length s.args.out.now
+front_room s = fore_fits (joined (front_of s.args.sender s.args.code s.args.name.now s.args.address.now)) s.args.body.now s.requires.1
 
 -- what stands in front of the body is laid
 module _ (d : tie.After-write-front) where
   abbrev start : tie.Start
   start = d.before.before.before.before.before.before.before
 
-write-front-requires : tie.Need-write-front-requires
-write-front-requires c κs = let s = c.before.before.before.before.before.before in (s.requires.0, front-room s)
+write_front_requires : tie.Need-write-front-requires
+write_front_requires c κs = let s = c.before.before.before.before.before.before in (s.requires.0, front_room s)
 
-sub-copy : tie.Need-overflow-sub-copy
-sub-copy c = let d = c.before.before.before in lays-within d.write-front.ensures (front-room (start d))
+sub_copy : tie.Need-overflow-sub-copy
+sub_copy c = let d = c.before.before.before in lays_within d.write-front.ensures (front_room (start d))
 
-part-copy-start : tie.Need-slice-bounds-copy-start
-part-copy-start c = sub-copy c
+part_copy_start : tie.Need-slice-bounds-copy-start
+part_copy_start c = sub_copy c
 
-part-copy-end : tie.Need-slice-bounds-copy-end
-part-copy-end c = le_refl _
+part_copy_end : tie.Need-slice-bounds-copy-end
+part_copy_end c = le_refl _
 
-copy-requires : tie.Need-copy-requires
-copy-requires c κs = search rules
+copy_requires : tie.Need-copy-requires
+copy_requires c κs = search rules
 
 same_length : tie.Need-same-length
 same_length c = search rules
@@ -42,27 +42,27 @@ same_length c = search rules
 returns : tie.Need-returns
 returns c = let e = c.before.before in
     let d = e.before.before.before.before.before in
-    (lays-leaf d.write-front.ensures (start d).args.body.now (start d).requires.1 e.copy.ensures).bytes
+    (lays_leaf d.write-front.ensures (start d).args.body.now (start d).requires.1 e.copy.ensures).bytes
 
-same-length-2 : tie.Need-same-length-2
-same-length-2 c = search rules
+same_length_2 : tie.Need-same-length-2
+same_length_2 c = search rules
 
-returns-2 : tie.Need-returns-2
-returns-2 c = let d = c.before.before.before in
+returns_2 : tie.Need-returns-2
+returns_2 c = let d = c.before.before.before in
     let s = start d in
-    let none = no_more (joined (frontOf s.args.sender s.args.code s.args.name.now s.args.address.now)) s.args.body.now (search rules) in
+    let none = no_more (joined (front_of s.args.sender s.args.code s.args.name.now s.args.address.now)) s.args.body.now (search rules) in
     d.write-front.ensures.bytes ∙ ap (λ (xs : List ℕ). laid xs s.args.out.now) none
 
-pub write-whole-spec : {M : Type 1} → statement M
-write-whole-spec =
+pub write_whole_spec : {M : Type 1} → statement M
+write_whole_spec =
     tie.close
     (tie.spec
-    write-front-requires
-    sub-copy
-    part-copy-start
-    part-copy-end
-    copy-requires
+    write_front_requires
+    sub_copy
+    part_copy_start
+    part_copy_end
+    copy_requires
     same_length
     returns
-    same-length-2
-    returns-2)
+    same_length_2
+    returns_2)
