@@ -1,4 +1,5 @@
 // Runs the bytes that paper 01 gives to be reproduced, and prints them.
+#![tactic(auto)]
 use frame_layout::{Reading, Stretch};
 use frame_message::{Header, Written};
 

@@ -1,4 +1,5 @@
 // The size in front of a part.
+#![tactic(auto)]
 ghost use Rattle.std.specs.Prelude.{◌≡◌};
 ghost use Rattle.frame_part_size.specs.WorkingSizes.{size_at};
 

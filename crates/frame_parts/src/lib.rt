@@ -1,4 +1,5 @@
 // The parts of a body: how many there are, and where the first empty one and the last begin.
+#![tactic(auto)]
 ghost use Rattle.std.specs.Prelude.{◌≡◌};
 ghost use Rattle.frame_parts.specs.WorkingCounting.{counting_of};
 

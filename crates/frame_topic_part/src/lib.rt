@@ -1,4 +1,5 @@
 // The part that holds a topic.
+#![tactic(auto)]
 ghost use Rattle.std.specs.Prelude.{◌≡◌};
 ghost use Rattle.frame_message.specs.Reading.{is_topic_part};
 

@@ -1,1 +1,2 @@
 // Laws alone: reading a payload byte by byte is RFC 7159's grammar.
+#![tactic(auto)]

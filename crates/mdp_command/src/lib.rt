@@ -1,4 +1,5 @@
 // A Majordomo command: its senders and their marks, where its parts lie, and the numbers that more than one crate uses.
+#![tactic(auto)]
 use frame_layout::Stretch;
 use refusal::Refusal;
 

@@ -1,4 +1,5 @@
 // Why a call is refused, and the number that the caller gets.
+#![tactic(auto)]
 ghost use Rattle.std.specs.Prelude.{◌≡◌};
 ghost use Rattle.refusal.specs.Refusals.{number_of};
 

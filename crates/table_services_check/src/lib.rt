@@ -1,4 +1,5 @@
 // The check of the table of services.
+#![tactic(auto)]
 ghost use Rattle.std.specs.Prelude.{◌≡◌};
 ghost use Rattle.table_tree_check.specs.Working.{told};
 ghost use Rattle.table_services.specs.Services.{services_good, services_check};
