@@ -1,5 +1,6 @@
 // Bytes copied to the front of a lent slice: a short run by two moves of a fixed width, a long one block by block.
 #![tactic(auto)]
+
 ghost use Rattle.std.specs.Prelude.{◌≡◌, ◌+◌, ◌≤◌, length};
 ghost use Rattle.bytes_number.specs.Laid.{laid};
 ghost use Rattle.bytes_number.specs.WorkingLays.{laid_if_room};

@@ -1,5 +1,6 @@
 // Bytes moved within a lent buffer, and a buffer cleared.
 #![tactic(auto)]
+
 ghost use Rattle.std.specs.Prelude.{◌≡◌, ◌+◌, ◌≤◌, length};
 ghost use Rattle.bytes_move.specs.WorkingMoved.{moved, moved_if_room, zeros};
 

@@ -1,5 +1,6 @@
 // Bytes: numbers of four bytes, read and written. Every public function is total.
 #![tactic(auto)]
+
 ghost use Rattle.std.specs.Prelude.{◌≡◌, ◌∷◌, [], get_or, drop};
 ghost use Rattle.bytes_number.specs.Number.{number, four, row_bytes};
 ghost use Rattle.bytes_number.specs.WorkingLays.{laid_if_room};

@@ -1,5 +1,6 @@
 // Two numbers of four bytes as one of eight, which is one store: for rows that are long, or many.
 #![tactic(auto)]
+
 ghost use Rattle.std.specs.Prelude.{◌≡◌, ◌++◌, ◌+◌, ◌*◌, ◌/◌, ◌%◌};
 ghost use Rattle.bytes_number.specs.Number.{four};
 ghost use Rattle.bytes_number.specs.WorkingLays.{laid_if_room};

@@ -1,5 +1,6 @@
 // The call that tells what is wrong with a frame. It returns what the read call returns, and lists number and byte in a lent slice.
 #![tactic(auto)]
+
 ghost use Rattle.call_specs.specs.FaultCalls.{ReadsFault};
 
 use refusal::Refusal;

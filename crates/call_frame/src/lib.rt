@@ -1,5 +1,6 @@
 // The calls that read and write a frame. Each returns 0 or the refusal's number, and lists its answer as a row of four-byte numbers in a lent slice.
 #![tactic(auto)]
+
 ghost use Rattle.call_specs.specs.Calls.{Reads, header_of, Writes};
 ghost use Rattle.frame_message.specs.Writing.{given_message};
 

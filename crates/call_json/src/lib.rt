@@ -1,5 +1,6 @@
 // The call that says whether a payload is JSON. It returns 0, or 26 where the payload nests too deep, and lists answer and byte in a lent slice.
 #![tactic(auto)]
+
 ghost use Rattle.std.specs.Prelude.{◌≡◌};
 ghost use Rattle.call_specs.specs.JsonCalls.{told_byte, ChecksJson};
 

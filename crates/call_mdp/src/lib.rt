@@ -1,6 +1,7 @@
 // The calls that read and write a Majordomo command. Each returns 0 or the refusal's number, and lists its answer as a row of four-byte numbers in a lent
 // slice.
 #![tactic(auto)]
+
 ghost use Rattle.std.specs.Prelude.{◌≡◌};
 ghost use Rattle.bytes_number.specs.Number.{row_bytes};
 ghost use Rattle.bytes_number.specs.WorkingLays.{laid_if_room};

@@ -1,5 +1,6 @@
 // The record that a C program gets of a read: where the message lies, as a row of numbers, four bytes each.
 #![tactic(auto)]
+
 ghost use Rattle.std.specs.Prelude.{◌≡◌};
 ghost use Rattle.bytes_number.specs.Number.{row_bytes};
 ghost use Rattle.bytes_number.specs.WorkingLays.{laid_if_room};

@@ -1,6 +1,7 @@
 // The calls that take a message along: one broker's step, and a whole walk. Each returns 0 or the refusal's number, and lists what came of it as a row of
 // four-byte numbers in a lent slice.
 #![tactic(auto)]
+
 ghost use Rattle.std.specs.Prelude.{◌≡◌};
 ghost use Rattle.call_step_record.specs.Steps.{frame_length};
 

@@ -1,5 +1,6 @@
 // A step's and a walk's answer as the row of numbers that a C program gets.
 #![tactic(auto)]
+
 ghost use Rattle.std.specs.Prelude.{◌≡◌};
 ghost use Rattle.call_step_record.specs.Steps.{step_row};
 ghost use Rattle.call_step_record.specs.WorkingRows.{refusal_in, walk_row};

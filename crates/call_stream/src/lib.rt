@@ -1,5 +1,6 @@
 // The call that lists the frames of a stream. It returns 0 or the refusal's number, and lists its answer as a row of four-byte numbers in a lent slice.
 #![tactic(auto)]
+
 ghost use Rattle.call_specs.specs.Calls.{ReadsStream};
 
 use refusal::Refusal;

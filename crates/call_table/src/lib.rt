@@ -1,5 +1,6 @@
 // The calls that check the floor's tables. Each returns 0 or the refusal's number.
 #![tactic(auto)]
+
 ghost use Rattle.std.specs.Prelude.{◌≡◌};
 ghost use Rattle.table_tree_check.specs.Working.{told};
 ghost use Rattle.table_services.specs.Services;

@@ -1,6 +1,7 @@
 // The claims, for every slice and number that a call can get. Each theorem is the postcondition of an empty function, whose parameters are those of the
 // call that it is about. So the premises of a law, that bytes are below 256 and that a field has four bytes, are met here once and for all.
 #![tactic(auto)]
+
 ghost use Rattle.bytes_number.specs.Number.{Bytes};
 ghost use Rattle.call_specs.specs.Calls.{header_of};
 ghost use Rattle.claim_frames.specs.Frames.{RecordHoldsMessage, AcceptedIsWrittenBack, WrittenIsReadBack};

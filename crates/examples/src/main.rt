@@ -1,5 +1,6 @@
 // Runs the bytes that paper 01 gives to be reproduced, and prints them.
 #![tactic(auto)]
+
 use frame_layout::{Reading, Stretch};
 use frame_message::{Header, Written};
 

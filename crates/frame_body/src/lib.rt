@@ -1,5 +1,6 @@
 // A body: what its parts are and where they lie, or why it holds no message. It copies nothing.
 #![tactic(auto)]
+
 ghost use Rattle.std.specs.Prelude.{◌≡◌, ◌&&◌, eqb, leb};
 ghost use Rattle.frame_message.specs.Header.{parts_fit};
 ghost use Rattle.frame_layout.specs.WorkingPlacing.{read_as};

@@ -1,6 +1,7 @@
 // The fault of a frame: the reader's number for it, and the byte at which it lies, counted from the frame's front. Its parts are counted, and most numbers
 // told by that alone; the reader is asked for the others.
 #![tactic(auto)]
+
 ghost use Rattle.std.specs.Prelude.{◌≡◌};
 ghost use Rattle.frame_fault.specs.Fault.{fault_of};
 ghost use Rattle.frame_fault.specs.WorkingFaults.{BodyOf};

@@ -1,5 +1,6 @@
 // The flags of a header, one test each.
 #![tactic(auto)]
+
 ghost use Rattle.std.specs.Prelude.{◌≡◌};
 ghost use Rattle.frame_message.specs.Header.{has_topic, has_payload, no_response, has_route, is_upstream, is_streaming};
 

@@ -1,6 +1,7 @@
 // The forms of a route and of a topic. Bytes are counted rather than searched, so that the compiler can
 // look at several at a time.
 #![tactic(auto)]
+
 ghost use Rattle.std.specs.Prelude.{◌≡◌, ◌&&◌, ◌≤◌, ◌+◌, leb, length};
 ghost use Rattle.frame_forms.specs.Count.{one};
 ghost use Rattle.frame_forms.specs.Working.{count, hex_in, is_zero};

@@ -1,5 +1,6 @@
 // The header, which is a body's last part: read, and written.
 #![tactic(auto)]
+
 ghost use Rattle.std.specs.Prelude.{◌≡◌, ◌≤◌, length};
 ghost use Rattle.bytes_number.specs.WorkingLays.{laid_if_room, laid_count};
 ghost use Rattle.frame_message.specs.Header.{header_bytes, header_in};

@@ -1,5 +1,6 @@
 // What a header's type asks of its flags and of its other fields.
 #![tactic(auto)]
+
 ghost use Rattle.std.specs.Prelude.{◌≡◌};
 ghost use Rattle.frame_message.specs.Header.{is_type, are_flags, parts_fit, fields_good};
 

@@ -1,5 +1,6 @@
 // Where the parts of a message lie, counted from the frame's front, by where they lie in its body. Any numbers may be given.
 #![tactic(auto)]
+
 ghost use Rattle.std.specs.Prelude.{◌≡◌, ◌-◌};
 ghost use Rattle.frame_forms.specs.Count.{one};
 ghost use Rattle.frame_layout.specs.WorkingPlacing.{first_route, place_if, placed_in};

@@ -1,5 +1,6 @@
 // A Flux message: the fields of its header, and the numbers of "A frame" that more than one crate uses.
 #![tactic(auto)]
+
 use refusal::Refusal;
 
 // FF EE 00 12 as one number, and how many bytes stand in front of a body: these four, and the body's length.

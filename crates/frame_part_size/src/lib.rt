@@ -1,5 +1,6 @@
 // The size in front of a part.
 #![tactic(auto)]
+
 ghost use Rattle.std.specs.Prelude.{◌≡◌};
 ghost use Rattle.frame_part_size.specs.WorkingSizes.{size_at};
 

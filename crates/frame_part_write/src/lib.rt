@@ -1,5 +1,6 @@
 // A part written: its size, and its data behind that.
 #![tactic(auto)]
+
 ghost use Rattle.std.specs.Prelude.{◌≡◌};
 ghost use Rattle.frame_message.specs.Frame.{part_bytes};
 ghost use Rattle.bytes_number.specs.WorkingLays.{laid_count, laid_if_room};

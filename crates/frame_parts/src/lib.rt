@@ -1,5 +1,6 @@
 // The parts of a body: how many there are, and where the first empty one and the last begin.
 #![tactic(auto)]
+
 ghost use Rattle.std.specs.Prelude.{◌≡◌};
 ghost use Rattle.frame_parts.specs.WorkingCounting.{counting_of};
 

@@ -1,5 +1,6 @@
 // The reader: says where the parts of a framed message lie in the caller's bytes, or why there is no message. It copies nothing.
 #![tactic(auto)]
+
 ghost use Rattle.std.specs.Prelude.{◌≡◌};
 ghost use Rattle.frame_message.specs.Reading.{starts_right, reading_of};
 ghost use Rattle.frame_layout.specs.WorkingPlacing.{read_as};

@@ -1,6 +1,7 @@
 // A frame changed where it lies: a part put in front of its body, bytes taken from there, or the end of its body replaced by a header. Behind the
 // new frame everything is cleared, to the end of the buffer.
 #![tactic(auto)]
+
 ghost use Rattle.std.specs.Prelude.{◌≡◌, ◌+◌, ◌≤◌, ◌<◌, length};
 ghost use Rattle.frame_rewrite.specs.WorkingRenewed.{body_in, renewed, with_part, without_front, with_header};
 

@@ -1,5 +1,6 @@
 // Many frames in one read: the single reader, called again on what remains. It lists where each whole frame lies, and copies nothing of them.
 #![tactic(auto)]
+
 ghost use Rattle.std.specs.Prelude.{◌≡◌, min, ◌/◌, length};
 ghost use Rattle.frame_stream.specs.Stream.{most_input, entry_size, stream_from, stream_of};
 ghost use Rattle.frame_stream.specs.WorkingStream.{Streams};

@@ -1,5 +1,6 @@
 // The part that holds a topic.
 #![tactic(auto)]
+
 ghost use Rattle.std.specs.Prelude.{◌≡◌};
 ghost use Rattle.frame_message.specs.Reading.{is_topic_part};
 

@@ -1,5 +1,6 @@
 // The writer: a message's frame into a lent output, or the refusal that the paper's table names.
 #![tactic(auto)]
+
 ghost use Rattle.std.specs.Prelude.{◌≡◌, length};
 ghost use Rattle.frame_message.specs.Writing.{writing_into, given_message};
 ghost use Rattle.frame_message.specs.Working.{written_as};

@@ -1,5 +1,6 @@
 // What the writer refuses, in the paper's order, before it writes anything.
 #![tactic(auto)]
+
 ghost use Rattle.std.specs.Prelude.{◌≡◌, true, false, ◌&&◌, not, length};
 ghost use Rattle.frame_message.specs.Header.{has_topic, parts_fit};
 ghost use Rattle.frame_forms.specs.Forms.{is_topic};

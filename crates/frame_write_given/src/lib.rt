@@ -1,5 +1,6 @@
 // Whether the parts that the writer is given fit: whether they agree with the header, and whether the routes are of their form.
 #![tactic(auto)]
+
 ghost use Rattle.std.specs.Prelude.{◌≡◌, ◌&&◌, ◌||◌};
 ghost use Rattle.frame_message.specs.Header.{parts_fit};
 ghost use Rattle.frame_message.specs.Writing.{is_empty, parts_given_fit, routes_good, cut, given_message};

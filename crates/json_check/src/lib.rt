@@ -1,6 +1,7 @@
 // Whether a payload is JSON: an object with white space around it and a zero byte behind, at most 32 deep. Value, object and array readers call each
 // other, with the levels that are left falling.
 #![tactic(auto)]
+
 ghost use Rattle.std.specs.Prelude.{◌≡◌, ◌<◌, length};
 ghost use Rattle.json_scan.specs.Scan.{in_object, in_array, value, behind, between, verdict_of};
 ghost use Rattle.json_scan.specs.WorkingReads.{value_by, ReadsOn};

@@ -1,5 +1,6 @@
 // The numbers of a payload: [ minus ] int [ frac ] [ exp ].
 #![tactic(auto)]
+
 ghost use Rattle.std.specs.Prelude.{◌≡◌, cond, ◌+◌, ◌<◌, eqb, length, drop};
 ghost use Rattle.json_scan.specs.Scan.{is_digit, is_e, is_sign, minus, leading_zero, exponent, sign};
 ghost use Rattle.json_scan.specs.WorkingEnds.{end_of};

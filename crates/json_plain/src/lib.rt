@@ -1,5 +1,6 @@
 // Text that stands for itself, eight bytes at a time as long as there are twice as many.
 #![tactic(auto)]
+
 ghost use Rattle.std.specs.Prelude.{◌≡◌, ◌+◌, ◌<◌, ◌≤◌, length, take, drop};
 ghost use Rattle.json_scan.specs.WorkingEnds.{end_of};
 ghost use Rattle.json_plain.specs.WorkingPlain.{is_plain};

@@ -1,5 +1,6 @@
 // A value that holds no other and is no string: a number or one of the literal names.
 #![tactic(auto)]
+
 ghost use Rattle.std.specs.Prelude.{◌≡◌, cond, ◌||◌, ◌+◌, ◌<◌, eqb, length, drop, get_or};
 ghost use Rattle.json_scan.specs.Scan.{is_digit};
 ghost use Rattle.json_scan.specs.WorkingEnds.{settled_as, place_left, rest_end};

@@ -1,5 +1,6 @@
 // A payload read one byte after another: what it comes to, and how far a reader of one of its tokens came.
 #![tactic(auto)]
+
 ghost use Rattle.std.specs.Prelude.{◌≡◌};
 ghost use Rattle.json_scan.specs.Scan.{is_white, is_digit};
 ghost use Rattle.json_scan.specs.WorkingEnds.{end_of, token_at, settled_as, place_left};

@@ -1,5 +1,6 @@
 // What stands between the values of an object or an array: names with their colons, commas and closing bytes.
 #![tactic(auto)]
+
 ghost use Rattle.std.specs.Prelude.{◌≡◌};
 ghost use Rattle.json_scan.specs.WorkingEnds.{settled_as, place_left};
 ghost use Rattle.json_separators.specs.WorkingSeparators.{name_end, next_of};

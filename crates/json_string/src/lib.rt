@@ -1,5 +1,6 @@
 // The strings of a payload: what stands between the quotation marks is escapes and UTF-8, with no control byte.
 #![tactic(auto)]
+
 ghost use Rattle.std.specs.Prelude.{◌≡◌, drop, replicate};
 ghost use Rattle.json_scan.specs.Scan.{is_hex_digit, is_escape, hex};
 ghost use Rattle.json_scan.specs.WorkingEnds.{settled_as, place_left, rest_end};

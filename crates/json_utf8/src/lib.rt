@@ -1,5 +1,6 @@
 // UTF-8: how a character of two bytes or more goes on behind its first byte.
 #![tactic(auto)]
+
 ghost use Rattle.std.specs.Prelude.{◌≡◌, ◌∷◌, length, drop, replicate};
 ghost use Rattle.json_scan.specs.Scan.{is_within, tail, second_of, tails_of};
 ghost use Rattle.json_scan.specs.WorkingEnds.{rest_end};

@@ -1,6 +1,7 @@
 // The library that a C program links. Every call takes numbers and byte slices, returns 0 or the refusal's number, and lists its
 // answer as a row of four-byte numbers in a lent slice. include/lampreycoil.h declares them for C.
 #![tactic(auto)]
+
 ghost use Rattle.std.specs.Prelude.{◌≡◌};
 ghost use Rattle.frame_message.specs.Writing.{given_message};
 ghost use Rattle.table_services.specs.Services;

@@ -1,5 +1,6 @@
 // A Majordomo command: its senders and their marks, where its parts lie, and the numbers that more than one crate uses.
 #![tactic(auto)]
+
 use frame_layout::Stretch;
 use refusal::Refusal;
 

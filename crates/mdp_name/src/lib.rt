@@ -1,5 +1,6 @@
 // The form of a service name. Bytes are counted rather than searched, so that the compiler can look at several at a time.
 #![tactic(auto)]
+
 ghost use Rattle.std.specs.Prelude.{◌≡◌, ◌≤◌, length};
 ghost use Rattle.frame_forms.specs.Count.{one};
 ghost use Rattle.frame_forms.specs.Working.{count};

@@ -1,5 +1,6 @@
 // The reader of commands: where the parts of a command lie in the caller's bytes, or the refusal that the paper names. It copies nothing.
 #![tactic(auto)]
+
 ghost use Rattle.std.specs.Prelude.{◌≡◌};
 ghost use Rattle.mdp_command.specs.CommandReading.{command_read};
 ghost use Rattle.mdp_command.specs.Working.{command_read_as};

@@ -1,5 +1,6 @@
 // Which commands there are, and what each carries.
 #![tactic(auto)]
+
 ghost use Rattle.std.specs.Prelude.{◌≡◌, cond, ◌&&◌, eqb, leb};
 ghost use Rattle.mdp_command.specs.Command.{is_command, is_work, most_body_parts};
 ghost use Rattle.mdp_rules.specs.WorkingCarried.{carried_by};

@@ -1,5 +1,6 @@
 // The writer of commands: a command's bytes into a lent output, or the refusal that the paper names.
 #![tactic(auto)]
+
 ghost use Rattle.std.specs.Prelude.{◌≡◌, length};
 ghost use Rattle.frame_message.specs.Working.{written_as};
 ghost use Rattle.refusal.specs.Answer.{written_over};

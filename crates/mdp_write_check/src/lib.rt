@@ -1,5 +1,6 @@
 // What the writer of commands refuses, in the paper's order, before it writes anything.
 #![tactic(auto)]
+
 ghost use Rattle.std.specs.Prelude.{◌≡◌, cond, ◌+◌, ◌≤◌};
 ghost use Rattle.frame_forms.specs.Forms.{is_route};
 ghost use Rattle.frame_message.specs.Writing.{is_empty};

@@ -1,5 +1,6 @@
 // Why a call is refused, and the number that the caller gets.
 #![tactic(auto)]
+
 ghost use Rattle.std.specs.Prelude.{◌≡◌};
 ghost use Rattle.refusal.specs.Refusals.{number_of};
 

@@ -1,5 +1,6 @@
 // The whole step of a broker on a buffer: its tables are checked, and then the message is passed.
 #![tactic(auto)]
+
 ghost use Rattle.step_routing.specs.Routed.{tables_of};
 ghost use Rattle.step_pass.specs.Step.{step_of};
 ghost use Rattle.step_pass.specs.Working.{Makes};

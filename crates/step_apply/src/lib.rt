@@ -1,6 +1,7 @@
 // What a broker makes of a request in the buffer that holds it: the request with a route more, or an error reply. It goes by where the frame's parts
 // are said to lie and reads none of them, so any numbers may be given.
 #![tactic(auto)]
+
 ghost use Rattle.step_apply.specs.WorkingApply.{AppliesForward, AppliesError};
 
 use frame_message::{FRONT, Header};

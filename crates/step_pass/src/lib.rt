@@ -1,5 +1,6 @@
 // One broker's step behind the checks of its tables: what it does with the frame at the front of a buffer. It works in place and allocates nothing.
 #![tactic(auto)]
+
 ghost use Rattle.step_routing.specs.Routed.{tables_of};
 ghost use Rattle.step_pass.specs.Step.{pass_of};
 ghost use Rattle.step_pass.specs.Working.{Makes, Lies, request_outcome, response_outcome};

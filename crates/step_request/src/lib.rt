@@ -1,5 +1,6 @@
 // Where a broker sends a request. Nothing here looks at a frame, and every table may hold any bytes.
 #![tactic(auto)]
+
 ghost use Rattle.std.specs.Prelude.{false, ◌≡◌};
 ghost use Rattle.step_routing.specs.Requests.{deliver_or, to_parent, upwards, to_rank, request_way};
 

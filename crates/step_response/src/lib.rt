@@ -1,5 +1,6 @@
 // Where a broker sends a response. Nothing here looks at a frame, and every table may hold any bytes.
 #![tactic(auto)]
+
 ghost use Rattle.std.specs.Prelude.{◌≡◌};
 ghost use Rattle.table_identities.specs.Identities.{broker_of};
 ghost use Rattle.step_routing.specs.Responses.{towards_broker};

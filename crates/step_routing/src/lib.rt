@@ -1,5 +1,6 @@
 // What one broker's step is told by, and the header of its error reply. Nothing here looks at a frame.
 #![tactic(auto)]
+
 ghost use Rattle.std.specs.Prelude.{◌≡◌};
 ghost use Rattle.step_routing.specs.Messages.{reply_header};
 

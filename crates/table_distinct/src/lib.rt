@@ -1,6 +1,7 @@
 // Whether two records of a table are equal, found by a hash: each record is compared with those of its own chain. Where a chain grows long, as in
 // no table but one that was made for it, the records are put in order instead.
 #![tactic(auto)]
+
 ghost use Rattle.std.specs.Prelude.{◌≡◌, ◌+◌, ◌*◌, ◌%◌, ◌<◌, ◌≤◌, length};
 ghost use Rattle.table_records.specs.Records.{most_records};
 ghost use Rattle.table_records.specs.Working.{distinct, fresh};

@@ -1,6 +1,7 @@
 // Whether two records of a table are equal, found by putting them in order. However the records are made, each is compared with at most
 // eleven others: this is for tables that were made to be slow where records are told apart by a hash.
 #![tactic(auto)]
+
 ghost use Rattle.std.specs.Prelude.{◌≡◌, ◌&&◌, eqb, ◌+◌, ◌*◌, ◌<◌, ◌≤◌, length};
 ghost use Rattle.table_records.specs.Records.{most_records, record_at};
 ghost use Rattle.table_records.specs.Working.{distinct};

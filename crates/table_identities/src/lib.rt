@@ -1,5 +1,6 @@
 // The brokers' identities: that of a rank, and the rank whose identity a route is.
 #![tactic(auto)]
+
 ghost use Rattle.std.specs.Prelude.{◌≡◌};
 ghost use Rattle.table_identities.specs.Identities.{identity_at, same_identity, broker_of};
 

@@ -1,5 +1,6 @@
 // The check of the table of identities.
 #![tactic(auto)]
+
 ghost use Rattle.std.specs.Prelude.{◌≡◌, ◌/◌, length};
 ghost use Rattle.frame_forms.specs.Forms.{route_length, is_route};
 ghost use Rattle.table_records.specs.Below.{all_below};

@@ -1,5 +1,6 @@
 // What the tables share: one record, what a look-up finds, and bytes compared.
 #![tactic(auto)]
+
 ghost use Rattle.std.specs.Prelude.{◌≡◌};
 ghost use Rattle.table_records.specs.Bytes.{same_bytes};
 ghost use Rattle.table_records.specs.Records.{record_at};

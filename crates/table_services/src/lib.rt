@@ -1,5 +1,6 @@
 // The services that brokers register: one record of the table.
 #![tactic(auto)]
+
 ghost use Rattle.std.specs.Prelude.{◌≡◌, cond, ◌&&◌, eqb, length, get_or};
 ghost use Rattle.table_records.specs.Below.{all_below};
 ghost use Rattle.table_services.specs.Working.{may_stand};

@@ -1,5 +1,6 @@
 // The service that a topic names, and the record of the table that registers it.
 #![tactic(auto)]
+
 ghost use Rattle.std.specs.Prelude.{◌≡◌, ◌≤◌, length};
 ghost use Rattle.table_services.specs.Services.{service_width, longest_name};
 ghost use Rattle.table_services_find.specs.Lookup.{service_of, registers, registered_as};

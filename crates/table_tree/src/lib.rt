@@ -1,5 +1,6 @@
 // The tree of brokers: its ranks, and the parent and the depth of each.
 #![tactic(auto)]
+
 ghost use Rattle.std.specs.Prelude.{◌≡◌};
 ghost use Rattle.table_tree.specs.Tree.{ranks_in, whole_tree, parent_of};
 ghost use Rattle.table_tree.specs.Depths.{depth_of};

@@ -1,5 +1,6 @@
 // The check of a tree: whether its bytes are one, and then the depths of its ranks.
 #![tactic(auto)]
+
 ghost use Rattle.std.specs.Prelude.{◌≡◌, ◌≤◌, length};
 ghost use Rattle.table_records.specs.Records.{most_records};
 ghost use Rattle.table_tree.specs.Depths.{depth_of, tree_good};

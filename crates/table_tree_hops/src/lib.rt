@@ -1,5 +1,6 @@
 // Who is whose neighbour in the tree of brokers, and the next broker on the way to a rank.
 #![tactic(auto)]
+
 ghost use Rattle.std.specs.Prelude.{◌≡◌};
 ghost use Rattle.table_tree_hops.specs.Towards.{is_neighbour, hop, towards};
 

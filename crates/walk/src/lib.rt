@@ -1,5 +1,6 @@
 // A walk through the tables: steps one after another, until a broker does something else with the message than forward it.
 #![tactic(auto)]
+
 ghost use Rattle.step_routing.specs.Routed.{tables_of};
 ghost use Rattle.walk.specs.Walk.{walk_of};
 ghost use Rattle.walk.specs.WorkingPasses.{Walks};

@@ -1,5 +1,6 @@
 // The claims on the path that a request takes, for every slice and number that a call can get. Each theorem is the postcondition of an empty function.
 #![tactic(auto)]
+
 ghost use Rattle.walk_path.specs.WorkingLeading.{IsFollowed};
 ghost use Rattle.walk_path.specs.Walks.{WalksAreRight};
 
