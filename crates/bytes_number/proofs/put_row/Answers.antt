@@ -1,5 +1,5 @@
 -- A row is laid number by number, and nothing where there is no room for all of it.
-use Rattle.std.proofs.Common.{arith, sym, length}
+use Rattle.std.proofs.Common.{arith, sym}
 use Rattle.bytes_number.specs.Number.{row_bytes}
 use Rattle.bytes_number.proofs.Rows.{rowed_more, row_length}
 use Rattle.bytes_number.proofs.Buffers.{laid_none}
