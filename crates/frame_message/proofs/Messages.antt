@@ -1,7 +1,7 @@
 -- A message and its parts: `judged` makes of the parts of a message that message, and of any other parts nothing.
 use mathlib.Core.Path.{◌≡◌, refl, sym, ap, ◌∙◌}
 use Prim.Native.Nat.{ℕ, ◌+◌, ◌<◌, ◌≤◌}
-use mathlib.Core.Bool.{Bool, true, false, not, ◌&&◌, ◌||◌}
+use mathlib.Core.Bool.{Bool, true, false, ◌&&◌, ◌||◌}
 use mathlib.Core.List.{List, [], ◌∷◌, ◌++◌, append_assoc}
 use native.Mathlib.Omega.{arith}
 use borrow.Author.Tests.{eqb-true, eq-eqb, ltb-true, ltb-false, lt-ltb, le-ltb, not-false}
@@ -10,7 +10,7 @@ use lib.ListN.{length, get_or, length-append}
 use Rattle.bytes_number.specs.Number.{Bytes}
 use Rattle.frame_message.specs.declared.Header.{Header}
 use Rattle.refusal.specs.Answer.{answered}
-use Rattle.frame_message.specs.Header.{has_topic, has_payload, has_route, is_type, are_flags, parts_fit, fields_good, header_bytes, header_in}
+use Rattle.frame_message.specs.Header.{has_topic, has_payload, has_route, parts_fit, fields_good, header_bytes, header_in}
 use Rattle.frame_forms.specs.Forms.{is_topic}
 use Rattle.frame_message.specs.Message.{Message}
 use Rattle.frame_message.specs.Working.{FieldsFit, is_known, is_header}
