@@ -41,7 +41,7 @@ pub const EVENT: u8 = 4;
 pub const CONTROL: u8 = 8;
 
 // The header's fields. `kind` is the paper's type.
-#[derive(Drop)]
+#[derive(Clone, Copy)]
 pub struct Header {
     pub kind: u8,
     pub flags: u8,
