@@ -5,7 +5,7 @@ ghost use Rattle.std.specs.Prelude.{◌≡◌};
 ghost use Rattle.refusal.specs.Refusals.{number_of};
 
 // Why a call is refused: a name for each row of "Numbers for a no". The C header has the same names.
-#[derive(Drop)]
+#[derive(Clone, Copy)]
 pub enum Refusal {
     InputShort,
     StartWrong,
