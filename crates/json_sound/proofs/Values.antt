@@ -10,7 +10,7 @@ use lib.Dec.{eqb}
 use lib.ListN.{length}
 use Rattle.json_grammar.specs.Language.{Language, range, ◌then◌, perhaps, many, some}
 use Rattle.json_grammar.specs.Json as json
-use Rattle.json_scan.specs.Scan.{is_digit, is_e, is_sign, Class, exactly, Kind, in_object, in_array, behind, Figure, minus, leading_zero, whole, point, fraction, exponent, sign, power, number, rest, nowhere, to, between_move, number_move}
+use Rattle.json_scan.specs.Scan.{is_digit, is_e, is_sign, Class, exactly, Kind, in_object, in_array, behind, Figure, minus, leading_zero, whole, point, fraction, exponent, sign, power, number, nowhere, to, between_move, number_move}
 use Rattle.json_scan.proofs.Bytes.{within, is_within_lem}
 use Rattle.json_sound.proofs.Parts.{in_front, begin_with, leave_out, many-none, many_more, once_more}
 use Rattle.json_sound.proofs.After.{inside, closing, figures, classes, after, Led}
