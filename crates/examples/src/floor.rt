@@ -1,5 +1,5 @@
 // The floor of paper 01: its tables, a step and a walk on them, and a picture of it.
-use crate::print;
+use std::io;
 use step_routing::{Broker, Stepped};
 use walk::Walked;
 
@@ -56,12 +56,12 @@ fn put(picture: &mut [u8], at: usize, mark: u8) {
 }
 
 // Says the rank of a broker behind so many links, and brackets it.
-pub(crate) fn visit(picture: &mut [u8], rank: u32, links: u32) {
+pub(crate) fn visit(rt: &impl Print, picture: &mut [u8], rank: u32, links: u32) -> io::Result<()> {
     let r = rank as usize;
     if 0 < links {
-        print::text(b" > ");
+        print!(rt; " > ")?;
     }
-    print::number(r);
+    print!(rt; "{r}")?;
     if r < 7 {
         let at = BRACKETS[r];
         if at < 256 {
@@ -69,13 +69,10 @@ pub(crate) fn visit(picture: &mut [u8], rank: u32, links: u32) {
             put(picture, at + 2, b']');
         }
     }
+    Ok(())
 }
 
-// Prints the name in a record of the services.
-pub(crate) fn print_service(number: usize) {
-    if number < 2 {
-        print::text(b" (bench)");
-    } else {
-        print::text(b" (log)");
-    }
+// The name in a record of the services.
+pub(crate) fn service(number: usize) -> &'static str {
+    if number < 2 { "bench" } else { "log" }
 }

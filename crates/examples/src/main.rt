@@ -3,6 +3,8 @@
 
 use frame_layout::{Reading, Stretch};
 use frame_message::{Header, Written};
+use print::Hex;
+use std::io;
 
 mod floor;
 mod print;
@@ -21,27 +23,22 @@ fn log_request(flags: u8) -> Header {
     }
 }
 
-// Prints what a frame is read as.
-fn show_reading(before: &[u8], frame: &[u8]) {
-    print::text(before);
-    print::reading(frame_read::read(frame));
-}
-
 // Prints a frame of n bytes, and what it is read as.
-fn show_frame(out: &[u8], n: usize) {
+fn show_frame(rt: &impl Print, out: &[u8], n: usize) -> io::Result<()> {
     if n <= out.len() {
-        print::text(b"  ");
-        print::bytes(&out[..n]);
-        show_reading(b"\n  read back: ", out);
+        println!(rt; "  {}", Hex { bytes: &out[..n] })?;
+        print!(rt; "  read back: ")?;
+        print::reading(rt, frame_read::read(out))?;
     }
+    Ok(())
 }
 
 // Writes a message, prints its frame, and reads it again.
-fn show_message(header: Header, topic: &[u8]) {
+fn show_message(rt: &impl Print, header: Header, topic: &[u8]) -> io::Result<()> {
     let mut out = [0u8; 64];
     match frame_write::write(header, b"", topic, b"", &mut out) {
-        Written::Refused(r) => print::refused(r),
-        Written::Frame(n) => show_frame(&out, n),
+        Written::Refused(r) => print::refused(rt, r),
+        Written::Frame(n) => show_frame(rt, &out, n),
     }
 }
 
@@ -51,43 +48,49 @@ fn write_log(payload: &[u8], out: &mut [u8]) -> Written {
 }
 
 // Writes that request, and says how long the frame is.
-fn show_limit(payload: &[u8], out: &mut [u8]) {
-    print::count(payload.len(), b" bytes of payload: ");
-    print::written(write_log(payload, out));
+fn show_limit(rt: &impl Print, payload: &[u8], out: &mut [u8]) -> io::Result<()> {
+    print!(rt; "  {} bytes of payload: ", payload.len())?;
+    print::written(rt, write_log(payload, out))
 }
 
 // The bytes between the topic and the payload: the payload's size.
-fn print_size(frame: &[u8], topic: Stretch, end: usize) {
+fn print_size(rt: &impl Print, frame: &[u8], topic: Stretch, end: usize) -> io::Result<()> {
     if end <= frame.len() {
         if topic.len < end {
             let before = end - topic.len - 1;
             if topic.start <= before {
                 let start = topic.start + topic.len + 1;
-                print::bytes(&frame[start..end]);
+                print!(rt;
+                    "{}",
+                    Hex {
+                        bytes: &frame[start..end]
+                    }
+                )?;
             }
         }
     }
+    Ok(())
 }
 
 // Reads a frame and prints its payload's size. Says where the payload starts.
-fn read_size(frame: &[u8]) -> usize {
+fn read_size(rt: &impl Print, frame: &[u8]) -> io::Result<usize> {
     match frame_read::read(frame) {
-        Reading::Refused(_) => 0,
+        Reading::Refused(_) => Ok(0),
         Reading::Accepted(f) => {
-            let payload = f.payload;
-            print_size(frame, f.topic, payload.start);
-            payload.start
+            let start = f.payload.start;
+            print_size(rt, frame, f.topic, start)?;
+            Ok(start)
         }
     }
 }
 
 // Writes the request with some payload and prints the payload's size. Says where the payload starts.
-fn show_size(payload: &[u8], out: &mut [u8]) -> usize {
-    print::count(payload.len(), b" bytes of data have the size ");
+fn show_size(rt: &impl Print, payload: &[u8], out: &mut [u8]) -> io::Result<usize> {
+    print!(rt; "  {} bytes of data have the size ", payload.len())?;
     write_log(payload, out);
-    let start = read_size(out);
-    print::text(b"\n");
-    start
+    let start = read_size(rt, out)?;
+    println!(rt)?;
+    Ok(start)
 }
 
 // Puts 254 in front of a place.
@@ -99,13 +102,14 @@ fn spoil(out: &mut [u8], place: usize) {
     }
 }
 
-fn show_sizes() {
+fn show_sizes(rt: &impl Print) -> io::Result<()> {
     let payload = [0u8; 255];
     let mut out = [0u8; 512];
-    show_size(&payload[..254], &mut out);
-    let start = show_size(&payload, &mut out);
+    show_size(rt, &payload[..254], &mut out)?;
+    let start = show_size(rt, &payload, &mut out)?;
     spoil(&mut out, start);
-    show_reading(b"  the size FF 00 00 00 FE: ", &out);
+    print!(rt; "  the size FF 00 00 00 FE: ")?;
+    print::reading(rt, frame_read::read(&out))
 }
 
 fn control() -> Header {
@@ -119,28 +123,28 @@ fn control() -> Header {
     }
 }
 
-fn show_messages() {
-    print::text(b"A control message, type 2, status 3, user unknown\n");
-    show_message(control(), b"");
-    print::text(b"A request for \"log\", any rank, matchtag 1, no routes\n");
-    show_message(log_request(9), b"log");
+fn show_messages(rt: &impl Print) -> io::Result<()> {
+    println!(rt; "A control message, type 2, status 3, user unknown")?;
+    show_message(rt, control(), b"")?;
+    println!(rt; "A request for \"log\", any rank, matchtag 1, no routes")?;
+    show_message(rt, log_request(9), b"log")
 }
 
-fn show_limits() {
-    print::text(b"That request with a payload\n");
+fn show_limits(rt: &impl Print) -> io::Result<()> {
+    println!(rt; "That request with a payload")?;
     let payload = [0u8; 32737];
     let mut out = [0u8; 32776];
-    show_limit(&payload[..32736], &mut out);
-    show_limit(&payload, &mut out);
+    show_limit(rt, &payload[..32736], &mut out)?;
+    show_limit(rt, &payload, &mut out)
 }
 
-fn main() {
-    show_messages();
-    show_limits();
-    print::text(b"A part's size\n");
-    show_sizes();
-    print::text(
-        b"Walks, each by steps and by the walk call; the brokers that it visits are in brackets\n",
-    );
-    walks::show_all();
+fn main(rt: HostRuntime) -> io::Result<()> {
+    show_messages(&rt)?;
+    show_limits(&rt)?;
+    println!(&rt; "A part's size")?;
+    show_sizes(&rt)?;
+    println!(&rt;
+        "Walks, each by steps and by the walk call; the brokers that it visits are in brackets"
+    )?;
+    walks::show_all(&rt)
 }

@@ -1,97 +1,53 @@
-// Printing: bytes in hexadecimal, numbers, and what the reader answered.
-use frame_layout::{Layout, Reading, Stretch};
-use frame_message::{Header, Written};
-use libc::STDOUT_FILENO;
+// How bytes, and what the reader and the writer answered, are printed.
+use frame_layout::{Layout, Reading};
+use frame_message::Written;
 use refusal::Refusal;
+use std::{fmt, io};
 
-pub(crate) fn text(s: &[u8]) {
-    io::write_all(STDOUT_FILENO, s);
+// Bytes as two digits each, with a space between them.
+#[derive(Drop)]
+pub(crate) struct Hex<'a> {
+    pub bytes: &'a [u8],
 }
 
-pub(crate) fn number(n: usize) {
-    io::print_decimal(STDOUT_FILENO, n as u64);
-}
-
-// A byte as two digits.
-fn byte(x: u8) {
-    let digits = b"0123456789ABCDEF";
-    let high = (x / 16) as usize;
-    let low = (x % 16) as usize;
-    text(&[digits[high], digits[low]]);
-}
-
-// Bytes with a space between them.
-pub(crate) fn bytes(s: &[u8]) {
-    let mut i = 0;
-    while i < s.len() {
-        if 0 < i {
-            text(b" ");
+impl fmt::Display for Hex<'_> {
+    fn fmt<W: fmt::Write>(&self, f: &mut fmt::Formatter<W>) -> fmt::Result {
+        let mut space = "";
+        for byte in self.bytes {
+            write!(f, "{space}{byte:02X}")?;
+            space = " ";
         }
-        byte(s[i]);
-        i += 1;
+        Ok(())
     }
 }
 
-pub(crate) fn refused(r: Refusal) {
-    text(b"refused, ");
-    number(refusal::number(r) as usize);
-    text(b"\n");
+pub(crate) fn refused(rt: &impl Print, r: Refusal) -> io::Result<()> {
+    println!(rt; "refused, {}", refusal::number(r))
 }
 
-// A name and a number.
-pub(crate) fn field(name: &[u8], n: usize) {
-    text(name);
-    number(n);
+fn frame(rt: &impl Print, f: Layout) -> io::Result<()> {
+    let h = f.header;
+    println!(rt;
+        "type {}, flags {}, userid {}, rolemask {}, fields {} and {}",
+        h.kind, h.flags, h.userid, h.rolemask, h.first, h.second
+    )?;
+    println!(rt;
+        "             routes {}, topic of {} bytes at {}, payload of {}, {} bytes in all",
+        f.routes, f.topic.len, f.topic.start, f.payload.len, f.taken
+    )
 }
 
-// A number, and what there are so many of.
-pub(crate) fn count(n: usize, what: &[u8]) {
-    text(b"  ");
-    number(n);
-    text(what);
-}
-
-fn sender(userid: u32, rolemask: u32) {
-    field(b", userid ", userid as usize);
-    field(b", rolemask ", rolemask as usize);
-}
-
-fn header(h: Header) {
-    field(b"type ", h.kind as usize);
-    field(b", flags ", h.flags as usize);
-    sender(h.userid, h.rolemask);
-    field(b", fields ", h.first as usize);
-    field(b" and ", h.second as usize);
-}
-
-fn stretches(topic: Stretch, payload: Stretch) {
-    field(b", topic of ", topic.len);
-    field(b" bytes at ", topic.start);
-    field(b", payload of ", payload.len);
-}
-
-fn frame(f: Layout) {
-    header(f.header);
-    field(b"\n             routes ", f.routes);
-    stretches(f.topic, f.payload);
-    field(b", ", f.taken);
-    text(b" bytes in all\n");
-}
-
-pub(crate) fn reading(r: Reading) {
+pub(crate) fn reading(rt: &impl Print, r: Reading) -> io::Result<()> {
     match r {
-        Reading::Refused(x) => refused(x),
-        Reading::Accepted(f) => frame(f),
+        Reading::Refused(x) => refused(rt, x),
+        Reading::Accepted(f) => frame(rt, f),
     }
 }
 
 // What the writer answered.
-pub(crate) fn written(w: Written) {
+pub(crate) fn written(rt: &impl Print, w: Written) -> io::Result<()> {
     match w {
-        Written::Refused(r) => refused(r),
-        Written::Frame(n) => {
-            field(b"a frame of ", n);
-            text(b" bytes\n");
-        }
+        Written::Refused(r) => refused(rt, r),
+        Written::Frame(n) => println!(rt; "a frame of {n} bytes"),
     }
 }

@@ -1,8 +1,9 @@
 // The walks of paper 01's last table, and three upstream: each request goes by steps and by the walk call, and a response comes home the same two ways.
-use crate::{floor, print, words};
+use crate::{floor, words};
 use frame_layout::{Reading, Stretch};
 use frame_message::{FRONT, Header};
 use refusal::Refusal;
+use std::io;
 use step_routing::Stepped;
 use walk::Walked;
 
@@ -29,28 +30,24 @@ fn header(kind: u8, flags: u8, first: u32) -> Header {
 }
 
 // Steps from a broker on, until one does something else than forward. Says and brackets the brokers.
-fn go(entry: u32, picture: &mut [u8], buffer: &mut [u8]) -> Walked {
+fn go(rt: &impl Print, entry: u32, picture: &mut [u8], buffer: &mut [u8]) -> io::Result<Walked> {
     let mut rank = entry;
     let mut links: u32 = 0;
     while links < 64 {
-        floor::visit(picture, rank, links);
-        let stepped = floor::step(rank, buffer);
-        if let Stepped::Forwarded(next) = stepped {
+        floor::visit(rt, picture, rank, links)?;
+        let step = floor::step(rank, buffer);
+        if let Stepped::Forwarded(next) = step {
             rank = next;
             links += 1;
         } else {
-            return Walked {
-                step: stepped,
-                rank,
-                links,
-            };
+            return Ok(Walked { step, rank, links });
         }
     }
-    Walked {
+    Ok(Walked {
         step: Stepped::Refused(Refusal::ForwardLong),
         rank,
         links,
-    }
+    })
 }
 
 // The numbers of a walk's end, as a C program gets them.
@@ -68,14 +65,20 @@ fn is_same(a: Walked, b: Walked) -> bool {
 }
 
 // Says how the steps ended, and whether the walk call ended otherwise or left other bytes.
-fn tell(stepped: Walked, walked: Walked, buffer: &[u8], copy: &[u8]) {
-    words::end(stepped);
+fn tell(
+    rt: &impl Print,
+    stepped: Walked,
+    walked: Walked,
+    buffer: &[u8],
+    copy: &[u8],
+) -> io::Result<()> {
+    words::end(rt, &stepped)?;
     if is_same(stepped, walked) {
         if table_records::same(buffer, copy) {
-            return;
+            return Ok(());
         }
     }
-    print::text(b"*** THE STEPS AND THE WALK CALL DIFFER ***\n");
+    println!(rt; "*** THE STEPS AND THE WALK CALL DIFFER ***")
 }
 
 fn walk_copy(entry: u32, buffer: &[u8], copy: &mut [u8]) -> Walked {
@@ -84,12 +87,17 @@ fn walk_copy(entry: u32, buffer: &[u8], copy: &mut [u8]) -> Walked {
 }
 
 // Takes the message in buffer as far as it goes, by steps, and a copy of it by the walk call.
-fn travel(entry: u32, picture: &mut [u8], buffer: &mut [u8]) -> Walked {
+fn travel(
+    rt: &impl Print,
+    entry: u32,
+    picture: &mut [u8],
+    buffer: &mut [u8],
+) -> io::Result<Walked> {
     let mut copy = [0u8; 32776];
     let walked = walk_copy(entry, buffer, &mut copy);
-    let stepped = go(entry, picture, buffer);
-    tell(stepped, walked, buffer, &copy);
-    stepped
+    let stepped = go(rt, entry, picture, buffer)?;
+    tell(rt, stepped, walked, buffer, &copy)?;
+    Ok(stepped)
 }
 
 // How many bytes of the body come up to a topic's end, the zero byte there with them.
@@ -120,51 +128,70 @@ fn respond(buffer: &mut [u8]) {
 }
 
 // What goes home from where a request ended: the error reply, or a response that is made there.
-fn begin_home(end: Walked, buffer: &mut [u8]) {
-    let step = end.step;
-    words::home(step);
-    if let Stepped::Replied(_) = step {
-        return;
+fn begin_home(rt: &impl Print, end: Walked, buffer: &mut [u8]) -> io::Result<()> {
+    print!(rt; "{}", words::home(&end.step))?;
+    if let Stepped::Replied(_) = end.step {
+        return Ok(());
     }
     respond(buffer);
+    Ok(())
 }
 
 // The request in buffer there, and its response back.
-fn there_and_back(entry: u32, picture: &mut [u8], buffer: &mut [u8]) {
-    let end = travel(entry, picture, buffer);
-    begin_home(end, buffer);
-    travel(end.rank, picture, buffer);
+fn there_and_back(
+    rt: &impl Print,
+    entry: u32,
+    picture: &mut [u8],
+    buffer: &mut [u8],
+) -> io::Result<()> {
+    let end = travel(rt, entry, picture, buffer)?;
+    begin_home(rt, end, buffer)?;
+    travel(rt, end.rank, picture, buffer)?;
+    Ok(())
 }
 
 // Both ways, and the picture of them.
-fn draw(entry: u32, buffer: &mut [u8]) {
+fn draw(rt: &impl Print, entry: u32, buffer: &mut [u8]) -> io::Result<()> {
     let mut picture = floor::PICTURE;
-    there_and_back(entry, &mut picture, buffer);
-    print::text(&picture);
+    there_and_back(rt, entry, &mut picture, buffer)?;
+    rt.write_all(&picture)
 }
 
-fn show(case: &[u8], entry: u32, nodeid: u32, flags: u8, topic: &[u8]) {
-    words::request(case, entry, nodeid, flags, topic);
+fn show(
+    rt: &impl Print,
+    case: &str,
+    entry: u32,
+    nodeid: u32,
+    flags: u8,
+    topic: &str,
+) -> io::Result<()> {
+    words::request(rt, case, entry, nodeid, flags, topic)?;
     let mut buffer = [0u8; 32776];
-    frame_write::write(header(1, flags, nodeid), b"", topic, b"", &mut buffer);
-    draw(entry, &mut buffer);
+    frame_write::write(
+        header(1, flags, nodeid),
+        b"",
+        topic.as_bytes(),
+        b"",
+        &mut buffer,
+    );
+    draw(rt, entry, &mut buffer)
 }
 
-pub(crate) fn show_all() {
-    let bench: &[u8] = b"bench.run";
-    show(b"W1", 3, ANY, PLAIN, bench);
-    show(b"W2", 4, ANY, PLAIN, bench);
-    show(b"W3", 5, ANY, PLAIN, bench);
-    show(b"W4", 5, ANY, PLAIN, b"log");
-    show(b"W5", 6, 4, PLAIN, bench);
-    show(b"W6", 3, 5, PLAIN, bench);
-    show(b"W7", 3, 7, PLAIN, bench);
-    show(b"W8", 4, 4, UPSTREAM, bench);
-    show(b"W9", 0, 0, UPSTREAM, b"log.put");
-    show(b"W10", 3, ANY, PLAIN, b"benchmark.run");
-    show(b"W11", 5, ANY, NORESPONSE, bench);
+pub(crate) fn show_all(rt: &impl Print) -> io::Result<()> {
+    let bench = "bench.run";
+    show(rt, "W1", 3, ANY, PLAIN, bench)?;
+    show(rt, "W2", 4, ANY, PLAIN, bench)?;
+    show(rt, "W3", 5, ANY, PLAIN, bench)?;
+    show(rt, "W4", 5, ANY, PLAIN, "log")?;
+    show(rt, "W5", 6, 4, PLAIN, bench)?;
+    show(rt, "W6", 3, 5, PLAIN, bench)?;
+    show(rt, "W7", 3, 7, PLAIN, bench)?;
+    show(rt, "W8", 4, 4, UPSTREAM, bench)?;
+    show(rt, "W9", 0, 0, UPSTREAM, "log.put")?;
+    show(rt, "W10", 3, ANY, PLAIN, "benchmark.run")?;
+    show(rt, "W11", 5, ANY, NORESPONSE, bench)?;
     // Upstream, the rank that the nodeid names is skipped: no other, and wherever it stands on the way.
-    show(b"U1", 4, 5, UPSTREAM, bench);
-    show(b"U2", 3, 1, UPSTREAM, bench);
-    show(b"U3", 0, 7, UPSTREAM, b"log.put");
+    show(rt, "U1", 4, 5, UPSTREAM, bench)?;
+    show(rt, "U2", 3, 1, UPSTREAM, bench)?;
+    show(rt, "U3", 0, 7, UPSTREAM, "log.put")
 }

@@ -1,94 +1,81 @@
 // What is asked, and what a walk came to, in words.
-use crate::{floor, print};
+use crate::floor;
+use std::io;
 use step_routing::Stepped;
 use walk::Walked;
 
 // A nodeid is a target, or upstream the rank that is skipped.
-fn target(nodeid: u32, flags: u8) {
+fn target(rt: &impl Print, nodeid: u32, flags: u8) -> io::Result<()> {
     if nodeid == 4294967295 {
-        print::text(b" for any rank");
-        return;
+        return print!(rt; " for any rank");
     }
     if frame_flags::is_upstream(flags) {
-        print::field(b" upstream, past rank ", nodeid as usize);
+        print!(rt; " upstream, past rank {nodeid}")
     } else {
-        print::field(b" for rank ", nodeid as usize);
+        print!(rt; " for rank {nodeid}")
     }
 }
 
-fn wishes(flags: u8) {
+fn wishes(flags: u8) -> &'static str {
     if frame_flags::no_response(flags) {
-        print::text(b", no response wanted");
+        ", no response wanted"
+    } else {
+        ""
     }
 }
 
 // A case's name, what its request asks for, and where it enters.
-pub(crate) fn request(case: &[u8], entry: u32, nodeid: u32, flags: u8, topic: &[u8]) {
-    print::text(case);
-    print::text(b": ");
-    print::text(topic);
-    target(nodeid, flags);
-    wishes(flags);
-    print::field(b", entry at rank ", entry as usize);
-    print::text(b"\n    request   ");
+pub(crate) fn request(
+    rt: &impl Print,
+    case: &str,
+    entry: u32,
+    nodeid: u32,
+    flags: u8,
+    topic: &str,
+) -> io::Result<()> {
+    print!(rt; "{case}: {topic}")?;
+    target(rt, nodeid, flags)?;
+    println!(rt; "{}, entry at rank {entry}", wishes(flags))?;
+    print!(rt; "    request   ")
 }
 
 // What goes home after a request's last step.
-pub(crate) fn home(step: Stepped) {
+pub(crate) fn home(step: &Stepped) -> &'static str {
     match step {
-        Stepped::Replied(_) => print::text(b"    reply     "),
-        Stepped::Silenced(_) => print::text(b"    nobody replies; a response would go "),
-        _ => print::text(b"    response  "),
+        Stepped::Replied(_) => "    reply     ",
+        Stepped::Silenced(_) => "    nobody replies; a response would go ",
+        _ => "    response  ",
     }
 }
 
-// An error's number, what it means, and where it was made.
-fn error(before: &[u8], errnum: u32, rank: usize) {
-    print::field(before, errnum as usize);
-    if errnum == 38 {
-        print::text(b" (no such service)");
+// What an error's number means.
+fn meaning(errnum: u32) -> &'static str {
+    match errnum {
+        38 => " (no such service)",
+        113 => " (no such rank)",
+        _ => "",
     }
-    if errnum == 113 {
-        print::text(b" (no such rank)");
-    }
-    print::field(b" at rank ", rank);
 }
 
-fn replied(errnum: u32, rank: usize) {
-    error(b"error ", errnum, rank);
-    print::text(b", one reply,");
-}
-
-fn delivered(number: usize, rank: usize) {
-    print::field(b"delivered at rank ", rank);
-    print::field(b", record ", number);
-    floor::print_service(number);
-    print::text(b",");
-}
-
-fn answer(step: Stepped, rank: usize) {
+// A step's answer, and where it was made.
+fn answer(rt: &impl Print, step: &Stepped, rank: u32) -> io::Result<()> {
     match step {
-        Stepped::Delivered(number) => delivered(number, rank),
-        Stepped::Replied(e) => replied(e, rank),
-        Stepped::Silenced(e) => error(b"silenced: error ", e, rank),
-        Stepped::Home => print::field(b"home at rank ", rank),
-        _ => print::field(b"stopped at rank ", rank),
-    }
-}
-
-fn links(n: u32) {
-    print::field(b" after ", n as usize);
-    if n == 1 {
-        print::text(b" link\n");
-    } else {
-        print::text(b" links\n");
+        Stepped::Delivered(number) => print!(rt;
+            "delivered at rank {rank}, record {number} ({}),",
+            floor::service(*number)
+        ),
+        Stepped::Replied(e) => { print!(rt; "error {e}{} at rank {rank}, one reply,", meaning(*e)) }
+        Stepped::Silenced(e) => print!(rt; "silenced: error {e}{} at rank {rank}", meaning(*e)),
+        Stepped::Home => print!(rt; "home at rank {rank}"),
+        _ => print!(rt; "stopped at rank {rank}"),
     }
 }
 
 // How and where a walk ended, and the links that it crossed.
-pub(crate) fn end(w: Walked) {
-    print::text(b": ");
-    let step = w.step;
-    answer(step, w.rank as usize);
-    links(w.links);
+pub(crate) fn end(rt: &impl Print, w: &Walked) -> io::Result<()> {
+    print!(rt; ": ")?;
+    answer(rt, &w.step, w.rank)?;
+    let n = w.links;
+    let links = if n == 1 { "link" } else { "links" };
+    println!(rt; " after {n} {links}")
 }
