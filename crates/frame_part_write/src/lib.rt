@@ -10,8 +10,8 @@ use frame_part_size::LONG;
 // Writes a part to the front of out, if there is room for it, and tells how many bytes it took; where there is none it tells 0. So the next
 // part can be lent what follows.
 pub fn write_part(out: &mut [u8], data: &[u8]) -> usize
-    ensures value { result ≡ laid_count (part_bytes (was «data»)) out.old }
-    ensures out_after { out.new ≡ laid_if_room (part_bytes (was «data»)) out.old }
+    ensures value { result ≡ laid_count (part_bytes «data».now) out.old }
+    ensures out_after { out.new ≡ laid_if_room (part_bytes «data».now) out.old }
 {
     let n = data.len();
     if n < LONG {
