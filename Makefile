@@ -10,9 +10,9 @@ export PATH := $(PATH):$(HOME)/.cargo/bin
 # Proving is quicker where temporary files lie in memory.
 export TMPDIR := $(shell tools/tmpdir)
 
-# What the archive is made of. The program and the must-fail edits are not in it.
+# What the archive is made of. The program, the must-fail edits and what rt makes are not in it.
 RATTLE := $(wildcard crates.txt) $(shell find crates -path crates/examples -prune -o -name must-fail -prune \
-            -o \( -name '*.rt' -o -name '*.antt' \) -print 2>/dev/null)
+            -o -path 'crates/*/out' -prune -o \( -name '*.rt' -o -name '*.antt' \) -print 2>/dev/null)
 .PHONY: help run test bench fuzz peer archive host dist fmt deps bench-deps fuzz-deps peer-deps clean
 .DELETE_ON_ERROR:
 
@@ -28,15 +28,15 @@ help:
 	@echo 'make dist     a tarball for machines with a C compiler and no kit: target/dist/'
 	@echo 'make fmt      format the Rattle and the C files'
 	@echo 'make deps     install the compilers that are missing (Debian packages); NO_INSTALL=1 only names them'
-	@echo 'make clean    remove target/'
+	@echo 'make clean    remove target/ and what rt keeps in crates/*/out'
 
-# Proves every crate: these three need all others.
+# Proves every crate. What rt says of the program that it runs goes to a file, and what that prints is shown.
 run: deps
-	@printf '== the proofs (what the prover says goes to target/make/check.log)\n'
-	@tools/prove check examples lampreycoil claim_calls
+	@printf '== the proofs (what the prover says goes to target/make/all.log)\n'
+	@tools/prove . all check
 	@$(MAKE) --no-print-directory -s host
 	@printf '\n== the examples, run by the proved program\n'
-	@cat target/log/examples.stdout
+	@cd crates/examples && rt run 2>../../target/make/run.log || { cat ../../target/make/run.log >&2; exit 1; }
 	@printf '\n== a request for "log", written and dumped by the C host program\n'
 	@printf '$$ flux_frame write --type request --topic log --matchtag 1 -o target/host/log.frame\n'
 	@target/host/flux_frame write --type request --topic log --matchtag 1 -o target/host/log.frame
@@ -69,7 +69,7 @@ peer: peer-deps archive
 archive: $(ARCHIVE)
 
 $(ARCHIVE): $(RATTLE)
-	@tools/prove staticlib lampreycoil
+	@tools/archive
 
 include host/host.mk
 
@@ -98,7 +98,7 @@ dist: $(ARCHIVE)
 
 # The C layout is clang-format's, where it is installed.
 fmt:
-	rt fmt
+	@for crate in crates/*/src; do (cd "$$crate/.." && rt fmt) || exit 1; done
 	@if command -v clang-format >/dev/null; then \
 	    clang-format -i --style=file:host/.clang-format $(C_FILES) $(H_FILES) host/test/*.[ch] host/fuzz/*.[ch] \
 	        tests/peer/*.c; \
@@ -149,4 +149,4 @@ fuzz-deps:
 	$(INSTALL_MISSING)
 
 clean:
-	rm -rf target
+	rm -rf target crates/*/out

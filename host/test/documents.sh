@@ -69,16 +69,19 @@ headed() { # DOCUMENT ANCHOR
     prose "$1" | sed -n 's/^##* //p' | tr '[:upper:] ' '[:lower:]-' | sed 's/[^a-z0-9_-]//g' | grep -qxF -- "$2"
 }
 
+# A name that begins as those of a family do is a crate's, or one that specs/ or src/ has.
+known() { [ -d "crates/$1" ] || grep -rqwF -- "$1" crates/*/specs crates/*/src; } # NAME
+
 # Each file, crate and link of a document is there.
 named() { # DOCUMENT
     local path link
     for path in $(prose "$1" | grep -oE '`[A-Za-z0-9_.-]+(/[A-Za-z0-9_.-]+)+/?`' | tr -d '`' | sort -u); do
         # what is made is not in the repository, and CRATE or NAME stand for any
-        case $path in target/* | bin/* | lib/* | share/* | */CRATE/* | */NAME/*) continue ;; esac
+        case $path in target/* | bin/* | lib/* | share/* | */out/* | */CRATE/* | */NAME/*) continue ;; esac
         good "$1 names $path, which is there" there "$1" "$path"
     done
     for path in $(prose "$1" | grep -oE "\`($families)_[a-z0-9_]+\`" | tr -d '`' | sort -u); do
-        good "$1 names the crate $path, which is there" [ -d "crates/$path" ]
+        good "$1 names $path, which is a crate or a definition" known "$path"
     done
     for link in $(prose "$1" | grep -oE '\]\([^)]+' | sed 's/^](//' | sort -u); do
         case $link in

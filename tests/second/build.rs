@@ -18,7 +18,7 @@ fn main() {
     println!("cargo:rerun-if-changed={}", archive.display());
     if !archive.is_file() {
         eprintln!("no archive at {}", archive.display());
-        eprintln!("make it with `rt staticlib lampreycoil` in the repository's root,");
+        eprintln!("make it with `make archive` in the repository's root,");
         eprintln!("or name its folder in LAMPREYCOIL_ARCHIVE_DIR");
         exit(1);
     }
