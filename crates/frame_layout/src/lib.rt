@@ -9,7 +9,7 @@ use frame_message::{FRONT, Header};
 use refusal::Refusal;
 
 // Where bytes lie, counted from the frame's front. Both are 0 where the part is absent.
-#[derive(Drop)]
+#[derive(Clone, Copy)]
 pub struct Stretch {
     pub start: usize,
     pub len: usize,
@@ -17,7 +17,7 @@ pub struct Stretch {
 
 // A message in the caller's bytes: how many bytes its frame took, the header's fields, how many routes there are, where the first
 // one's data starts (0 without routes; they lie 38 bytes apart), the topic without its zero byte, and the payload.
-#[derive(Drop)]
+#[derive(Clone, Copy)]
 pub struct Layout {
     pub taken: usize,
     pub header: Header,
@@ -35,7 +35,7 @@ pub enum Reading {
 }
 
 // Where a part's data lies in the body, and where the next part begins.
-#[derive(Drop)]
+#[derive(Clone, Copy)]
 pub struct Piece {
     pub at: usize,
     pub len: usize,
