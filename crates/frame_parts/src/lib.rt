@@ -9,7 +9,7 @@ use refusal::Refusal;
 
 // How many parts there are; how many of them stand in front of the first empty one, all where none is empty, and how many bytes these
 // have; and how many bytes stand in front of the last part.
-#[derive(Drop)]
+#[derive(Clone, Copy)]
 pub struct PartCounts {
     pub count: usize,
     pub empty: usize,

@@ -22,21 +22,21 @@ overflow_add-next-in-Data c =
 pub loop-at-preserved-then-len-ne0 : goal.loop-at-preserved-then-len-ne0
 loop-at-preserved-then-len-ne0 c =
     let size = found c.args.body.now c.loop-at.at c.in-Data.ensures in
-    passed_none_empty c.loop-at.invariant c.if-at-body.false (bytes_of_lem c.args.body.now (λ i. (c.type_inv.body i).fits)) size c.if-count-most.false (omega arith)
+    passed_none_empty c.loop-at.invariant c.if-at-body.false (bytes_of_lem c.args.body.now (λ i. (c.type_inv.body i).fits)) size (λ e. omega arith) (omega arith)
     c.if-len-ne0.true (omega arith) (omega arith)
 
 -- this one is the first
 pub loop-at-preserved-else-len-ne0 : goal.loop-at-preserved-else-len-ne0
 loop-at-preserved-else-len-ne0 c =
     let size = found c.args.body.now c.loop-at.at c.in-Data.ensures in
-    passed_this_empty c.loop-at.invariant c.if-at-body.false (bytes_of_lem c.args.body.now (λ i. (c.type_inv.body i).fits)) size c.if-count-most.false (omega arith)
+    passed_this_empty c.loop-at.invariant c.if-at-body.false (bytes_of_lem c.args.body.now (λ i. (c.type_inv.body i).fits)) size (λ e. omega arith) (omega arith)
     (omega arith) (omega arith)
 
 -- an earlier one is
 pub loop-at-preserved : goal.loop-at-preserved
 loop-at-preserved c =
     let size = found c.args.body.now c.loop-at.at c.in-Data.ensures in
-    passed_earlier_empty c.loop-at.invariant c.if-at-body.false (bytes_of_lem c.args.body.now (λ i. (c.type_inv.body i).fits)) size c.if-count-most.false
+    passed_earlier_empty c.loop-at.invariant c.if-at-body.false (bytes_of_lem c.args.body.now (λ i. (c.type_inv.body i).fits)) size (λ e. omega arith)
     c.if-empty-count.false (omega arith) (omega arith)
 
 pub returns-then-at-body : goal.returns-then-at-body
@@ -48,4 +48,4 @@ returns-then-count-most c = passed_many c.loop-at.invariant c.if-at-body.false (
 -- there was room for the part whose size is wrong: 5 comes before its size is read
 pub returns-in-Wrong : goal.returns-in-Wrong
 returns-in-Wrong c =
-    passed_wrong c.loop-at.invariant c.if-at-body.false c.if-count-most.false (found c.args.body.now c.loop-at.at c.in-Wrong.ensures)
+    passed_wrong c.loop-at.invariant c.if-at-body.false (λ e. omega arith) (found c.args.body.now c.loop-at.at c.in-Wrong.ensures)
