@@ -40,6 +40,7 @@ fn fields(p: &[u8]) -> Header
 }
 
 // Whether a header is right, or why it is wrong: 6, 20, 21, 22, then 23.
+#[tactic(auto, unfolding(frame_message::specs::Reading::header_or_why))]
 pub fn test_header(p: &[u8]) -> Test
     ensures { result ≡ test_as (header_or_why p.now) }
 {
