@@ -15,6 +15,7 @@ pub const LONGEST: usize = 27;
 
 // 1 for a byte that may not stand at its place in a record whose name ends in front of `end`: a zero or a period in the name, and anything but a
 // zero behind it.
+#[tactic(auto, unfolding(crate::specs::Working::may_stand))]
 fn stray(x: u8, at: u8, end: u8) -> u8
     ensures { result ≡ cond (may_stand end at x) 0 1 }
 {
