@@ -51,6 +51,13 @@ module _ (sender code : ℕ) where
   pub worker_command : sender ≡ 2 → 1 ≤ code → code ≤ 6 → is_command sender code ≡ true
   worker_command e low high = rw (worker_tests e, le-leb 1 code low, le-leb code 6 high)
 
+  -- as the code tests it, once the number is not 0
+  pub client_known : sender ≡ 1 → 1 ≤ code → leb code 3 ≡ is_command sender code
+  client_known e low = rw (client_tests e, le-leb 1 code low)
+
+  pub worker_known : sender ≡ 2 → 1 ≤ code → leb code 6 ≡ is_command sender code
+  worker_known e low = rw (worker_tests e, le-leb 1 code low)
+
   pub no_sender : (sender ≡ 1 → ⊥) → (sender ≡ 2 → ⊥) → is_command sender code ≡ false
   unfolding is_command
   no_sender n m = rw (ne_eqb sender 1 n, ne_eqb sender 2 m)
