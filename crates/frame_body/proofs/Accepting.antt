@@ -30,7 +30,7 @@ use Rattle.frame_layout.proofs.Placing.{place_in}
 use Rattle.frame_layout.specs.Layout.{data_at, layout_of}
 use Rattle.frame_body.specs.WorkingJudging.{parts_found, Found, piece_at, piece_if, Within, topic_wrong, Placeable, placed_as, group_in, Sorted}
 use Rattle.frame_body.proofs.Cursors.{At, at_found, at_parts, at_some, at_next, at_data, at_if}
-use Rattle.frame_body.proofs.Sorting.{judged_message, found, topic_data, payload_data, behind_topic, topic_at_lem}
+use Rattle.frame_body.proofs.Sorting.{judged_message, topic_data, payload_data, behind_topic, topic_at_lem}
 
 -- ---- the places by the pieces
 

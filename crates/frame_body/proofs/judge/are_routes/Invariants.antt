@@ -1,0 +1,10 @@
+use Rattle.std.proofs.Common.{◌-◌}
+use Rattle.frame_body.specs.WorkingJudging.{parts_found}
+use Rattle.frame_body.proofs.Routing.{Routed}
+use Rattle.frame_body.proofs.judge.are_routes.Given as goal
+
+abbrev pub invariant-loop-i : goal.invariant-loop-i
+invariant-loop-i l = Routed l.body (parts_found l.body) l.routes l.i l.at
+
+abbrev pub decreases-loop-i : goal.decreases-loop-i
+decreases-loop-i l = l.routes - l.i
