@@ -38,6 +38,7 @@ pub fn parts_agree(header: Header, routes: &[u8], topic: &[u8], payload: &[u8]) 
 }
 
 // Whether there are at most 64 routes of 37 bytes, and each is of the form.
+#[tactic(auto, using(crate::proofs::Cuts::routes_many, crate::proofs::Cuts::routes_uneven))]
 pub fn routes_good(routes: &[u8]) -> bool
     ensures { result ≡ routes_good (cut routes.now) }
 {
