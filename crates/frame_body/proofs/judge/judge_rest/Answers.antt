@@ -98,5 +98,5 @@ returns-else-good c =
     let b = bytes_of_lem c.args.body.now (λ i. (c.type_inv.body i).fits) in
     let at = place _ _ _ _ _ _ c.requires c.has_route.ensures c.if_set-at.ensures in
     let topic = piece _ _ _ _ _ c.has_topic.ensures c.piece_if-topic.ensures in
-    let good = sym (topic_tested _ _ _ _ c.requires b _ at _ topic) ∙ sym c.topic_wrong-wrong.ensures ∙ c.if-wrong.false in
-    sym (ap read_as (judged_field _ _ c.requires.agree c.requires.good good (sym c.fields_good-good.ensures ∙ c.if-good.false)))
+    let right = sym (topic_tested _ _ _ _ c.requires b _ at _ topic) ∙ sym c.topic_wrong-wrong.ensures ∙ c.if-wrong.false in
+    sym (ap read_as (judged_field _ _ c.requires.agree c.requires.good right (sym c.fields_good-good.ensures ∙ c.if-good.false)))
