@@ -13,7 +13,7 @@ const REPLY: u8 = 0x09;
 const STREAMING_REPLY: u8 = 0x49;
 
 // The broker that makes a step: its rank, and the userid and rolemask of its error replies.
-#[derive(Drop)]
+#[derive(Clone, Copy)]
 pub struct Broker {
     pub rank: u32,
     pub userid: u32,
@@ -38,7 +38,7 @@ pub enum Back {
 
 // What a step says: why it is refused; or delivered with a record's number, forwarded to a rank, an error reply or silence with the error's number,
 // or home.
-#[derive(Drop)]
+#[derive(Clone, Copy)]
 pub enum Stepped {
     Refused(Refusal),
     Delivered(usize),

@@ -11,7 +11,7 @@ use step_routing::{Broker, Stepped};
 mod passes;
 
 // What a walk comes to: the last step's answer or refusal, the rank of the broker that made it, and the links crossed.
-#[derive(Drop)]
+#[derive(Clone, Copy)]
 pub struct Walked {
     pub step: Stepped,
     pub rank: u32,
