@@ -7,6 +7,8 @@ use Rattle.json_number.proofs.Steps.{sign_digit, sign_wrong, power_digit, power_
 use Rattle.json_number.proofs.Figures.{number-stands, behind_digits, digits_none, digits_some}
 use Rattle.json_number.proofs.power_end.Goals as goal
 
+-- no digit where one is due:
+-- the number stops there
 pub returns-then-end-at : goal.returns-then-end-at
 returns-then-end-at c =
     let end : c.digits_end-end.result ≡ end_of is_digit c.args.bytes.now c.args.at = c.digits_end-end.ensures in
