@@ -1,0 +1,17 @@
+-- The check by its ways out: 14, 16, and the count.
+use Rattle.std.proofs.Common.{sym, ap, ◌∙◌}
+use Rattle.refusal.specs.Answer.{answered}
+use Rattle.table_identities_check.proofs.Checking.{check_tree_wrong, check_wrong, check_right}
+use Rattle.table_identities_check.proofs.check_identities.Goals as goal
+
+pub returns-then-not-is_tree : goal.returns-then-not-is_tree
+returns-then-not-is_tree c = sym (check_tree_wrong c.args.tree.now c.args.identities.now (sym c.is_tree.ensures ∙ c.if-not-is_tree.true))
+
+pub returns-then-not-are_identities : goal.returns-then-not-are_identities
+returns-then-not-are_identities c =
+    sym (check_wrong c.args.tree.now c.args.identities.now (sym c.is_tree.ensures ∙ c.if-not-is_tree.false) (sym c.are_identities.ensures ∙ c.if-not-are_identities.true))
+
+pub returns : goal.returns
+returns c =
+    ap answered c.ranks_in.ensures
+    ∙ sym (check_right c.args.tree.now c.args.identities.now (sym c.is_tree.ensures ∙ c.if-not-is_tree.false) (sym c.are_identities.ensures ∙ c.if-not-are_identities.false))
