@@ -1,10 +1,10 @@
 -- The byte of a body and of a frame that are refused: by the counting of the parts, and by the tests in front.
 use mathlib.Core.Path.{◌≡◌, refl, sym, ap, subst, ◌∙◌}
 use Prim.Native.Nat.{ℕ, ◌+◌, ◌<◌, ◌≤◌}
-use mathlib.Core.Bool.{Bool, true, false, not}
+use mathlib.Core.Bool.{not}
 use mathlib.Core.List.{List}
 use native.Mathlib.Omega.{arith}
-use borrow.Author.Tests.{ltb-true, ltb-false, ne_eqb}
+use borrow.Author.Tests.{ltb-false, ne_eqb}
 use lib.Dec.{ltb}
 use lib.ListN.{length, length-append}
 use Rattle.bytes_number.specs.Number.{Bytes}
@@ -17,13 +17,13 @@ use Rattle.frame_message.specs.Message.{Message}
 use Rattle.frame_message.specs.Frame.{joined}
 use Rattle.frame_message.specs.Reading.{parts_in, judged, starts_right, body_length, reading_of}
 use Rattle.frame_parts.specs.declared.PartCounts.{PartCounts}
-use Rattle.frame_parts.specs.declared.Counting.TheVariants.{Refused, Counted}
+use Rattle.frame_parts.specs.declared.Counting.TheVariants.{Refused}
 use Rattle.frame_parts.specs.WorkingCounting.{stop_byte, counted_as, counting_of}
 use Rattle.frame_layout.specs.declared.Layout.{Layout}
 use Rattle.frame_layout.specs.declared.Reading.TheVariants as readings
 use Rattle.frame_layout.specs.WorkingPlacing.{read_as}
 use Rattle.frame_body.specs.WorkingJudging.{parts_found, CountsOf}
-use Rattle.frame_body.proofs.Heading.{counting_refused, counting_done}
+use Rattle.frame_body.proofs.Heading.{counting_refused}
 use Rattle.frame_fault.specs.declared.Fault.{Fault}
 use Rattle.frame_fault.specs.Fault.{body_in, whole_parts, size_byte, fault_bytes, byte_for, fault_number, fault_of}
 use Rattle.frame_fault.specs.WorkingFaults.{Why, BodyWhy}

@@ -1,20 +1,20 @@
 -- Where the parts of a body lie: the data of each, the routing group, the header's bytes.
-use mathlib.Core.Path.{◌≡◌, refl, sym, ap, subst, ◌∙◌}
-use Prim.Native.Nat.{ℕ, zero, suc, ◌+◌, ◌-◌, ◌<◌, ◌≤◌}
-use mathlib.Core.Bool.{Bool, true, false, cond, ◌&&◌}
+use mathlib.Core.Path.{◌≡◌, refl, sym, ap, ◌∙◌}
+use Prim.Native.Nat.{ℕ, zero, suc, ◌+◌, ◌<◌, ◌≤◌}
+use mathlib.Core.Bool.{Bool, true, false, cond}
 use mathlib.Core.List.{List, [], ◌∷◌, ◌++◌, append-nil, append_assoc}
 use native.Mathlib.Omega.{arith}
 use native.Mathlib.Decide.{dec_le}
 use native.Mathlib.Nat.{lt_of_not-le}
 use borrow.Author.Tests.{eqb-true}
 use lib.ListN.{length, get_or, take, drop, length-append, drop_of_length-le, take-append-drop}
-use lib.Seq.{get_or-drop, drop-drop, take_all, take_at, take-append-le, split_at}
+use lib.Seq.{get_or-drop, drop-drop, take_all, take_at, split_at}
 use Rattle.bytes_number.proofs.Truth.{and_right, true_false}
 use Rattle.frame_message.specs.declared.Header.{Header}
 use Rattle.frame_message.specs.Header.{has_route, has_topic, has_payload, parts_fit}
 use Rattle.frame_forms.specs.Count.{one}
 use Rattle.frame_forms.specs.Forms.{is_route}
-use Rattle.frame_message.specs.Frame.{size_bytes, part_bytes, joined, group_if, part_if}
+use Rattle.frame_message.specs.Frame.{size_bytes, joined, group_if, part_if}
 use Rattle.frame_message.specs.Writing.{routes_good}
 use Rattle.frame_message.specs.Reading.{front, final, before_empty, routes_in, topic_place, payload_place, parts_agree}
 use Rattle.frame_message.proofs.Lists.{front-final}
@@ -22,7 +22,7 @@ use Rattle.frame_message.proofs.Parts.{part_short, joined-append}
 use Rattle.frame_message.proofs.Places.{before_all}
 use Rattle.frame_body.specs.WorkingJudging.{group_in}
 use Rattle.frame_body.proofs.Cursors.{At, at_behind}
-use Rattle.frame_fault.specs.Fault.{size_byte, data_start, header_data, header_of_parts, first_malformed, offending_route, topic_index}
+use Rattle.frame_fault.specs.Fault.{data_start, header_data, header_of_parts, first_malformed, offending_route, topic_index}
 use Rattle.frame_fault.specs.WorkingFaults.{size_length, Long}
 use Rattle.frame_fault.proofs.Sizes.{byte_there, size_there}
 use Rattle.frame_fault.proofs.Routes.{no_route}

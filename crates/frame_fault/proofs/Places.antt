@@ -1,6 +1,6 @@
 -- The byte of each number, by what the code computes: one law for each.
-use mathlib.Core.Path.{◌≡◌, refl, sym, ap, subst, ◌∙◌}
-use Prim.Native.Nat.{ℕ, suc, ◌+◌, ◌<◌, ◌≤◌}
+use mathlib.Core.Path.{◌≡◌, refl, sym, ap, ◌∙◌}
+use Prim.Native.Nat.{ℕ, ◌+◌, ◌≤◌}
 use mathlib.Core.Bool.{Bool, true, false, cond}
 use mathlib.Core.List.{List, []}
 use native.Mathlib.Omega.{arith}
@@ -11,17 +11,16 @@ use Rattle.frame_message.specs.declared.Header.{Header}
 use Rattle.frame_message.specs.Header.{has_route, header_in}
 use Rattle.frame_message.specs.Working.{is_header}
 use Rattle.frame_message.specs.Frame.{joined}
-use Rattle.frame_message.specs.Writing.{routes_good}
-use Rattle.frame_message.specs.Reading.{front, final, routes_in, parts_agree}
+use Rattle.frame_message.specs.Reading.{front, final, parts_agree}
 use Rattle.frame_message.proofs.Headers.{header_tested}
 use Rattle.frame_message.proofs.Parts.{split}
 use Rattle.frame_forms.specs.Forms.{is_route}
 use Rattle.frame_forms.proofs.Routes as forms
 use Rattle.frame_parts.specs.declared.PartCounts.{PartCounts}
-use Rattle.frame_body.specs.WorkingJudging.{parts_found, group_in, CountsOf, Headed}
+use Rattle.frame_body.specs.WorkingJudging.{parts_found, CountsOf, Headed}
 use Rattle.frame_body.proofs.Agreeing.{group_long}
 use Rattle.frame_body.proofs.Heading.{last_within, group_within}
-use Rattle.frame_fault.specs.Fault.{data_start, header_data, header_of_parts, first_malformed, offending_route, topic_index, field_byte, fault_bytes, byte_for}
+use Rattle.frame_fault.specs.Fault.{data_start, header_data, header_of_parts, first_malformed, topic_index, field_byte, fault_bytes, byte_for}
 use Rattle.frame_fault.specs.WorkingFaults.{size_length, Long, Why, length_wrong, magic_wrong, version_wrong, type_wrong, flag_wrong, parts_disagree, route_wrong, topic_wrong_lem, field_wrong}
 use Rattle.frame_fault.proofs.Parts.{taken_within, data_start_lem, header_start, header-byte, some_routes, offending, group_taken}
 

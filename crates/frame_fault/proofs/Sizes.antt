@@ -1,14 +1,14 @@
 -- The size in front of a part, by its first byte.
 use mathlib.Core.Path.{◌≡◌, refl, sym, ap, ◌∙◌}
-use Prim.Native.Nat.{ℕ, ◌+◌, ◌<◌, ◌≤◌}
+use Prim.Native.Nat.{ℕ, ◌<◌, ◌≤◌}
 use native.Mathlib.Nat.{add-zero}
 use mathlib.Core.Bool.{Bool, true, false}
-use mathlib.Core.List.{List, ◌∷◌, ◌++◌}
+use mathlib.Core.List.{List, ◌++◌}
 use borrow.Author.Tests.{lt-ltb, le-ltb, ltb-true, ltb-false}
 use lib.Dec.{ltb}
 use lib.ListN.{length, get_or, drop}
 use lib.Seq.{get_or-drop}
-use Rattle.frame_message.specs.Frame.{size_bytes, part_bytes, joined}
+use Rattle.frame_message.specs.Frame.{size_bytes, part_bytes}
 use Rattle.frame_message.proofs.Parts.{part_short, part_long}
 use Rattle.frame_fault.specs.WorkingFaults.{size_length}
 

@@ -1,5 +1,5 @@
 -- The number of a body whose parts were counted: what the tests of the code tell.
-use mathlib.Core.Path.{◌≡◌, refl, sym, ap, ap₂, subst, ◌∙◌}
+use mathlib.Core.Path.{◌≡◌, refl, sym, ap, ◌∙◌}
 use Prim.Native.Nat.{ℕ, ◌+◌, ◌<◌, ◌≤◌}
 use mathlib.Core.Bool.{Bool, true, false, cond, ◌&&◌}
 use mathlib.Core.List.{List, []}
@@ -15,7 +15,6 @@ use Rattle.refusal.specs.Answer.{Answer, refused, answered, and_then}
 use Rattle.frame_message.specs.declared.Header.{Header}
 use Rattle.frame_message.specs.Header.{has_route, parts_fit, header_in}
 use Rattle.frame_message.specs.Message.{Message}
-use Rattle.frame_message.specs.Frame.{joined}
 use Rattle.frame_message.specs.Working.{is_header}
 use Rattle.frame_message.specs.Reading.{parts_in, front, final, parts_agree, judged_as, judged, reading_of}
 use Rattle.frame_message.proofs.Headers.{header_tested, header_answers}
@@ -27,7 +26,7 @@ use Rattle.frame_layout.specs.WorkingPlacing.{read_as}
 use Rattle.frame_body.specs.WorkingJudging.{parts_found, parts_wanted, CountsOf, Headed}
 use Rattle.frame_body.proofs.Agreeing.{empty_low, agree_tested, many_routes}
 use Rattle.frame_body.proofs.Sorting.{judged_parts, judged_routes}
-use Rattle.frame_body.proofs.Readings.{Read, accepted_read}
+use Rattle.frame_body.proofs.Readings.{accepted_read}
 use Rattle.frame_fault.specs.Fault.{header_of_parts, fault_number}
 use Rattle.frame_fault.specs.WorkingFaults.{BodyWhy, Early, BodyOf}
 use Rattle.frame_fault.proofs.Parts.{header-byte}

@@ -1,6 +1,6 @@
 -- The parts in front of the one that 4 or 5 is told of.
 use mathlib.Core.Path.{◌≡◌, refl, sym, ap, subst, ◌∙◌}
-use Prim.Native.Nat.{ℕ, zero, suc, ◌<◌, ◌≤◌}
+use Prim.Native.Nat.{ℕ, zero, suc, ◌<◌}
 use mathlib.Core.Bool.{Bool, true, false, cond, ◌||◌}
 use mathlib.Core.List.{List, [], ◌∷◌, ◌++◌, append_assoc}
 use native.Mathlib.Omega.{arith}
@@ -8,7 +8,7 @@ use lib.Dec.{ltb}
 use lib.ListN.{length, take, drop, length-append}
 use Rattle.bytes_number.specs.Number.{number, Bytes}
 use Rattle.refusal.specs.declared.Refusal.{Refusal}
-use Rattle.refusal.specs.declared.Refusal.TheVariants.{PartWrong, PartsMany}
+use Rattle.refusal.specs.declared.Refusal.TheVariants.{PartWrong}
 use Rattle.refusal.specs.Refusals.{number_of}
 use Rattle.refusal.specs.Answer.{Answer, refused, answered, refuse_if, and_then}
 use Rattle.refusal.proofs.Answers.{Refuses, here, later, refuses, both, refused_same, answered_same, not_answered}

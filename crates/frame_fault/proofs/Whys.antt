@@ -1,7 +1,7 @@
 -- Why the parts of a body are refused: what the reader's number tells of them.
 use mathlib.Core.Path.{◌≡◌, refl, sym, ap, subst, ◌∙◌}
 use Prim.Native.Nat.{ℕ}
-use mathlib.Core.Bool.{Bool, true, false, not, ◌&&◌}
+use mathlib.Core.Bool.{true, not, ◌&&◌}
 use mathlib.Core.List.{List, []}
 use borrow.Author.Tests.{eqb-true, eqb-false, not-true, not-false}
 use lib.Dec.{eqb}
@@ -14,7 +14,6 @@ use Rattle.refusal.specs.Answer.{Answer, refused, answered, refuse_if, and_then}
 use Rattle.refusal.proofs.Answers.{Refuses, here, later, refuses, refused_same, not_answered}
 use Rattle.frame_message.specs.declared.Header.{Header}
 use Rattle.frame_message.specs.Header.{has_topic, is_type, are_flags, fields_good, header_in}
-use Rattle.frame_message.specs.Message.{Message}
 use Rattle.frame_message.specs.Writing.{routes_good}
 use Rattle.frame_message.specs.Reading.{front, final, routes_in, topic_place, parts_agree, is_topic_part, message_in, header_or_why, judged_as, judged}
 use Rattle.frame_message.specs.Working.{is_header}
