@@ -1,33 +1,21 @@
 -- What comes of a step, and a turn of the passes.
-use mathlib.Core.Path.{◌≡◌, refl, sym, ap, ◌∙◌, subst, subst⁻¹}
+use mathlib.Core.Path.{◌≡◌, refl, sym, ap, ◌∙◌, subst⁻¹}
 use Prim.Native.Nat.{ℕ, zero, suc, ◌+◌, ◌-◌, ◌<◌}
-use mathlib.Core.List.{List, [], ◌∷◌}
+use mathlib.Core.List.{List}
 use native.Mathlib.Omega.{arith}
-use types.Run.{OneOf, miss}
-use denote.Enum.Declared.{tag_of}
 use Rattle.refusal.specs.declared.Refusal.TheVariants.{ForwardLong}
 use Rattle.refusal.specs.Answer.{Answer, refused, answered}
 use Rattle.frame_message.specs.Message.{Message}
 use Rattle.step_routing.specs.declared.Broker.{Broker}
 use Rattle.step_routing.specs.Routed.{Tables, Outcome, delivered, forwarded, replied, silenced, home}
 use Rattle.step_routing.specs.declared.Stepped.{Stepped}
-use Rattle.step_routing.specs.contracts.Stepped.{the_type}
 use Rattle.step_routing.specs.declared.Stepped.TheVariants.{Forwarded}
 use Rattle.step_pass.specs.Step.{pass_of, left_by, told_as}
 use Rattle.walk.specs.declared.Walked.{Walked}
 use Rattle.walk.specs.Onward.{Walk, onward, rests_at, after_step}
 use Rattle.walk.specs.WorkingPasses.{Walks, passes_from}
 
--- the numbers of the answers at which a walk rests, as the code tells them apart: all but the third, Forwarded
-abbrev pub resting_tags : List ℕ
-resting_tags = 0 ∷ 1 ∷ 3 ∷ 4 ∷ 5 ∷ []
-
 -- ---- what comes of a step
-
--- a step that rests is none that forwards
-module _ {s : Stepped} (rests : OneOf resting_tags (tag_of the_type s)) where
-  never_on : {next : ℕ} → s ≡ Forwarded next → ⊥
-  never_on e = miss resting_tags 2 tt (subst (λ (x : Stepped). OneOf resting_tags (tag_of the_type x)) e rests)
 
 -- it forwards
 pub record On (answer : Answer Outcome) (next : ℕ) : Type 0 where
@@ -52,11 +40,11 @@ goes_on go_on who links buffer answer {next = next} says is leaves =
 
 -- it does not: the walk rests there
 pub rests_here : (go_on : Broker → ℕ → List ℕ → Walk) (who : Broker) (links : ℕ) (buffer : List ℕ) (answer : Answer Outcome) {s : Stepped} {left : List ℕ} →
-    s ≡ told_as answer → OneOf resting_tags (tag_of the_type s) → left ≡ left_by answer buffer →
+    s ≡ told_as answer → ((next : ℕ) → s ≡ Forwarded next → ⊥) → left ≡ left_by answer buffer →
     Walks (after_step go_on who links buffer answer) (record { step = s; rank = who.rank; links = links }) left
 rests_here go_on who links buffer (refused r) says rests leaves = record { told = λ i. record { step = says i; rank = who.rank; links = links }; leaves = leaves }
 rests_here go_on who links buffer (answered (delivered number)) says rests leaves = record { told = λ i. record { step = says i; rank = who.rank; links = links }; leaves = leaves }
-rests_here go_on who links buffer (answered (forwarded next m)) says rests leaves = absurd (never_on rests says)
+rests_here go_on who links buffer (answered (forwarded next m)) says rests leaves = absurd (rests next says)
 rests_here go_on who links buffer (answered (replied errnum m)) says rests leaves = record { told = λ i. record { step = says i; rank = who.rank; links = links }; leaves = leaves }
 rests_here go_on who links buffer (answered (silenced errnum)) says rests leaves = record { told = λ i. record { step = says i; rank = who.rank; links = links }; leaves = leaves }
 rests_here go_on who links buffer (answered home) says rests leaves = record { told = λ i. record { step = says i; rank = who.rank; links = links }; leaves = leaves }

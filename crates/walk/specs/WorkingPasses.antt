@@ -1,4 +1,4 @@
--- What `go_on_lem` does, on any tables: a walk whose steps do not check their tables, since the first step did. On valid tables it is the walk of
+-- What `go_on` does, on any tables: a walk whose steps do not check their tables, since the first step did. On valid tables it is the walk of
 -- walk/specs/Walk.antt: the law `passes_walk` (walk/proofs/Walking.antt). No promise of a C call speaks of it.
 use Rattle.std.specs.Prelude.{ℕ, zero, suc, List, ◌≡◌}
 use Rattle.refusal.specs.declared.Refusal.TheVariants.{ForwardLong}
