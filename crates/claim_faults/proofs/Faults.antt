@@ -1,20 +1,19 @@
 -- The claim of specs/Faults.antt: the fault is the row's, and the record tells it.
 use mathlib.Core.Path.{◌≡◌, refl, sym, ap, subst, ◌∙◌}
 use Prim.Native.Nat.{ℕ, ◌+◌, ◌<◌, ◌≤◌}
-use mathlib.Core.List.{List, [], ◌∷◌}
+use mathlib.Core.List.{List}
 use native.Mathlib.Omega.{arith}
 use native.Mathlib.Decide.{dec_le}
 use native.Mathlib.Nat.{lt_of_not-le}
 use borrow.Author.Tests.{le-ltb}
 use lib.ListN.{length, drop}
-use Rattle.bytes_number.specs.Number.{Bytes, row_bytes}
-use Rattle.bytes_number.specs.Laid.{laid}
+use Rattle.bytes_number.specs.Number.{Bytes}
 use Rattle.bytes_number.proofs.Numbers.{bytes_take, bytes_drop}
 use Rattle.bytes_number.proofs.Rows.{row_number}
 use Rattle.refusal.specs.declared.Refusal.{Refusal}
 use Rattle.refusal.specs.Refusals.{number_of}
 use Rattle.refusal.specs.Answer.{Answer, refused, answered, and_then}
-use Rattle.refusal.proofs.Answers.{number-range, refused_same, not_answered}
+use Rattle.refusal.proofs.Answers.{number-range, refused_same}
 use Rattle.frame_message.specs.Message.{Message}
 use Rattle.frame_message.specs.Reading.{parts_in, judged, body_length, reading_of}
 use Rattle.frame_message.proofs.Parts.{split}
@@ -28,7 +27,7 @@ use Rattle.frame_fault.proofs.Bodies.{Opened, opened, no_byte}
 use Rattle.call_read_record.specs.Rows.{read_row}
 use Rattle.call_specs.specs.Calls.{returned, read_call, Reads}
 use Rattle.call_specs.specs.FaultCalls.{fault_numbers, TellsFault}
-use Rattle.claim_faults.specs.Faults.{NoPart, FaultAt, size_wrong, too_many, number_told, byte_told, FaultTold, FaultIsTold}
+use Rattle.claim_faults.specs.Faults.{FaultAt, size_wrong, too_many, number_told, byte_told, FaultTold, FaultIsTold}
 use Rattle.claim_faults.proofs.Rows.{part_row}
 use Rattle.claim_faults.proofs.Within.{Inside, place_inside}
 use Rattle.claim_faults.proofs.Only.{only}

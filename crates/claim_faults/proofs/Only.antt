@@ -17,7 +17,7 @@ use Rattle.frame_message.proofs.Lists.{Each, front_snoc}
 use Rattle.frame_message.proofs.Parts.{Sized, first_join, joined_sized}
 use Rattle.frame_parts.proofs.Passing.{joined_snoc, part_has_size}
 use Rattle.frame_fault.specs.Fault.{body_in, size_byte}
-use Rattle.claim_faults.specs.Faults.{data_byte, header_at, NoPart, HeaderIn, RightHeader, FaultAt, size_wrong, too_many, no_part, length_wrong, parts_disagree, route_wrong, route_65, topic_wrong_lem, nodeid_wrong, unused_wrong, magic_wrong, version_wrong, type_wrong, flag_wrong}
+use Rattle.claim_faults.specs.Faults.{data_byte, header_at, NoPart, HeaderIn, RightHeader, FaultAt, size_wrong, too_many, no_part, length_wrong, parts_disagree, route_wrong, route_65, topic_wrong, nodeid_wrong, unused_wrong, magic_wrong, version_wrong, type_wrong, flag_wrong}
 use Rattle.claim_faults.proofs.Frames.{body_long}
 
 -- ---- one part, and what is behind it
@@ -149,7 +149,7 @@ module _ (b : List ℕ) (fits : 8 + body_length b ≤ length b) (low : body_leng
   only (route_wrong ps p h f rs r behind e a l n) (route_65 qs q k g ts t after d c o) = same_route h k rs ts r t behind after e d a c (λ _. n) (λ s. absurd (omega arith))
   only (route_65 ps p h f rs r behind e a l) (route_wrong qs q k g ts t after d c o m) = same_route h k rs ts r t behind after e d a c (λ s. absurd (omega arith)) (λ _. m)
   only (route_65 ps p h f rs r behind e a l) (route_65 qs q k g ts t after d c o) = same_route h k rs ts r t behind after e d a c (λ s. absurd (omega arith)) (λ s. absurd (omega arith))
-  only (topic_wrong_lem ps p h f group t behind g e n) (topic_wrong_lem qs q k j set u after s d m) = same_topic h k group set t u behind after g s e d
+  only (topic_wrong ps p h f group t behind g e n) (topic_wrong qs q k j set u after s d m) = same_topic h k group set t u behind after g s e d
   only (nodeid_wrong ps p h k n) (nodeid_wrong qs q i j m) = ap (λ (rs : List (List ℕ)). header_at rs + 12) (same_header h.head i.head)
   only (nodeid_wrong ps p h k n) (unused_wrong qs q i j m) = absurd (two_types (same_header h.head i.head) k j)
   only (unused_wrong ps p h k n) (nodeid_wrong qs q i j m) = absurd (two_types (same_header i.head h.head) j k)

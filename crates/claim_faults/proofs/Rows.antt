@@ -1,23 +1,21 @@
 -- Each row of the ticket: what the reader's number tells of the parts is what the row says, and the byte is the row's.
 use mathlib.Core.Path.{◌≡◌, refl, sym, ap, subst, ◌∙◌}
-use Prim.Native.Nat.{ℕ, zero, suc, ◌+◌, ◌-◌, ◌<◌, ◌≤◌}
+use Prim.Native.Nat.{ℕ, suc, ◌+◌, ◌<◌, ◌≤◌}
 use mathlib.Core.Bool.{Bool, true, false, cond, not}
 use mathlib.Core.List.{List, [], ◌∷◌, ◌++◌, append_assoc}
 use native.Mathlib.Omega.{arith}
 use native.Mathlib.Decide.{ℕ_discrete, dec_le}
 use native.Mathlib.Nat.{lt_of_not-le}
-use borrow.Author.Tests.{eqb-true, eq-eqb, ne_eqb, not-true, not-false}
+use borrow.Author.Tests.{eqb-true, eq-eqb, ne_eqb, not-false}
 use lib.Dec.{eqb}
 use lib.ListN.{length, get_or, take, drop, length-append, length-drop, get_or-append}
 use lib.Seq.{take-append-le, split_at}
-use Rattle.bytes_number.specs.Number.{number}
 use Rattle.bytes_number.proofs.Truth.{true_false, and_right}
-use Rattle.frame_forms.specs.Forms.{is_route}
 use Rattle.frame_forms.specs.Count.{one}
 use Rattle.frame_message.specs.declared.Header.{Header}
 use Rattle.frame_message.specs.Header.{has_route, has_topic, has_payload, parts_fit, fields_good, header_in}
 use Rattle.frame_message.specs.Working.{is_header}
-use Rattle.frame_message.specs.Frame.{size_bytes, joined, group_if, part_if}
+use Rattle.frame_message.specs.Frame.{joined, group_if, part_if}
 use Rattle.frame_message.specs.Writing.{routes_good}
 use Rattle.frame_message.specs.Reading.{front, final, before_empty, routes_in, topic_place, payload_place, parts_agree, is_topic_part, body_length}
 use Rattle.frame_message.proofs.Fields.{request_fields, event_good, free_fields}
@@ -29,7 +27,7 @@ use Rattle.frame_fault.specs.Fault.{body_in, size_byte, data_start, header_data,
 use Rattle.frame_fault.specs.WorkingFaults as why
 use Rattle.frame_fault.specs.WorkingFaults.{Long, Why}
 use Rattle.frame_fault.proofs.Parts.{two_halves, header_start, some_routes, group_taken}
-use Rattle.claim_faults.specs.Faults.{data_byte, header_at, FaultAt, no_part, length_wrong, parts_disagree, route_wrong, route_65, topic_wrong_lem, nodeid_wrong, unused_wrong, magic_wrong, version_wrong, type_wrong, flag_wrong}
+use Rattle.claim_faults.specs.Faults.{data_byte, header_at, FaultAt, no_part, length_wrong, parts_disagree, route_wrong, route_65, topic_wrong, nodeid_wrong, unused_wrong, magic_wrong, version_wrong, type_wrong, flag_wrong}
 use Rattle.claim_faults.proofs.Frames.{in_frame, number_is, magic_is, version_is, type_is, flags_are, right_header}
 use Rattle.claim_faults.proofs.Malformed.{Malformed, malformed, not_good, before_rest}
 
@@ -157,7 +155,7 @@ module _ (b : List ℕ) (fits : 8 + body_length b ≤ length b) (ps : List (List
     topic_row =
         let flags = flags_are b fits ps whole long_topic in
         told_at topic_byte
-        (topic_wrong_lem fore p (right_header b fits ps whole long_topic is) (ap has_topic flags ∙ titled) (group_in h fore) (get_or fore place []) payload (ap (λ (f : ℕ). group_if (has_route f) (before_empty fore)) (sym flags)) (sym group_front) wrong)
+        (topic_wrong fore p (right_header b fits ps whole long_topic is) (ap has_topic flags ∙ titled) (group_in h fore) (get_or fore place []) payload (ap (λ (f : ℕ). group_if (has_route f) (before_empty fore)) (sym flags)) (sym group_front) wrong)
 
   -- ---- 10
 

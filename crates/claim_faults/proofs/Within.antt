@@ -1,15 +1,15 @@
 -- The byte of a row lies within the frame, of any frame whose body is all there; and of an empty body there is one row alone.
 use mathlib.Core.Path.{◌≡◌, refl, sym, ap, ◌∙◌}
 use Prim.Native.Nat.{ℕ, ◌+◌, ◌<◌, ◌≤◌}
-use mathlib.Core.List.{List, [], ◌∷◌, ◌++◌}
+use mathlib.Core.List.{List, ◌∷◌, ◌++◌}
 use native.Mathlib.Omega.{arith}
 use lib.ListN.{length, length-append}
 use Rattle.frame_message.specs.Frame.{size_bytes, part_bytes, joined}
-use Rattle.frame_message.specs.Reading.{body_length, before_empty}
+use Rattle.frame_message.specs.Reading.{body_length}
 use Rattle.frame_message.proofs.Parts.{joined-append}
 use Rattle.frame_parts.proofs.Passing.{joined_snoc, part_has_size, before_short}
 use Rattle.frame_fault.specs.Fault.{body_in}
-use Rattle.claim_faults.specs.Faults.{data_byte, HeaderIn, FaultAt, size_wrong, too_many, no_part, length_wrong, parts_disagree, route_wrong, route_65, topic_wrong_lem, nodeid_wrong, unused_wrong, magic_wrong, version_wrong, type_wrong, flag_wrong}
+use Rattle.claim_faults.specs.Faults.{data_byte, HeaderIn, FaultAt, size_wrong, too_many, no_part, length_wrong, parts_disagree, route_wrong, route_65, topic_wrong, nodeid_wrong, unused_wrong, magic_wrong, version_wrong, type_wrong, flag_wrong}
 use Rattle.claim_faults.proofs.Frames.{body_long, header_long}
 
 -- a part that is one of several starts its data at their end at the latest
@@ -48,7 +48,7 @@ module _ (b : List ℕ) (fits : 8 + body_length b ≤ length b) where
       inside (omega arith) (omega (arith, header ps p r.head, data_within rs behind q, ap (λ (qs : List (List ℕ)). length (joined qs)) e, before_short ps))
   place_inside (route_65 ps p r f rs q behind e a l) =
       inside (omega arith) (omega (arith, header ps p r.head, data_within rs behind q, ap (λ (qs : List (List ℕ)). length (joined qs)) e, before_short ps))
-  place_inside (topic_wrong_lem ps p r f group t behind g e n) =
+  place_inside (topic_wrong ps p r f group t behind g e n) =
       inside (omega arith) (omega (arith, header ps p r.head, data_within group behind t, ap (λ (qs : List (List ℕ)). length (joined qs)) e))
   place_inside (nodeid_wrong ps p r k n) = inside (omega arith) (omega (arith, header ps p r.head))
   place_inside (unused_wrong ps p r k n) = inside (omega arith) (omega (arith, header ps p r.head))

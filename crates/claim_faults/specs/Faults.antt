@@ -59,7 +59,7 @@ pub data FaultAt (b : List ℕ) : ℕ → ℕ → Type 0 where
   route_65 : (ps : List (List ℕ)) (p : List ℕ) → RightHeader b ps p → has_route (get_or b (header_at ps + 3) 0) ≡ true →
       (rs : List (List ℕ)) (r : List ℕ) (behind : List (List ℕ)) → before_empty ps ≡ rs ++ r ∷ behind → all_routes rs ≡ true → length rs ≡ most_routes → FaultAt b 8 (data_byte rs r)
   -- "9 where the first offending part's data starts": the topic's part, behind the routes and their delimiter
-  topic_wrong_lem : (ps : List (List ℕ)) (p : List ℕ) → RightHeader b ps p → has_topic (get_or b (header_at ps + 3) 0) ≡ true →
+  topic_wrong : (ps : List (List ℕ)) (p : List ℕ) → RightHeader b ps p → has_topic (get_or b (header_at ps + 3) 0) ≡ true →
       (group : List (List ℕ)) (topic : List ℕ) (behind : List (List ℕ)) → group ≡ group_if (has_route (get_or b (header_at ps + 3) 0)) (before_empty ps) → ps ≡ group ++ topic ∷ behind → is_topic_part topic ≡ false → FaultAt b 9 (data_byte group topic)
   -- "10 the field's start": a request's nodeid, or an event's unused field
   nodeid_wrong : (ps : List (List ℕ)) (p : List ℕ) → RightHeader b ps p → get_or b (header_at ps + 2) 0 ≡ request_type → number (drop (header_at ps + 12) b) ≡ no_node → FaultAt b 10 (header_at ps + 12)
