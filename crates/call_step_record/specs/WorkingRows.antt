@@ -1,5 +1,5 @@
 -- What the code that lists a walk promises.
-use Rattle.std.specs.Prelude.{ℕ, ◌+◌, List, [], ◌∷◌, ◌++◌}
+use Rattle.std.specs.Prelude.{ℕ, List, [], ◌∷◌, ◌++◌}
 use Rattle.refusal.specs.Refusals.{number_of}
 use Rattle.step_routing.specs.declared.Stepped.{Stepped}
 use Rattle.step_routing.specs.declared.Stepped.TheVariants.{Refused, Delivered, Forwarded, Replied, Silenced, Home}
