@@ -11,14 +11,14 @@ use Rattle.walk.proofs.walk.Goals as goal
 pub returns-then-buffer-lt-LEAST : goal.returns-then-buffer-lt-LEAST
 returns-then-buffer-lt-LEAST c =
     let t = tables_of c.args.tree.now c.args.services.now c.args.identities.now in
-    walks_as (walk_short t c.args.b c.args.buffer.now (omega (arith, c.if-buffer-lt-LEAST.true))) (record { told = refl; leaves = refl })
+    walks_as (walk_short t c.args.b c.args.buffer.now (omega arith)) (record { told = refl; leaves = refl })
 
 pub returns-in-Forwarded : goal.returns-in-Forwarded
 returns-in-Forwarded c =
     let t = tables_of c.args.tree.now c.args.services.now c.args.identities.now in
     let right = forwards_right t c.args.b c.args.buffer.now c.step-stepped.ensures.told c.in-Forwarded.is in
     walks_as
-    (walk_begins t c.args.b c.args.buffer.now (omega (arith, c.if-buffer-lt-LEAST.false))
+    (walk_begins t c.args.b c.args.buffer.now (omega arith)
     ∙ goes_on (walk_from 64 t) c.args.b 0 c.args.buffer.now (step_of t c.args.b c.args.buffer.now) c.step-stepped.ensures.told c.in-Forwarded.is
     c.step-stepped.ensures.leaves
     ∙ passes_walk t right 64 (onward c.in-Forwarded.next c.args.b) 1 c.step-stepped.new.buffer)
@@ -27,6 +27,6 @@ returns-in-Forwarded c =
 pub returns-in_default : goal.returns-in_default
 returns-in_default c =
     let t = tables_of c.args.tree.now c.args.services.now c.args.identities.now in
-    walks_as (walk_begins t c.args.b c.args.buffer.now (omega (arith, c.if-buffer-lt-LEAST.false)))
+    walks_as (walk_begins t c.args.b c.args.buffer.now (omega arith))
     (rests_here (walk_from 64 t) c.args.b 0 c.args.buffer.now (step_of t c.args.b c.args.buffer.now) c.step-stepped.ensures.told c.in_default.not-Forwarded
     c.step-stepped.ensures.leaves)

@@ -29,14 +29,14 @@ loop-links-preserved c =
     record {
       begun = omega arith;
       most = omega arith;
-      same = sym on ∙ sym (turns t who c.loop-links.links c.loop-links.buffer c.loop-links-test.true) ∙ c.loop-links.invariant.same;
+      same = sym on ∙ sym (turns t who c.loop-links.links c.loop-links.buffer (omega arith)) ∙ c.loop-links.invariant.same;
     }
 
 pub returns-in_default : goal.returns-in_default
 returns-in_default c =
     let t = tables_of c.args.tree.now c.args.services.now c.args.identities.now in
     let who = onward c.loop-links.rank c.args.b in
-    walks_as (sym c.loop-links.invariant.same ∙ turns t who c.loop-links.links c.loop-links.buffer c.loop-links-test.true)
+    walks_as (sym c.loop-links.invariant.same ∙ turns t who c.loop-links.links c.loop-links.buffer (omega arith))
     (rests_here (passes_from (65 - (c.loop-links.links + 1)) t) who c.loop-links.links c.loop-links.buffer (pass_of t who c.loop-links.buffer)
     c.pass-stepped.ensures.told
     c.in_default.not-Forwarded
