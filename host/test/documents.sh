@@ -69,8 +69,11 @@ headed() { # DOCUMENT ANCHOR
     prose "$1" | sed -n 's/^##* //p' | tr '[:upper:] ' '[:lower:]-' | sed 's/[^a-z0-9_-]//g' | grep -qxF -- "$2"
 }
 
-# A name that begins as those of a family do is a crate's, or one that specs/ or src/ has.
-known() { [ -d "crates/$1" ] || grep -rqwF -- "$1" crates/*/specs crates/*/src; } # NAME
+# A name that begins as those of a family do is a crate's, or one that specs/ or src/ declares.
+known() { # NAME
+    [ -d "crates/$1" ] || grep -rqE "\b(fn|const|mod) $1\b" crates/*/src ||
+        grep -rqE "^ *((abbrev|pub|unfoldable|data|record) +)*$1( .*)? :" crates/*/specs
+}
 
 # Each file, crate and link of a document is there.
 named() { # DOCUMENT
