@@ -14,7 +14,7 @@ use Rattle.table_tree.specs.Tree.{ranks_in, parent_of}
 use Rattle.table_tree_hops.specs.Towards.{towards}
 use Rattle.table_services.proofs.Services.{good_services}
 use Rattle.table_services_find.specs.Lookup.{service_of}
-use Rattle.table_services_find.proofs.Lookup.{found_holds, found_only}
+use Rattle.table_services_find.proofs.Lookup.{found_only}
 use Rattle.step_routing.specs.declared.Broker.{Broker}
 use Rattle.step_routing.specs.declared.Way.{Way}
 use Rattle.step_routing.specs.declared.Way.TheVariants.{Deliver, Forward, Fail}
@@ -22,6 +22,7 @@ use Rattle.step_routing.specs.Requests.{any_rank, registered, deliver_or, to_par
 use Rattle.step_routing.specs.Routed.{Tables}
 use Rattle.step_routing.proofs.Outcomes.{way_of, clashing}
 use Rattle.step_routing.proofs.Ways.{parent_none, parent_some, up_skipped, up_tried, rank_outside, rank_reached, rank_ahead, way_any, way_upstream, way_rank}
+use Rattle.claim_steps.proofs.Registering.{registers}
 use Rattle.claim_steps.specs.Rules.{Right, ForAny, ForRank, Upstream, Registers, Unregistered, Tries, GoesUp, GoesTo, NoService, Unreachable}
 
 -- which of the conditions holds
@@ -43,9 +44,7 @@ module _ (t : Tables) (b : Broker) (m : Message) (right : Right t b) where
   found = registered t.services b.rank m.topic
 
   found_registers : (number : ℕ) → found ≡ At number → Registers t b m number
-  found_registers number e =
-      let holds = found_holds t.services b.rank (service_of m.topic) number e in
-      record { within = holds.0; rank = holds.1; name = holds.2 }
+  found_registers = registers t b m
 
   registers_found : (number : ℕ) → Registers t b m number → found ≡ At number
   registers_found number r =

@@ -1,5 +1,6 @@
 -- The rules of specs/Rules.antt, from the laws on ways and outcomes; the step call by the rules.
 pub mod Neighbours
+pub mod Registering
 pub mod Cases
 pub mod ErrorReplies
 pub mod Serving
