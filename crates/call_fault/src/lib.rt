@@ -13,7 +13,7 @@ pub fn read_fault(bytes: &[u8], row: &mut [u8]) -> u32
     ensures { ReadsFault bytes.now row.old result row.new }
 {
     if row.len() < FAULT_RECORD {
-        return refusal::number(Refusal::OutputShort);
+        return u32::from(Refusal::OutputShort);
     }
     let fault = frame_fault::find_fault(bytes);
     bytes_number::put_row(row, &[fault.number as usize, fault.byte]);

@@ -18,10 +18,10 @@ pub fn read(bytes: &[u8], row: &mut [u8]) -> u32
     ensures { Reads bytes.now row.old result row.new }
 {
     if row.len() < READ_RECORD {
-        return refusal::number(Refusal::OutputShort);
+        return u32::from(Refusal::OutputShort);
     }
     match frame_read::read(bytes) {
-        Reading::Refused(r) => refusal::number(r),
+        Reading::Refused(r) => u32::from(r),
         Reading::Accepted(f) => {
             call_read_record::put_frame(row, f);
             0
@@ -46,7 +46,7 @@ pub fn write(
     ensures { Writes (given_message (header_of kind flags userid rolemask first second) routes.now topic.now payload.now) out.old row.old result out.new row.new }
 {
     if row.len() < COUNT_RECORD {
-        return refusal::number(Refusal::OutputShort);
+        return u32::from(Refusal::OutputShort);
     }
     let header = Header {
         kind,
@@ -57,7 +57,7 @@ pub fn write(
         second,
     };
     match frame_write::write(header, routes, topic, payload, out) {
-        Written::Refused(r) => refusal::number(r),
+        Written::Refused(r) => u32::from(r),
         Written::Frame(n) => {
             bytes_number::put_row(row, &[n]);
             0

@@ -22,7 +22,7 @@ pub fn check_json(payload: &[u8], row: &mut [u8]) -> u32
     ensures { ChecksJson payload.now row.old result row.new }
 {
     if row.len() < JSON_RECORD {
-        return refusal::number(Refusal::OutputShort);
+        return u32::from(Refusal::OutputShort);
     }
     match json_check::check_payload(payload) {
         Verdict::Json => {
@@ -35,7 +35,7 @@ pub fn check_json(payload: &[u8], row: &mut [u8]) -> u32
         }
         Verdict::TooDeep(byte) => {
             bytes_number::put_row(row, &[0, told(byte)]);
-            refusal::number(Refusal::JsonDeep)
+            u32::from(Refusal::JsonDeep)
         }
     }
 }

@@ -41,10 +41,10 @@ pub fn read_command(bytes: &[u8], row: &mut [u8]) -> u32
     ensures { ReadsCommand bytes.now row.old result row.new }
 {
     if row.len() < COMMAND_RECORD {
-        return refusal::number(Refusal::OutputShort);
+        return u32::from(Refusal::OutputShort);
     }
     match mdp_read::read_command(bytes) {
-        CommandReading::Refused(r) => refusal::number(r),
+        CommandReading::Refused(r) => u32::from(r),
         CommandReading::Accepted(f) => {
             put_places(row, f);
             0
@@ -65,10 +65,10 @@ pub fn write_command(
     ensures { WritesCommand (given_of sender code name.now address.now body.now) out.old row.old result out.new row.new }
 {
     if row.len() < COUNT_RECORD {
-        return refusal::number(Refusal::OutputShort);
+        return u32::from(Refusal::OutputShort);
     }
     match mdp_write::write_command(sender, code, name, address, body, out) {
-        Written::Refused(r) => refusal::number(r),
+        Written::Refused(r) => u32::from(r),
         Written::Frame(n) => {
             bytes_number::put_row(row, &[n]);
             0

@@ -21,7 +21,7 @@ pub fn walk(
     ensures { Plays (tables_of tree.now services.now identities.now) (host_broker rank) buffer.old row.old result buffer.new row.new }
 {
     if row.len() < WALK_RECORD {
-        return refusal::number(Refusal::OutputShort);
+        return u32::from(Refusal::OutputShort);
     }
     let b = Broker {
         rank,

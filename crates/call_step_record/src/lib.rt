@@ -13,7 +13,7 @@ pub fn refusal_in(s: Stepped) -> u32
     ensures { result ≡ refusal_in s }
 {
     match s {
-        Stepped::Refused(r) => refusal::number(r),
+        Stepped::Refused(r) => u32::from(r),
         Stepped::Delivered(_) => 0,
         Stepped::Forwarded(_) => 0,
         Stepped::Replied(_) => 0,

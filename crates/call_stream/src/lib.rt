@@ -13,11 +13,11 @@ pub fn read_stream(bytes: &[u8], list: &mut [u8], row: &mut [u8]) -> u32
     ensures { ReadsStream bytes.now list.old row.old result list.new row.new }
 {
     if row.len() < STREAM_RECORD {
-        return refusal::number(Refusal::OutputShort);
+        return u32::from(Refusal::OutputShort);
     }
     let stopped = frame_stream::list_frames(bytes, list);
     let refusal = stopped.refusal;
-    let number = refusal::number(refusal) as usize;
+    let number = u32::from(refusal) as usize;
     bytes_number::put_row(row, &[stopped.entries, number, stopped.start]);
     0
 }

@@ -18,10 +18,10 @@ pub fn check_tree(tree: &[u8], depths: &mut [u8], row: &mut [u8]) -> u32
     ensures { ChecksTree tree.now depths.old row.old result depths.new row.new }
 {
     if row.len() < COUNT_RECORD {
-        return refusal::number(Refusal::OutputShort);
+        return u32::from(Refusal::OutputShort);
     }
     match table_tree_check::check_tree(tree, depths) {
-        Checked::Refused(r) => refusal::number(r),
+        Checked::Refused(r) => u32::from(r),
         Checked::Passed(n) => {
             bytes_number::put_row(row, &[n]);
             0
@@ -34,7 +34,7 @@ fn verdict(checked: Checked) -> u32
     ensures { result ≡ returned (told checked) }
 {
     match checked {
-        Checked::Refused(r) => refusal::number(r),
+        Checked::Refused(r) => u32::from(r),
         Checked::Passed(_) => 0,
     }
 }

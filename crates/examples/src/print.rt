@@ -22,7 +22,7 @@ impl fmt::Display for Hex<'_> {
 }
 
 pub(crate) fn refused(rt: &impl Print, r: Refusal) -> io::Result<()> {
-    println!(rt; "refused, {}", refusal::number(r))
+    println!(rt; "refused, {}", u32::from(r))
 }
 
 fn frame(rt: &impl Print, f: Layout) -> io::Result<()> {

@@ -32,7 +32,7 @@ fn fault_in(bytes: &[u8], body: &[u8]) -> Fault
     let alike = leading_alike(body);
     match count_alike(body, alike) {
         Counting::Refused(why, at) => Fault {
-            number: refusal::number(why),
+            number: u32::from(why),
             byte: FRONT + at,
         },
         Counting::Counted(counts) => {
@@ -54,7 +54,7 @@ pub fn find_fault(bytes: &[u8]) -> Fault
     let why = front.why;
     if end == 0 {
         return Fault {
-            number: refusal::number(why),
+            number: u32::from(why),
             byte: 0,
         };
     }

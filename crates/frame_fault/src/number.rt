@@ -42,10 +42,10 @@ fn parts_number(body: &[u8], counts: PartCounts) -> u32
     };
     let routes = routes_counted(flags, counts.empty);
     if !frame_body::parts_agree(h, counts.count, routes) {
-        return refusal::number(Refusal::PartsDisagree);
+        return u32::from(Refusal::PartsDisagree);
     }
     if MOST_ROUTES < routes {
-        return refusal::number(Refusal::RouteWrong);
+        return u32::from(Refusal::RouteWrong);
     }
     0
 }
@@ -57,11 +57,11 @@ fn early_number(body: &[u8], counts: PartCounts) -> u32
 {
     let last = counts.last;
     if body.len() - last != HEADER_PART {
-        return refusal::number(Refusal::HeaderWrong);
+        return u32::from(Refusal::HeaderWrong);
     }
     let start = last + 1;
     match test_header(&body[start..]) {
-        Test::Wrong(why) => refusal::number(why),
+        Test::Wrong(why) => u32::from(why),
         Test::Right => parts_number(body, counts),
     }
 }
@@ -72,7 +72,7 @@ fn read_number(bytes: &[u8]) -> u32
 {
     match frame_read::read(bytes) {
         Reading::Accepted(_) => 0,
-        Reading::Refused(why) => refusal::number(why),
+        Reading::Refused(why) => u32::from(why),
     }
 }
 

@@ -1,5 +1,5 @@
 -- An answer, or the refusal that stands in its place. Demand 1: "every public call ends with an answer or the refusal that the paper's table names"
-use Rattle.std.specs.Prelude.{ℕ, Bool, true, false, List}
+use Rattle.std.specs.Prelude.{ℕ, Bool, true, false, List, Result, Ok, Err}
 use Rattle.bytes_number.specs.Laid.{laid}
 use Rattle.refusal.specs.declared.Refusal.{Refusal}
 
@@ -21,3 +21,8 @@ and_then (answered a) f = f a
 abbrev pub written_over : Answer (List ℕ) → List ℕ → List ℕ
 written_over (refused r) out = out
 written_over (answered xs) out = laid xs out
+
+-- an answer as the functions return it: what is made of it, or the refusal in its place
+abbrev pub result_of : {A B : Type 0} → (A → B) → Answer A → Result B Refusal
+result_of f (refused r) = Err r
+result_of f (answered a) = Ok (f a)

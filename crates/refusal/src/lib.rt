@@ -4,77 +4,47 @@
 ghost use Rattle.std.specs.Prelude.{◌≡◌};
 ghost use Rattle.refusal.specs.Refusals.{number_of};
 
-// Why a call is refused: a name for each row of "Numbers for a no". The C header has the same names.
-#[derive(Clone, Copy)]
+// Why a call is refused: a name and a number for each row of "Numbers for a no". The C header has the same.
+#[derive(Clone, Copy, Debug, PartialEq, Eq)]
 pub enum Refusal {
-    InputShort,
-    StartWrong,
-    BodyLong,
-    PartWrong,
-    PartsMany,
-    HeaderWrong,
-    PartsDisagree,
-    RouteWrong,
-    TopicWrong,
-    FieldWrong,
-    OutputShort,
-    ForwardLong,
-    TreeWrong,
-    ServicesWrong,
-    IdentitiesWrong,
-    RankWrong,
-    NotRouted,
-    NoNeighbour,
-    MagicWrong,
-    VersionWrong,
-    TypeWrong,
-    FlagWrong,
-    JsonDeep,
-    CommandPartWrong,
-    CommandLong,
-    MarkWrong,
-    CommandWrong,
-    PartCountWrong,
-    NameWrong,
-    AddressWrong,
-    SeparatorWrong,
+    InputShort = 1,
+    StartWrong = 2,
+    BodyLong = 3,
+    PartWrong = 4,
+    PartsMany = 5,
+    HeaderWrong = 6,
+    PartsDisagree = 7,
+    RouteWrong = 8,
+    TopicWrong = 9,
+    FieldWrong = 10,
+    OutputShort = 11,
+    ForwardLong = 12,
+    TreeWrong = 14,
+    ServicesWrong = 15,
+    IdentitiesWrong = 16,
+    RankWrong = 17,
+    NotRouted = 18,
+    NoNeighbour = 19,
+    MagicWrong = 20,
+    VersionWrong = 21,
+    TypeWrong = 22,
+    FlagWrong = 23,
+    JsonDeep = 26,
+    CommandPartWrong = 30,
+    CommandLong = 31,
+    MarkWrong = 32,
+    CommandWrong = 33,
+    PartCountWrong = 34,
+    NameWrong = 35,
+    AddressWrong = 36,
+    SeparatorWrong = 37,
 }
 
-// The paper's number for a refusal.
-pub fn number(r: Refusal) -> u32
-    ensures { result ≡ number_of r }
-{
-    match r {
-        Refusal::InputShort => 1,
-        Refusal::StartWrong => 2,
-        Refusal::BodyLong => 3,
-        Refusal::PartWrong => 4,
-        Refusal::PartsMany => 5,
-        Refusal::HeaderWrong => 6,
-        Refusal::PartsDisagree => 7,
-        Refusal::RouteWrong => 8,
-        Refusal::TopicWrong => 9,
-        Refusal::FieldWrong => 10,
-        Refusal::OutputShort => 11,
-        Refusal::ForwardLong => 12,
-        Refusal::TreeWrong => 14,
-        Refusal::ServicesWrong => 15,
-        Refusal::IdentitiesWrong => 16,
-        Refusal::RankWrong => 17,
-        Refusal::NotRouted => 18,
-        Refusal::NoNeighbour => 19,
-        Refusal::MagicWrong => 20,
-        Refusal::VersionWrong => 21,
-        Refusal::TypeWrong => 22,
-        Refusal::FlagWrong => 23,
-        Refusal::JsonDeep => 26,
-        Refusal::CommandPartWrong => 30,
-        Refusal::CommandLong => 31,
-        Refusal::MarkWrong => 32,
-        Refusal::CommandWrong => 33,
-        Refusal::PartCountWrong => 34,
-        Refusal::NameWrong => 35,
-        Refusal::AddressWrong => 36,
-        Refusal::SeparatorWrong => 37,
+// The number that the caller gets.
+impl From<Refusal> for u32 {
+    ghost from_gives = { λ r n. n ≡ number_of r };
+
+    fn from(r: Refusal) -> u32 {
+        r as u32
     }
 }
