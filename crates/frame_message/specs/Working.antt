@@ -1,10 +1,9 @@
 -- What the laws of the round trip ask of a header, and what the code of the writer promises.
-use Rattle.std.specs.Prelude.{◌<◌, ℕ, Bool, ◌&&◌, List, eqb, length, get_or}
+use Rattle.std.specs.Prelude.{◌<◌, ℕ, Bool, ◌&&◌, List, Result, eqb, length, get_or}
 use Rattle.frame_message.specs.declared.Header.{Header}
 use Rattle.frame_message.specs.Header.{is_type, are_flags, header_length, magic, version, header_in}
-use Rattle.frame_message.specs.declared.Written.{Written}
-use Rattle.frame_message.specs.declared.Written.TheVariants.{Refused, Frame}
-use Rattle.refusal.specs.Answer.{Answer, refused, answered}
+use Rattle.refusal.specs.declared.Refusal.{Refusal}
+use Rattle.refusal.specs.Answer.{Answer, result_of}
 
 -- the type is one of the four, and flag 80 is clear: the writer has neither 22 nor 23 to tell
 unfoldable pub is_known : Header → Bool
@@ -22,6 +21,5 @@ pub record FieldsFit (h : Header) : Type 0 where
   pub second : h.second < 4294967296
 
 -- the result of a write: the refusal, or the frame's length
-abbrev pub written_as : Answer (List ℕ) → Written
-written_as (refused r) = Refused r
-written_as (answered frame) = Frame (length frame)
+abbrev pub written_as : Answer (List ℕ) → Result ℕ Refusal
+written_as = result_of length

@@ -1,8 +1,6 @@
 // A Flux message: the fields of its header, and the numbers of "A frame" that more than one crate uses.
 #![tactic(auto)]
 
-use refusal::Refusal;
-
 // FF EE 00 12 as one number, and how many bytes stand in front of a body: these four, and the body's length.
 pub const START: u32 = 4293787666;
 
@@ -51,9 +49,9 @@ pub struct Header {
     pub second: u32,
 }
 
-// The result of a write: why nothing is written, or how long the frame is.
-#[derive(Drop)]
-pub enum Written {
-    Refused(Refusal),
-    Frame(usize),
+// Where bytes lie: the place of the first one, and how many there are.
+#[derive(Clone, Copy)]
+pub struct Stretch {
+    pub start: usize,
+    pub len: usize,
 }
