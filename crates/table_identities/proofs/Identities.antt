@@ -2,13 +2,13 @@
 use mathlib.Core.Path.{◌≡◌, refl}
 use mathlib.Core.Bool.{true, false, ◌&&◌}
 use mathlib.Core.List.{List}
+use Rattle.std.specs.Prelude.{Some, None}
 use Prim.Native.Nat.{ℕ, ◌*◌, ◌/◌, ◌<◌}
 use native.Mathlib.Omega.{arith}
 use borrow.Author.Tests.{eqb-true}
 use lib.Dec.{eqb, leb}
 use lib.ListN.{length}
 use Rattle.frame_forms.specs.Forms.{is_route}
-use Rattle.table_records.specs.declared.Found.TheVariants.{At, Nothing}
 use Rattle.table_records.specs.Below.{all_below, none_twice}
 use Rattle.table_records.specs.Bytes.{same_bytes}
 use Rattle.table_records.specs.Search.{first_from}
@@ -65,20 +65,20 @@ module _ (tree identities : List ℕ) (g : GoodIdentities tree identities) where
   as_many = omega (arith, g.whole)
 
   -- the rank that is found has the identity
-  pub found_holds : (route : List ℕ) (rank : ℕ) → broker_of identities route ≡ At rank → (rank < ranks_in tree) × (same_identity (identity_at identities rank) route ≡ true)
+  pub found_holds : (route : List ℕ) (rank : ℕ) → broker_of identities route ≡ Some rank → (rank < ranks_in tree) × (same_identity (identity_at identities rank) route ≡ true)
   unfolding broker_of
   found_holds route rank e =
       let found = first_passes (λ rank. same_identity (identity_at identities rank) route) (length identities / 37) 0 rank e in
       (omega (arith, found.0, as_many), found.1)
 
   -- where none is found, the route is no broker's identity
-  pub none-holds : (route : List ℕ) → broker_of identities route ≡ Nothing → (rank : ℕ) → rank < ranks_in tree → same_identity (identity_at identities rank) route ≡ false
+  pub none-holds : (route : List ℕ) → broker_of identities route ≡ None → (rank : ℕ) → rank < ranks_in tree → same_identity (identity_at identities rank) route ≡ false
   unfolding broker_of
   none-holds route e rank h =
       none_passes (λ rank. same_identity (identity_at identities rank) route) (length identities / 37) 0 e rank (omega arith) (omega (arith, as_many))
 
   -- the one broker with the identity is found
-  pub found_only : (route : List ℕ) (rank : ℕ) → rank < ranks_in tree → same_identity (identity_at identities rank) route ≡ true → broker_of identities route ≡ At rank
+  pub found_only : (route : List ℕ) (rank : ℕ) → rank < ranks_in tree → same_identity (identity_at identities rank) route ≡ true → broker_of identities route ≡ Some rank
   unfolding broker_of
   found_only route rank h same =
       first_only (λ other. same_identity (identity_at identities other) route) (length identities / 37) rank (omega (arith, as_many)) same
@@ -88,5 +88,5 @@ module _ (tree identities : List ℕ) (g : GoodIdentities tree identities) where
       (same_through (identity_at identities rank) (identity_at identities k) route same t))
 
   -- a broker is found by its own identity
-  pub found_own : (rank : ℕ) → rank < ranks_in tree → broker_of identities (identity_at identities rank) ≡ At rank
+  pub found_own : (rank : ℕ) → rank < ranks_in tree → broker_of identities (identity_at identities rank) ≡ Some rank
   found_own rank h = found_only (identity_at identities rank) rank h (same_self (identity_at identities rank))

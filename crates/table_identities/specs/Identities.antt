@@ -1,9 +1,8 @@
 -- The table of identities. "Identities: one 37-byte route a rank, no two equal."
-use Rattle.std.specs.Prelude.{ℕ, ◌*◌, ◌/◌, Bool, ◌&&◌, not, List, eqb, leb, length}
+use Rattle.std.specs.Prelude.{ℕ, Option, ◌*◌, ◌/◌, Bool, ◌&&◌, not, List, eqb, leb, length}
 use Rattle.refusal.specs.declared.Refusal.TheVariants.{TreeWrong, IdentitiesWrong}
 use Rattle.refusal.specs.Answer.{Answer, answered, refuse_if}
 use Rattle.frame_forms.specs.Forms.{route_length, is_route}
-use Rattle.table_records.specs.declared.Found.{Found}
 use Rattle.table_records.specs.Below.{all_below, none_twice}
 use Rattle.table_records.specs.Bytes.{same_bytes}
 use Rattle.table_records.specs.Records.{most_records, record_at}
@@ -32,5 +31,5 @@ unfoldable pub identities_check : List ℕ → List ℕ → Answer ℕ
 identities_check tree identities = refuse_if (not (tree_good tree)) TreeWrong (refuse_if (not (identities_good tree identities)) IdentitiesWrong (answered (ranks_in tree)))
 
 -- the rank whose identity a route is, or none: "the top route is no broker's identity"
-unfoldable pub broker_of : List ℕ → List ℕ → Found
+unfoldable pub broker_of : List ℕ → List ℕ → Option ℕ
 broker_of identities route = first_of (λ rank. same_identity (identity_at identities rank) route) (length identities / route_length)

@@ -1,4 +1,4 @@
-// What the tables share: one record, what a look-up finds, and bytes compared.
+// What the tables share: one record, and bytes compared.
 #![tactic(auto)]
 
 ghost use Rattle.std.specs.Prelude.{◌≡◌};
@@ -8,13 +8,6 @@ ghost use Rattle.table_records.specs.Working.{equal_in_fours};
 
 // The most records that a table has: ranks, services or identities.
 pub const MOST_RECORDS: usize = 1024;
-
-// What a look-up finds: the number of a record, counted from 0.
-#[derive(Drop)]
-pub enum Found {
-    At(usize),
-    Nothing,
-}
 
 // The record with the number i, counted from 0, or what the table has of it. In a loop that ends at `table.len() / width` the compiler drops the tests.
 pub fn record_at(table: &[u8], width: usize, i: usize) -> &[u8]

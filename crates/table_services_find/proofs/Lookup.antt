@@ -2,6 +2,7 @@
 use mathlib.Core.Path.{◌≡◌, refl, sym, ◌∙◌}
 use mathlib.Core.Bool.{true, false, ◌&&◌}
 use mathlib.Core.List.{List, []}
+use Rattle.std.specs.Prelude.{Some, None}
 use Prim.Native.Nat.{ℕ, ◌-◌, ◌/◌, ◌<◌, ◌≤◌}
 use native.Mathlib.Nat.{sub-zero}
 use native.Mathlib.Omega.{arith}
@@ -10,7 +11,6 @@ use lib.Dec.{eqb, leb}
 use lib.ListN.{length, take, drop, length-take, length-drop}
 use Rattle.table_records.specs.Bytes.{same_bytes}
 use Rattle.table_records.specs.Search.{first_from}
-use Rattle.table_records.specs.declared.Found.TheVariants.{At, Nothing}
 use mathlib.Core.Logic.{⊎_elim}
 use Rattle.bytes_number.proofs.Truth.{outcome, and_left as left, and_right as right, and_both as both, and_right_fails as right-fails}
 use Rattle.table_records.proofs.Below.{once}
@@ -114,7 +114,7 @@ registers_own ranks row e f =
 
 module _ (services : List ℕ) (rank : ℕ) (service : List ℕ) where
   -- the record that is found has the rank and the name
-  pub found_holds : (i : ℕ) → registered_as services rank service ≡ At i → (i < services_in services) × (rank_in (service_at services i) ≡ rank) × (name_in (service_at services i) ≡ service)
+  pub found_holds : (i : ℕ) → registered_as services rank service ≡ Some i → (i < services_in services) × (rank_in (service_at services i) ≡ rank) × (name_in (service_at services i) ≡ service)
   unfolding registered_as
   found_holds i e =
       let found = first_passes (λ i. registers (service_at services i) rank service) (services_in services) 0 i e in
@@ -122,12 +122,12 @@ module _ (services : List ℕ) (rank : ℕ) (service : List ℕ) where
       (omega (arith, found.0), holds.0, holds.1)
 
   -- where none is found, no record registers the service there
-  pub none-holds : registered_as services rank service ≡ Nothing → (i : ℕ) → i < services_in services → registers (service_at services i) rank service ≡ false
+  pub none-holds : registered_as services rank service ≡ None → (i : ℕ) → i < services_in services → registers (service_at services i) rank service ≡ false
   unfolding registered_as
   none-holds e i h = none_passes (λ i. registers (service_at services i) rank service) (services_in services) 0 e i (omega arith) (omega arith)
 
   -- in a table that is right the record with the rank and the name is found: there is no other
-  pub found_only : (tree : List ℕ) → GoodServices tree services → (i : ℕ) → i < services_in services → rank_in (service_at services i) ≡ rank → name_in (service_at services i) ≡ service → registered_as services rank service ≡ At i
+  pub found_only : (tree : List ℕ) → GoodServices tree services → (i : ℕ) → i < services_in services → rank_in (service_at services i) ≡ rank → name_in (service_at services i) ≡ service → registered_as services rank service ≡ Some i
   unfolding registered_as
   found_only tree g i h r n =
       first_only (λ i. registers (service_at services i) rank service) (services_in services) i h

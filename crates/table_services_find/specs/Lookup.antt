@@ -1,6 +1,5 @@
 -- The service that a topic names, and the record that registers it.
-use Rattle.std.specs.Prelude.{ℕ, Bool, cond, ◌&&◌, List, [], ◌∷◌, eqb, leb, length}
-use Rattle.table_records.specs.declared.Found.{Found}
+use Rattle.std.specs.Prelude.{ℕ, Option, Bool, cond, ◌&&◌, List, [], ◌∷◌, eqb, leb, length}
 use Rattle.table_records.specs.Bytes.{same_bytes}
 use Rattle.table_records.specs.Search.{first_of}
 use Rattle.table_services.specs.Services.{services_in, service_at, rank_in, name_length, name_in}
@@ -17,5 +16,5 @@ registers row rank service =
     leb 1 (length service) && (eqb (rank_in row) rank && (eqb (name_length row) (length service) && same_bytes (name_in row) service))
 
 -- the number of the record that registers the service at the rank, counted from 0, or none
-unfoldable pub registered_as : List ℕ → ℕ → List ℕ → Found
+unfoldable pub registered_as : List ℕ → ℕ → List ℕ → Option ℕ
 registered_as services rank service = first_of (λ i. registers (service_at services i) rank service) (services_in services)
