@@ -5,7 +5,6 @@ ghost use Rattle.std.specs.Prelude.{◌≡◌};
 ghost use Rattle.table_identities.specs.Identities.{identity_at, same_identity, broker_of};
 
 use frame_forms::ROUTE;
-use table_records::Found;
 
 // The identity of any rank, or what the table has of it.
 pub fn identity_of(identities: &[u8], rank: u32) -> &[u8]
@@ -22,16 +21,16 @@ pub fn is_same(a: &[u8], b: &[u8]) -> bool
 }
 
 // The rank whose identity a route is, if there is one.
-pub fn find_broker(identities: &[u8], route: &[u8]) -> Found
+pub fn find_broker(identities: &[u8], route: &[u8]) -> Option<usize>
     ensures { result ≡ broker_of identities.now route.now }
 {
     let n = identities.len() / ROUTE;
     let mut broker = 0;
     while broker < n {
         if is_same(table_records::record_at(identities, ROUTE, broker), route) {
-            return Found::At(broker);
+            return Some(broker);
         }
         broker += 1;
     }
-    Found::Nothing
+    None
 }

@@ -6,7 +6,6 @@ ghost use Rattle.table_services.specs.Services.{service_width, longest_name};
 ghost use Rattle.table_services_find.specs.Lookup.{service_of, registers, registered_as};
 ghost use Rattle.table_services_find.specs.Working.{whole_or_none};
 
-use table_records::Found;
 use table_services::{LONGEST, NAME, WIDTH};
 
 // The service that a topic names: all before the first period, or all of it.
@@ -52,7 +51,7 @@ fn is_registered(row: &[u8], rank: u32, service: &[u8]) -> bool
 }
 
 // The record that registers a service at a rank, if there is one.
-pub fn find_service(services: &[u8], rank: u32, service: &[u8]) -> Found
+pub fn find_service(services: &[u8], rank: u32, service: &[u8]) -> Option<usize>
     ensures { result ≡ registered_as services.now rank service.now }
 {
     let name = whole_or_none(service);
@@ -60,9 +59,9 @@ pub fn find_service(services: &[u8], rank: u32, service: &[u8]) -> Found
     let mut i = 0;
     while i < n {
         if is_registered(table_records::record_at(services, WIDTH, i), rank, name) {
-            return Found::At(i);
+            return Some(i);
         }
         i += 1;
     }
-    Found::Nothing
+    None
 }
