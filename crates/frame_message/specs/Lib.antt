@@ -6,3 +6,4 @@ pub mod Writing
 pub mod Reading
 -- What begins with Working serves the proofs alone: nothing there has to be believed.
 pub mod Working
+pub mod WorkingKind

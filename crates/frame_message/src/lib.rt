@@ -1,6 +1,11 @@
 // A Flux message: the fields of its header, and the numbers of "A frame" that more than one crate uses.
 #![tactic(auto)]
 
+ghost use Rattle.std.specs.Prelude.{◌≡◌};
+ghost use Rattle.frame_message.specs.WorkingKind.{type_number, Decodes};
+
+use refusal::Refusal;
+
 // FF EE 00 12 as one number, and how many bytes stand in front of a body: these four, and the body's length.
 pub const START: u32 = 4293787666;
 
@@ -38,7 +43,42 @@ pub const EVENT: u8 = 4;
 
 pub const CONTROL: u8 = 8;
 
-// The header's fields. `kind` is the paper's type.
+// A message's type: a name and its number.
+#[derive(Clone, Copy, Debug, PartialEq, Eq)]
+pub enum Kind {
+    Request = 1,
+    Response = 2,
+    Event = 4,
+    Control = 8,
+}
+
+// The type that a byte is; 22 where it is none.
+impl TryFrom<u8> for Kind {
+    type Error = Refusal;
+
+    ghost try_from_gives = { Decodes };
+
+    fn try_from(kind: u8) -> Result<Kind, Refusal> {
+        match kind {
+            1 => Ok(Kind::Request),
+            2 => Ok(Kind::Response),
+            4 => Ok(Kind::Event),
+            8 => Ok(Kind::Control),
+            _ => Err(Refusal::TypeWrong),
+        }
+    }
+}
+
+// The byte that a type is.
+impl From<Kind> for u8 {
+    ghost from_gives = { λ kind n. n ≡ type_number kind };
+
+    fn from(kind: Kind) -> u8 {
+        kind as u8
+    }
+}
+
+// The header's fields. `kind` is the paper's type: any byte, as a caller may ask for a header of any.
 #[derive(Clone, Copy)]
 pub struct Header {
     pub kind: u8,
