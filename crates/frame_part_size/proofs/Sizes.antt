@@ -12,7 +12,8 @@ use Rattle.refusal.specs.declared.Refusal.TheVariants.{PartWrong}
 use Rattle.refusal.specs.Answer.{refused, answered}
 use Rattle.frame_message.specs.Frame.{size_bytes}
 use Rattle.frame_message.specs.Reading.{first_part}
-use Rattle.frame_part_size.specs.declared.Size.TheVariants.{Wrong, Data}
+use Rattle.std.specs.Prelude.{Some, None}
+use Rattle.frame_message.specs.declared.Stretch.{Stretch}
 use Rattle.frame_part_size.specs.WorkingSizes.{sized_as, size_at}
 
 -- ---- the part itself
@@ -50,38 +51,38 @@ sized_short n h = rw (lt-ltb n 255 h)
 sized_long : (n : ℕ) → 255 ≤ n → length (size_bytes n) ≡ 5
 sized_long n h = rw (le-ltb n 255 h)
 
-pub size_none : (s : List ℕ) → length s ≡ 0 → Wrong ≡ size_at s
+pub size_none : (s : List ℕ) → length s ≡ 0 → None ≡ size_at s
 size_none [] h = refl
 size_none (x ∷ xs) h = absurd (omega arith)
 
 -- the size byte is below 255
-pub size_short_passes : (s : List ℕ) → 0 < length s → get_or s 0 0 < 255 → length s - 1 < get_or s 0 0 → Wrong ≡ size_at s
+pub size_short_passes : (s : List ℕ) → 0 < length s → get_or s 0 0 < 255 → length s - 1 < get_or s 0 0 → None ≡ size_at s
 size_short_passes [] p h k = absurd (omega arith)
 size_short_passes (x ∷ xs) p h k = rw (short_passes x xs h (omega arith))
 
-pub size_short : (s : List ℕ) → 0 < length s → get_or s 0 0 < 255 → get_or s 0 0 ≤ length s - 1 → Data 1 (get_or s 0 0) ≡ size_at s
+pub size_short : (s : List ℕ) → 0 < length s → get_or s 0 0 < 255 → get_or s 0 0 ≤ length s - 1 → Some (record { start = 1; len = get_or s 0 0 }) ≡ size_at s
 size_short [] p h k = absurd (omega arith)
 size_short (x ∷ xs) p h k =
     let fits : x ≤ length xs = omega arith in
     rw (short_cut x xs h fits, length-take-le x xs fits, sized_short x h)
 
 -- it is 255, and the size has four bytes more: n is the number in them
-pub size_cut : (s : List ℕ) → 0 < length s → 255 ≤ get_or s 0 0 → length s - 1 < 4 → Wrong ≡ size_at s
+pub size_cut : (s : List ℕ) → 0 < length s → 255 ≤ get_or s 0 0 → length s - 1 < 4 → None ≡ size_at s
 size_cut [] p h k = absurd (omega arith)
 size_cut (x ∷ xs) p h k = rw (no_size x xs h (omega arith))
 
-pub size_small : (s : List ℕ) (n : ℕ) → 255 ≤ get_or s 0 0 → 4 ≤ length s - 1 → n ≡ number (drop 1 s) → n < 255 → Wrong ≡ size_at s
+pub size_small : (s : List ℕ) (n : ℕ) → 255 ≤ get_or s 0 0 → 4 ≤ length s - 1 → n ≡ number (drop 1 s) → n < 255 → None ≡ size_at s
 size_small [] n h k e l = absurd (omega arith)
 size_small (x ∷ xs) n h k e l = rw (small_size x xs h (omega arith) (rw e at l))
 
-pub size_long_passes : (s : List ℕ) (n : ℕ) → 255 ≤ get_or s 0 0 → 4 ≤ length s - 1 → n ≡ number (drop 1 s) → 255 ≤ n → length s - 1 - 4 < n → Wrong ≡ size_at s
+pub size_long_passes : (s : List ℕ) (n : ℕ) → 255 ≤ get_or s 0 0 → 4 ≤ length s - 1 → n ≡ number (drop 1 s) → 255 ≤ n → length s - 1 - 4 < n → None ≡ size_at s
 size_long_passes [] n h k e l m = absurd (omega arith)
 size_long_passes (x ∷ xs) n h k e l m = rw (long_passes x xs h (omega arith) (rw e at l) (simp length-drop (rw e at (left m))))
   where
     left : suc (length xs) - 1 - 4 < n → length xs - 4 < n
     left m = omega arith
 
-pub size_long : (s : List ℕ) (n : ℕ) → 255 ≤ get_or s 0 0 → 4 ≤ length s - 1 → n ≡ number (drop 1 s) → 255 ≤ n → n ≤ length s - 1 - 4 → Data 5 n ≡ size_at s
+pub size_long : (s : List ℕ) (n : ℕ) → 255 ≤ get_or s 0 0 → 4 ≤ length s - 1 → n ≡ number (drop 1 s) → 255 ≤ n → n ≤ length s - 1 - 4 → Some (record { start = 5; len = n }) ≡ size_at s
 size_long [] n h k e l m = absurd (omega arith)
 size_long (x ∷ xs) n h k e l m =
     let four : 4 ≤ length xs = omega arith in
@@ -118,15 +119,15 @@ first_case x xs = short (dec_lt x 255)
     short (yes h) = short_fits h (dec_lt (length xs) x)
     short (no h) = long (omega arith) (dec_lt (length xs) 4)
 
-wrong_data : {a b : ℕ} → Wrong ≡ Data a b → ⊥
-wrong_data e = let z : ◌≡◌ {A = ℕ} 0 1 = cc in omega arith
+no_data : {size : Stretch} → None ≡ Some size → ⊥
+no_data e = let z : ◌≡◌ {A = ℕ} 0 1 = cc in omega arith
 
-pub part_wrong : (x : ℕ) (xs : List ℕ) → Wrong ≡ sized_as (first_part x xs) → first_part x xs ≡ refused PartWrong
+pub part_wrong : (x : ℕ) (xs : List ℕ) → None ≡ sized_as (first_part x xs) → first_part x xs ≡ refused PartWrong
 part_wrong x xs e = go (first_case x xs)
   where
     go : FirstCase x xs → first_part x xs ≡ refused PartWrong
     go (passes f) = f
-    go (cuts cut f) = absurd (wrong_data (e ∙ ap sized_as f))
+    go (cuts cut f) = absurd (no_data (e ∙ ap sized_as f))
 
 -- the part that was cut, by the size found
 pub record CutBy (x : ℕ) (xs : List ℕ) (start len : ℕ) : Type 0 where
@@ -135,11 +136,11 @@ pub record CutBy (x : ℕ) (xs : List ℕ) (start len : ℕ) : Type 0 where
   pub starts : start ≡ length (size_bytes (length cut.0))
   pub long : len ≡ length cut.0
 
-pub part_cut : (x : ℕ) (xs : List ℕ) (start len : ℕ) → Data start len ≡ sized_as (first_part x xs) → CutBy x xs start len
-part_cut x xs start len e = go (first_case x xs)
+pub part_cut : (x : ℕ) (xs : List ℕ) (size : Stretch) → Some size ≡ sized_as (first_part x xs) → CutBy x xs size.start size.len
+part_cut x xs size e = go (first_case x xs)
   where
-    go : FirstCase x xs → CutBy x xs start len
-    go (passes f) = absurd (wrong_data (sym (e ∙ ap sized_as f)))
+    go : FirstCase x xs → CutBy x xs size.start size.len
+    go (passes f) = absurd (no_data (sym (e ∙ ap sized_as f)))
     go (cuts cut f) =
-        let same : Data start len ≡ Data (length (size_bytes (length cut.0))) (length cut.0) = e ∙ ap sized_as f in
+        let same : Some size ≡ Some (record { start = length (size_bytes (length cut.0)); len = length cut.0 }) = e ∙ ap sized_as f in
         record { cut = cut; first = f; starts = cc; long = cc }

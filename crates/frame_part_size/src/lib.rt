@@ -4,40 +4,41 @@
 ghost use Rattle.std.specs.Prelude.{◌≡◌};
 ghost use Rattle.frame_part_size.specs.WorkingSizes.{size_at};
 
+use frame_message::Stretch;
+
 // A part of so many bytes or more has a size of five bytes, the first of which is this.
 pub const LONG: usize = 255;
 
-// Where a part's data starts, counted from its size byte, and how many bytes it has; or its size is wrong.
-#[derive(Drop)]
-pub enum Size {
-    Wrong,
-    Data(usize, usize),
-}
-
-// The size of the part that begins s.
-pub fn size_at(s: &[u8]) -> Size
+// Where the data of the part that begins s lies, counted from its size byte; None where its size is wrong.
+pub fn size_at(s: &[u8]) -> Option<Stretch>
     ensures { result ≡ size_at s.now }
 {
     if s.len() == 0 {
-        return Size::Wrong;
+        return None;
     }
-    let short = bytes_number::wide(s[0]) as usize;
+    let short = usize::from(s[0]);
     let behind = s.len() - 1;
     if short < LONG {
         if behind < short {
-            return Size::Wrong;
+            return None;
         }
-        return Size::Data(1, short);
+        return Some(Stretch {
+            start: 1,
+            len: short,
+        });
     }
     if behind < 4 {
-        return Size::Wrong;
+        return None;
     }
     let long = bytes_number::number_at(s, 1) as usize;
     if long < LONG {
-        return Size::Wrong;
+        return None;
     }
     if behind - 4 < long {
-        return Size::Wrong;
+        return None;
     }
-    Size::Data(5, long)
+    Some(Stretch {
+        start: 5,
+        len: long,
+    })
 }

@@ -1,14 +1,13 @@
 -- A part's size, by the case of its first byte and of what is behind it.
-use Rattle.std.proofs.Common.{arith, ap, ◌∙◌}
+use Rattle.std.proofs.Common.{ℕ, Some, arith, ap, ◌∙◌}
 use Rattle.frame_part_size.proofs.Sizes.{size_short_passes, size_short, size_cut, size_small, size_long_passes, size_long}
-use Rattle.frame_part_size.specs.declared.Size.TheVariants.{Data}
 use Rattle.frame_part_size.proofs.size_at.Goals as goal
 
 pub returns-then-behind-short : goal.returns-then-behind-short
 returns-then-behind-short c = size_short_passes c.args.s.now (omega arith) (omega arith) (omega arith)
 
 pub returns-then-short-lt-LONG : goal.returns-then-short-lt-LONG
-returns-then-short-lt-LONG c = ap (Data 1) c.wide-short.ensures ∙ size_short c.args.s.now (omega arith) (omega arith) (omega arith)
+returns-then-short-lt-LONG c = ap (λ (n : ℕ). Some (record { start = 1; len = n })) c.from-short.ensures ∙ size_short c.args.s.now (omega arith) (omega arith) (omega arith)
 
 pub returns-then-behind-lt4 : goal.returns-then-behind-lt4
 returns-then-behind-lt4 c = size_cut c.args.s.now (omega arith) (omega arith) (omega arith)
