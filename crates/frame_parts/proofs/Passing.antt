@@ -15,10 +15,11 @@ use Rattle.frame_message.specs.Frame.{size_bytes, part_bytes, joined}
 use Rattle.frame_message.specs.Reading.{first_part, parts_in, front, before_empty}
 use Rattle.frame_message.proofs.Lists.{front_snoc}
 use Rattle.frame_message.proofs.Parts.{first_split}
-use Rattle.frame_part_size.specs.declared.Size.TheVariants.{Wrong, Data}
+use Rattle.std.specs.Prelude.{Ok, Err, Some, None}
+use Rattle.frame_message.specs.declared.Stretch.{Stretch}
 use Rattle.frame_part_size.specs.WorkingSizes.{size_at}
 use Rattle.frame_part_size.proofs.Sizes.{CutBy, part_wrong, part_cut}
-use Rattle.frame_parts.specs.declared.Counting.TheVariants.{Refused, Counted}
+use Rattle.frame_parts.specs.declared.PartCounts.{PartCounts}
 use Rattle.frame_parts.specs.WorkingCounting.{stop_byte, counting_of}
 
 -- what is left behind a place, as a part of a slice has it
@@ -124,19 +125,19 @@ module _ (x : ℕ) (xs : List ℕ) where
 -- ---- the loop
 
 -- some parts of a body are passed, of at most so many
-pub record Passed (most : ℕ) (body : List ℕ) (at count empty group last : ℕ) : Type 0 where
+pub record Passed (most : ℕ) (body : List ℕ) (at : ℕ) (counts : PartCounts) : Type 0 where
   pub done : List (List ℕ)
-  pub rest : parts_in most body ≡ behind_of done (parts_in (most - count) (drop at body))
-  pub stops : stop_byte most body ≡ at + stop_byte (most - count) (drop at body)
-  pub counted : count ≡ length done
-  pub few : count ≤ most
-  pub emptied : empty ≡ length (before_empty done)
-  pub grouped : group ≡ length (joined (before_empty done))
-  pub lasted : last ≡ length (joined (front done))
+  pub rest : parts_in most body ≡ behind_of done (parts_in (most - counts.count) (drop at body))
+  pub stops : stop_byte most body ≡ at + stop_byte (most - counts.count) (drop at body)
+  pub counted : counts.count ≡ length done
+  pub few : counts.count ≤ most
+  pub emptied : counts.empty ≡ length (before_empty done)
+  pub grouped : counts.group ≡ length (joined (before_empty done))
+  pub lasted : counts.last ≡ length (joined (front done))
   pub here : at ≡ length (joined done)
   pub within : at ≤ length body
 
-pub passed_none : (most : ℕ) (body : List ℕ) → Passed most body 0 0 0 0 0
+pub passed_none : (most : ℕ) (body : List ℕ) → Passed most body 0 (record { count = 0; empty = 0; group = 0; last = 0 })
 passed_none most body =
     let all : most - 0 ≡ most = omega arith in
     record {
@@ -152,15 +153,15 @@ passed_none most body =
       within = omega arith;
     }
 
-module _ {most : ℕ} {body : List ℕ} {at count empty group last : ℕ} (p : Passed most body at count empty group last) where
+module _ {most : ℕ} {body : List ℕ} {at : ℕ} {counts : PartCounts} (p : Passed most body at counts) where
   -- so one part more can be counted
-  pub passed_low : count ≤ at
+  pub passed_low : counts.count ≤ at
   passed_low = omega (arith, joined-many p.done, p.counted, p.here)
 
-  pub passed_all : at ≡ length body → Counted (record { count = count; empty = empty; group = group; last = last }) ≡ counting_of most body
+  pub passed_all : at ≡ length body → Ok counts ≡ counting_of most body
   passed_all e =
       let none : drop at body ≡ [] = drop_of_length-le body {i = at} (omega arith) in
-      let all : parts_in most body ≡ answered p.done = p.rest ∙ rw (none, no_more (most - count), append-nil p.done) in
+      let all : parts_in most body ≡ answered p.done = p.rest ∙ rw (none, no_more (most - counts.count), append-nil p.done) in
       rw (all, p.counted, p.emptied, p.grouped, p.lasted)
 
   module _ (more : at ≡ length body → ⊥) where
@@ -174,41 +175,41 @@ module _ {most : ℕ} {body : List ℕ} {at count empty group last : ℕ} (p : P
     unfolding x xs
     left = drop-cons body at 0 (omega (arith, p.within))
 
-    pub passed_many : count ≡ most → Refused PartsMany at ≡ counting_of most body
+    pub passed_many : counts.count ≡ most → Err (record { why = PartsMany; at = at }) ≡ counting_of most body
     passed_many e =
-        let full : most - count ≡ 0 = omega arith in
+        let full : most - counts.count ≡ 0 = omega arith in
         let stop : stop_byte most body ≡ at = p.stops ∙ rw (full, left, stops_many x xs) (omega arith) in
         rw (stop, p.rest, full, left, one_too_many x xs)
 
     -- there is room for one part more
     abbrev Room : Type 0
-    Room = count ≡ most → ⊥
+    Room = counts.count ≡ most → ⊥
 
-    fewer : Room → most - count ≡ suc (most - (count + 1))
+    fewer : Room → most - counts.count ≡ suc (most - (counts.count + 1))
     fewer room = omega (arith, p.few)
 
-    pub passed_wrong : Room → Wrong ≡ size_at (drop at body) → Refused PartWrong at ≡ counting_of most body
+    pub passed_wrong : Room → None ≡ size_at (drop at body) → Err (record { why = PartWrong; at = at }) ≡ counting_of most body
     passed_wrong room e =
         let wrong = part_wrong x xs (rw left at e) in
-        let stop : stop_byte most body ≡ at = p.stops ∙ rw (fewer room, left, stops_wrong x xs (most - (count + 1)) wrong) (omega arith) in
-        rw (stop, p.rest, fewer room, left, one_wrong x xs (most - (count + 1)) wrong)
+        let stop : stop_byte most body ≡ at = p.stops ∙ rw (fewer room, left, stops_wrong x xs (most - (counts.count + 1)) wrong) (omega arith) in
+        rw (stop, p.rest, fewer room, left, one_wrong x xs (most - (counts.count + 1)) wrong)
 
     -- a part that follows
-    module _ (b : Bytes body) {start len : ℕ} (size : Data start len ≡ size_at (drop at body)) where
-      c : CutBy x xs start len
-      c = part_cut x xs start len (rw left at size)
+    module _ (b : Bytes body) {size : Stretch} (found : Some size ≡ size_at (drop at body)) where
+      c : CutBy x xs size.start size.len
+      c = part_cut x xs size (rw left at found)
 
       part : List ℕ
       part = c.cut.0
 
       abbrev next : ℕ
-      next = at + start + len
+      next = at + size.start + size.len
 
       same : drop at body ≡ part_bytes part ++ c.cut.1
       unfolding part
       same = left ∙ (first_split x xs c.cut (rw left at (bytes_drop at body b)) c.first).same
 
-      long : length (part_bytes part) ≡ start + len
+      long : length (part_bytes part) ≡ size.start + size.len
       unfolding part
       long = omega (arith, c.starts, c.long, length-append (size_bytes (length part)) part)
 
@@ -217,29 +218,29 @@ module _ {most : ℕ} {body : List ℕ} {at count empty group last : ℕ} (p : P
 
       behind : drop next body ≡ c.cut.1
       behind =
-          let there : next ≡ at + (start + len) = omega arith in
-          rw (there, ← drop-drop (start + len) at body, same) (drop_at (part_bytes part) c.cut.1 (start + len) long)
+          let there : next ≡ at + (size.start + size.len) = omega arith in
+          rw (there, ← drop-drop (size.start + size.len) at body, same) (drop_at (part_bytes part) c.cut.1 (size.start + size.len) long)
 
       abbrev passed : List (List ℕ)
       passed = p.done ++ (part ∷ [])
 
-      counts : length passed ≡ count + 1
-      counts = omega (arith, p.counted, length-append p.done (part ∷ []))
+      more_counted : length passed ≡ counts.count + 1
+      more_counted = omega (arith, p.counted, length-append p.done (part ∷ []))
 
       joins : length (joined passed) ≡ next
       joins = omega (arith, p.here, ap length (joined_snoc p.done part), length-append (joined p.done) (part_bytes part), long)
 
-      module _ (room : Room) {e g : ℕ} where
-        passed_part : e ≡ length (before_empty passed) → g ≡ length (joined (before_empty passed)) → Passed most body next (count + 1) e g at
+      module _ (room : Room) {n e g : ℕ} (one : n ≡ counts.count + 1) where
+        passed_part : e ≡ length (before_empty passed) → g ≡ length (joined (before_empty passed)) → Passed most body next (record { count = n; empty = e; group = g; last = at })
         unfolding part
         passed_part emptied grouped =
-            let still = most - (count + 1) in
+            let still = most - (counts.count + 1) in
             record {
               done = passed;
-              rest = p.rest ∙ rw (fewer room, left, one_more x xs still c.cut c.first, behind) (behind_one p.done part (parts_in still c.cut.1));
-              stops = p.stops ∙ rw (fewer room, left, stops_more x xs still c.cut c.first, behind) (omega (arith, long));
-              counted = sym counts;
-              few = omega (arith, p.few);
+              rest = p.rest ∙ rw (one, fewer room, left, one_more x xs still c.cut c.first, behind) (behind_one p.done part (parts_in still c.cut.1));
+              stops = p.stops ∙ rw (one, fewer room, left, stops_more x xs still c.cut c.first, behind) (omega (arith, long));
+              counted = one ∙ sym more_counted;
+              few = omega (arith, p.few, one);
               emptied = emptied;
               grouped = grouped;
               lasted = p.here ∙ ap (λ (ps : List (List ℕ)). length (joined ps)) (sym (front_snoc p.done part));
@@ -248,19 +249,19 @@ module _ {most : ℕ} {body : List ℕ} {at count empty group last : ℕ} (p : P
             }
 
         -- by the tests of the code
-        pub passed_none_empty : empty ≡ count → (len ≡ 0 → ⊥) → e ≡ empty + 1 → g ≡ next → Passed most body next (count + 1) e g at
+        pub passed_none_empty : counts.empty ≡ counts.count → (size.len ≡ 0 → ⊥) → e ≡ counts.empty + 1 → g ≡ next → Passed most body next (record { count = n; empty = e; group = g; last = at })
         unfolding part
-        passed_none_empty same n k l =
-            let all = before-none p.done part (omega (arith, p.counted, p.emptied)) (λ z. n (omega (arith, c.long))) in
-            passed_part (rw all (omega (arith, counts))) (rw all (omega (arith, joins)))
+        passed_none_empty same some k l =
+            let all = before-none p.done part (omega (arith, p.counted, p.emptied)) (λ z. some (omega (arith, c.long))) in
+            passed_part (rw all (omega (arith, more_counted))) (rw all (omega (arith, joins)))
 
-        pub passed_this_empty : len ≡ 0 → e ≡ empty → g ≡ group → Passed most body next (count + 1) e g at
+        pub passed_this_empty : size.len ≡ 0 → e ≡ counts.empty → g ≡ counts.group → Passed most body next (record { count = n; empty = e; group = g; last = at })
         unfolding part
         passed_this_empty z k l =
             let none = before_this p.done part (omega (arith, c.long)) in
             passed_part (rw none (k ∙ p.emptied)) (rw none (l ∙ p.grouped))
 
-        pub passed_earlier_empty : (empty ≡ count → ⊥) → e ≡ empty → g ≡ group → Passed most body next (count + 1) e g at
-        passed_earlier_empty n k l =
-            let none = before_earlier p.done part (λ e. n (omega (arith, p.counted, p.emptied))) in
+        pub passed_earlier_empty : (counts.empty ≡ counts.count → ⊥) → e ≡ counts.empty → g ≡ counts.group → Passed most body next (record { count = n; empty = e; group = g; last = at })
+        passed_earlier_empty other k l =
+            let none = before_earlier p.done part (λ e. other (omega (arith, p.counted, p.emptied))) in
             passed_part (rw none (k ∙ p.emptied)) (rw none (l ∙ p.grouped))

@@ -4,7 +4,7 @@
 ghost use Rattle.std.specs.Prelude.{◌≡◌};
 ghost use Rattle.frame_parts.specs.WorkingCounting.{counting_of};
 
-use frame_part_size::{Size, size_at};
+use frame_part_size::size_at;
 use refusal::Refusal;
 
 // How many parts there are; how many of them stand in front of the first empty one, all where none is empty, and how many bytes these
@@ -17,53 +17,46 @@ pub struct PartCounts {
     pub last: usize,
 }
 
-// Why the counting stopped, and the byte at which the part begins that stopped it; or what was counted.
-#[derive(Drop)]
-pub enum Counting {
-    Refused(Refusal, usize),
-    Counted(PartCounts),
+// Why the counting stopped, and the byte at which the part begins that stopped it.
+#[derive(Clone, Copy)]
+pub struct Stop {
+    pub why: Refusal,
+    pub at: usize,
 }
 
 // The parts of a body, counted as they come. One more than most is refused before its size is read.
-pub fn count_parts(body: &[u8], most: usize) -> Counting
+pub fn count_parts(body: &[u8], most: usize) -> Result<PartCounts, Stop>
     ensures { result ≡ counting_of most body.now }
 {
-    let mut at: usize = 0;
-    let mut count: usize = 0;
-    let mut empty: usize = 0;
-    let mut group: usize = 0;
-    let mut last: usize = 0;
-    loop {
-        if at == body.len() {
-            break Counting::Counted(PartCounts {
-                count,
-                empty,
-                group,
-                last,
+    let mut counts = PartCounts {
+        count: 0,
+        empty: 0,
+        group: 0,
+        last: 0,
+    };
+    let mut at = 0;
+    while at != body.len() {
+        if counts.count == most {
+            return Err(Stop {
+                why: Refusal::PartsMany,
+                at,
             });
         }
-        if count == most {
-            break Counting::Refused(Refusal::PartsMany, at);
+        let Some(size) = size_at(&body[at..]) else {
+            return Err(Stop {
+                why: Refusal::PartWrong,
+                at,
+            });
+        };
+        let next = at + size.start + size.len;
+        // No part was empty so far, and this one is not.
+        if counts.empty == counts.count && size.len != 0 {
+            counts.empty += 1;
+            counts.group = next;
         }
-        let size = size_at(&body[at..]);
-        match size {
-            Size::Wrong => {
-                break Counting::Refused(Refusal::PartWrong, at);
-            }
-            Size::Data(start, len) => {
-                let next = at + start + len;
-                let counted = count + 1;
-                // No part was empty so far, and this one is not.
-                if empty == count {
-                    if len != 0 {
-                        empty = counted;
-                        group = next;
-                    }
-                }
-                count = counted;
-                last = at;
-                at = next;
-            }
-        }
+        counts.count += 1;
+        counts.last = at;
+        at = next;
     }
+    Ok(counts)
 }
