@@ -1,46 +1,38 @@
-// The form of a service name. Bytes are counted rather than searched, so that the compiler can look at several at a time.
+// The form of a service name.
 #![tactic(auto)]
 
-ghost use Rattle.std.specs.Prelude.{◌≡◌, ◌≤◌, length};
-ghost use Rattle.frame_forms.specs.Count.{one};
-ghost use Rattle.frame_forms.specs.Working.{count};
-ghost use Rattle.mdp_command.specs.Command.{is_command_name};
-ghost use Rattle.mdp_name.specs.WorkingNames.{is_other};
+ghost use Rattle.std.specs.Prelude.{◌≡◌};
+ghost use Rattle.mdp_command.specs.Command.{all_printable, is_command_name, is_printable};
 
-// 1 for a byte that no name has.
-fn other(x: u8) -> u8
-    ensures { result ≡ one (is_other x) }
+// Whether a name may have this byte.
+fn is_printable(x: u8) -> bool
+    ensures { result ≡ is_printable x }
 {
-    if x < 32 {
-        1
-    } else {
-        if x <= 126 { 0 } else { 1 }
-    }
+    32 <= x && x <= 126
 }
 
-// How many of so few bytes no name has.
-fn others(s: &[u8]) -> u8
-    requires { length s.now ≤ 255 }
-    ensures { result ≡ count is_other s.now }
+// Whether a name may have all of these. No byte ends the look at the others, so that the compiler can take several at a time.
+#[tactic(auto, using(crate::proofs::Names::one_more))]
+fn all_printable(s: &[u8]) -> bool
+    ensures { result ≡ all_printable s.now }
 {
-    let mut n: u8 = 0;
-    let mut i = 0;
-    while i < s.len() {
-        n += other(s[i]);
-        i += 1;
+    let mut fits = true;
+    for x in s {
+        fits &= is_printable(*x);
     }
-    n
+    fits
 }
 
 // Whether s is a name.
+#[tactic(auto, unfolding(mdp_command::specs::Command::is_command_name))]
 pub fn is_name(s: &[u8]) -> bool
     ensures { result ≡ is_command_name s.now }
 {
-    if s.len() == 0 {
+    if s.is_empty() {
         return false;
     }
     if 255 < s.len() {
         return false;
     }
-    others(s) == 0
+    all_printable(s)
 }
