@@ -11,19 +11,6 @@ ghost use Rattle.frame_header.specs.WorkingHead.{test_as, head_as};
 use frame_message::Header;
 use refusal::Refusal;
 
-// Whether a part is a header, without its fields: whoever tells a fault does not need them.
-#[derive(Drop)]
-pub enum Test {
-    Wrong(Refusal),
-    Right,
-}
-
-#[derive(Drop)]
-pub enum Head {
-    Wrong(Refusal),
-    Fields(Header),
-}
-
 // The fields in the 20 bytes of a header.
 fn fields(p: &[u8]) -> Header
     requires { 20 ≤ length p.now }
@@ -39,37 +26,35 @@ fn fields(p: &[u8]) -> Header
     }
 }
 
-// Whether a header is right, or why it is wrong: 6, 20, 21, 22, then 23.
+// Whether a part is a header, or why it is none: 6, 20, 21, 22, then 23. Whoever tells a fault needs no fields.
 #[tactic(auto, unfolding(frame_message::specs::Reading::header_or_why))]
-pub fn test_header(p: &[u8]) -> Test
+pub fn test_header(p: &[u8]) -> Result<(), Refusal>
     ensures { result ≡ test_as (header_or_why p.now) }
 {
     if p.len() != frame_message::HEADER {
-        return Test::Wrong(Refusal::HeaderWrong);
+        return Err(Refusal::HeaderWrong);
     }
     if p[0] != frame_message::MAGIC {
-        return Test::Wrong(Refusal::MagicWrong);
+        return Err(Refusal::MagicWrong);
     }
     if p[1] != frame_message::VERSION {
-        return Test::Wrong(Refusal::VersionWrong);
+        return Err(Refusal::VersionWrong);
     }
     if !frame_header_rules::is_type(p[2]) {
-        return Test::Wrong(Refusal::TypeWrong);
+        return Err(Refusal::TypeWrong);
     }
     if !frame_header_rules::are_flags(p[3]) {
-        return Test::Wrong(Refusal::FlagWrong);
+        return Err(Refusal::FlagWrong);
     }
-    Test::Right
+    Ok(())
 }
 
 // The fields of a header that is right, or why it is wrong.
-pub fn read_header(p: &[u8]) -> Head
+pub fn read_header(p: &[u8]) -> Result<Header, Refusal>
     ensures { result ≡ head_as (header_or_why p.now) }
 {
-    match test_header(p) {
-        Test::Wrong(why) => Head::Wrong(why),
-        Test::Right => Head::Fields(fields(p)),
-    }
+    test_header(p)?;
+    Ok(fields(p))
 }
 
 // Writes a header's part to the front of out, if there is room for it, and tells how many bytes it has, or 0. The header lies in no slice: its

@@ -4,7 +4,7 @@ use Rattle.frame_message.specs.Header.{has_topic, has_payload}
 use Rattle.frame_message.specs.Message.{Message}
 use Rattle.frame_message.specs.Frame.{size_bytes, joined, routing, topic_part, frame_of}
 use Rattle.frame_message.specs.Writing.{is_empty}
-use Rattle.frame_layout.specs.declared.Stretch.{Stretch}
+use Rattle.frame_message.specs.declared.Stretch.{Stretch}
 use Rattle.frame_layout.specs.declared.Layout.{Layout}
 
 -- a stretch of the caller's bytes

@@ -1,16 +1,15 @@
 -- Where the parts of a message lie, by the pieces of its body: of any numbers. Only for the proofs of the reader: no promise of a call speaks of it,
 -- and that these are the places of the message is proved (frame_body/proofs/Accepting.antt).
-use Rattle.std.specs.Prelude.{ℕ, ◌+◌, ◌-◌, Bool, true, cond, ◌&&◌, eqb, leb}
+use Rattle.std.specs.Prelude.{ℕ, Result, ◌+◌, ◌-◌, Bool, true, cond, ◌&&◌, eqb, leb}
 use Rattle.frame_forms.specs.Count.{one}
 use Rattle.frame_message.specs.declared.Header.{Header}
 use Rattle.frame_message.specs.Header.{has_topic, has_payload}
 use Rattle.frame_message.specs.Frame.{most_body}
 use Rattle.frame_layout.specs.declared.Layout.{Layout}
 use Rattle.frame_layout.specs.declared.Piece.{Piece}
-use Rattle.refusal.specs.Answer.{Answer, refused, answered}
+use Rattle.refusal.specs.declared.Refusal.{Refusal}
+use Rattle.refusal.specs.Answer.{Answer, result_of}
 use Rattle.frame_message.specs.Message.{Message}
-use Rattle.frame_layout.specs.declared.Reading.{Reading}
-use Rattle.frame_layout.specs.declared.Reading.TheVariants.{Refused, Accepted}
 use Rattle.frame_layout.specs.Layout.{layout_of}
 
 -- behind the frame's eight bytes and the first route's size
@@ -33,6 +32,5 @@ placed_in size h routes topic payload =
     }
 
 -- the refusal, or where the message lies
-abbrev pub read_as : Answer Message → Reading
-read_as (refused r) = Refused r
-read_as (answered m) = Accepted (layout_of m)
+abbrev pub read_as : Answer Message → Result Layout Refusal
+read_as = result_of layout_of

@@ -5,18 +5,11 @@ ghost use Rattle.std.specs.Prelude.{◌≡◌, ◌-◌};
 ghost use Rattle.frame_forms.specs.Count.{one};
 ghost use Rattle.frame_layout.specs.WorkingPlacing.{first_route, place_if, placed_in};
 
-use frame_message::{FRONT, Header};
-use refusal::Refusal;
-
-// Where bytes lie, counted from the frame's front. Both are 0 where the part is absent.
-#[derive(Clone, Copy)]
-pub struct Stretch {
-    pub start: usize,
-    pub len: usize,
-}
+use frame_message::{FRONT, Header, Stretch};
 
 // A message in the caller's bytes: how many bytes its frame took, the header's fields, how many routes there are, where the first
-// one's data starts (0 without routes; they lie 38 bytes apart), the topic without its zero byte, and the payload.
+// one's data starts (0 without routes; they lie 38 bytes apart), the topic without its zero byte, and the payload. All places are
+// counted from the frame's front. Both numbers of a stretch are 0 where the part is absent.
 #[derive(Clone, Copy)]
 pub struct Layout {
     pub taken: usize,
@@ -25,13 +18,6 @@ pub struct Layout {
     pub payload: Stretch,
     pub routes: usize,
     pub route: usize,
-}
-
-// What a read gives: why there is no message, or where its parts lie.
-#[derive(Drop)]
-pub enum Reading {
-    Refused(Refusal),
-    Accepted(Layout),
 }
 
 // Where a part's data lies in the body, and where the next part begins.
