@@ -1,18 +1,20 @@
 -- The tree call: one law for each way that it ends.
 use mathlib.Core.Path.{◌≡◌, sym, ap, ◌∙◌}
-use mathlib.Core.Bool.{true, not}
+use mathlib.Core.Bool.{true, false, not}
 use Prim.Native.Nat.{ℕ, ◌<◌, ◌≤◌}
 use mathlib.Core.List.{List, [], ◌∷◌}
 use borrow.Author.Tests.{lt-ltb, le-ltb, ltb-false, not-false}
 use lib.Dec.{ltb}
+use lib.ListN.{length}
+use Rattle.std.specs.Prelude.{Ok, Err}
 use Rattle.refusal.specs.declared.Refusal.{Refusal}
 use Rattle.refusal.specs.declared.Refusal.TheVariants.{OutputShort, TreeWrong}
-use Rattle.refusal.specs.Answer.{Answer, refused, answered}
-use Rattle.refusal.proofs.Answers.{not_answered, answered_same, passed}
+use Rattle.refusal.specs.Answer.{Answer, refused, answered, result_of}
+use Rattle.bytes_number.proofs.Truth.{true_false}
+use Rattle.refusal.proofs.Answers.{passed}
 use Rattle.table_tree.specs.Tree.{ranks_in}
 use Rattle.table_tree.specs.Depths.{tree_good, depths_of}
 use Rattle.table_tree_check.specs.Checking.{depths_into}
-use Rattle.table_tree_check.specs.Working.{how_many}
 use Rattle.call_specs.specs.Calls.{returned, tree_call, wrote}
 use Rattle.call_specs.proofs.Telling.{done}
 
@@ -44,10 +46,12 @@ tree_done tree room rowRoom e =
       lists = d.is ∙ sym fitted.rest;
     }
 
-pub tree_refused : (a : Answer (List ℕ)) (r : Refusal) → refused r ≡ how_many a → a ≡ refused r
+pub tree_refused : (a : Answer (List ℕ)) (r : Refusal) → Err r ≡ result_of length a → a ≡ refused r
 tree_refused (refused q) r e = cc
-tree_refused (answered ds) r e = absurd (not_answered e)
+tree_refused (answered ds) r e = absurd (let z : true ≡ false = cc in true_false z)
 
-pub tree_counted : (a : Answer (List ℕ)) (n : ℕ) → answered n ≡ how_many a → wrote a ≡ answered (n ∷ [])
-tree_counted (refused q) n e = absurd (not_answered (sym e))
-tree_counted (answered ds) n e = ap (λ (k : ℕ). answered (k ∷ [])) (sym (answered_same e))
+pub tree_counted : (a : Answer (List ℕ)) (n : ℕ) → Ok n ≡ result_of length a → wrote a ≡ answered (n ∷ [])
+tree_counted (refused q) n e = absurd (let z : true ≡ false = cc in true_false z)
+tree_counted (answered ds) n e =
+    let same : n ≡ length ds = cc in
+    ap (λ (k : ℕ). answered (k ∷ [])) (sym same)

@@ -1,14 +1,13 @@
 // The calls that check the floor's tables. Each returns 0 or the refusal's number.
 #![tactic(auto)]
 
-ghost use Rattle.std.specs.Prelude.{◌≡◌};
-ghost use Rattle.table_tree_check.specs.Working.{told};
+ghost use Rattle.std.specs.Prelude.{◌≡◌, ℕ};
+ghost use Rattle.refusal.specs.Answer.{Answer, result_of};
 ghost use Rattle.table_services.specs.Services;
 ghost use Rattle.table_identities.specs.Identities;
 ghost use Rattle.call_specs.specs.Calls.{returned, ChecksTree};
 
 use refusal::Refusal;
-use table_tree_check::Checked;
 
 // Bytes of a record: how many depths there are.
 const COUNT_RECORD: usize = 4;
@@ -21,21 +20,21 @@ pub fn check_tree(tree: &[u8], depths: &mut [u8], row: &mut [u8]) -> u32
         return u32::from(Refusal::OutputShort);
     }
     match table_tree_check::check_tree(tree, depths) {
-        Checked::Refused(r) => u32::from(r),
-        Checked::Passed(n) => {
+        Ok(n) => {
             bytes_number::put_row(row, &[n]);
             0
         }
+        Err(r) => u32::from(r),
     }
 }
 
 // What a check that lists nothing returns.
-fn verdict(checked: Checked) -> u32
-    ensures { result ≡ returned (told checked) }
+fn verdict(checked: Result<usize, Refusal>) -> u32
+    ensures { (a : Answer ℕ) → checked ≡ result_of (λ n. n) a → result ≡ returned a }
 {
     match checked {
-        Checked::Refused(r) => u32::from(r),
-        Checked::Passed(_) => 0,
+        Ok(_) => 0,
+        Err(r) => u32::from(r),
     }
 }
 

@@ -3,13 +3,12 @@
 
 ghost use Rattle.std.specs.Prelude.{◌≡◌, ◌/◌, length};
 ghost use Rattle.frame_forms.specs.Forms.{route_length, is_route};
+ghost use Rattle.refusal.specs.Answer.{result_of};
 ghost use Rattle.table_records.specs.Below.{all_below};
-ghost use Rattle.table_tree_check.specs.Working.{told};
 ghost use Rattle.table_identities.specs.Identities.{identity_at, identities_good, identities_check};
 
 use frame_forms::ROUTE;
 use refusal::Refusal;
-use table_tree_check::Checked;
 
 // Whether every record is of a route's form.
 fn are_routes(identities: &[u8]) -> bool
@@ -44,14 +43,14 @@ pub fn are_identities(tree: &[u8], identities: &[u8]) -> bool
 }
 
 // The identity check: 14, then 16, or how many identities there are.
-pub fn check_identities(tree: &[u8], identities: &[u8]) -> Checked
-    ensures { told result ≡ identities_check tree.now identities.now }
+pub fn check_identities(tree: &[u8], identities: &[u8]) -> Result<usize, Refusal>
+    ensures { result ≡ result_of (λ n. n) (identities_check tree.now identities.now) }
 {
     if !table_tree_check::is_tree(tree) {
-        return Checked::Refused(Refusal::TreeWrong);
+        return Err(Refusal::TreeWrong);
     }
     if !are_identities(tree, identities) {
-        return Checked::Refused(Refusal::IdentitiesWrong);
+        return Err(Refusal::IdentitiesWrong);
     }
-    Checked::Passed(table_tree::ranks_in(tree))
+    Ok(table_tree::ranks_in(tree))
 }

@@ -2,12 +2,11 @@
 #![tactic(auto)]
 
 ghost use Rattle.std.specs.Prelude.{◌≡◌};
-ghost use Rattle.table_tree_check.specs.Working.{told};
+ghost use Rattle.refusal.specs.Answer.{result_of};
 ghost use Rattle.table_services.specs.Services.{services_good, services_check};
 
 use refusal::Refusal;
 use table_services::WIDTH;
-use table_tree_check::Checked;
 
 // Whether the bytes are the services of a tree.
 pub fn are_services(tree: &[u8], services: &[u8]) -> bool
@@ -32,14 +31,14 @@ pub fn are_services(tree: &[u8], services: &[u8]) -> bool
 }
 
 // The service check: 14, then 15, or how many records there are.
-pub fn check_services(tree: &[u8], services: &[u8]) -> Checked
-    ensures { told result ≡ services_check tree.now services.now }
+pub fn check_services(tree: &[u8], services: &[u8]) -> Result<usize, Refusal>
+    ensures { result ≡ result_of (λ n. n) (services_check tree.now services.now) }
 {
     if !table_tree_check::is_tree(tree) {
-        return Checked::Refused(Refusal::TreeWrong);
+        return Err(Refusal::TreeWrong);
     }
     if !are_services(tree, services) {
-        return Checked::Refused(Refusal::ServicesWrong);
+        return Err(Refusal::ServicesWrong);
     }
-    Checked::Passed(services.len() / WIDTH)
+    Ok(services.len() / WIDTH)
 }

@@ -74,7 +74,7 @@ module _ (tree : List ℕ) where
   unfolding depth_of
   climb_stop d at rank e inv = omega (arith, rw (e, climbs_top (17 - d)) at inv)
 
-  pub climb_end : (d at rank : ℕ) → d ≡ 17 → d + climbs tree (17 - d) at ≡ climbs tree 17 rank → d ≡ depth_of tree rank
+  pub climb_end : (d at rank : ℕ) → d ≡ 17 → d + climbs tree (17 - d) at ≡ climbs tree 17 rank → 17 ≡ depth_of tree rank
   unfolding depth_of
   climb_end d at rank e inv =
       let none : 17 - d ≡ 0 = omega arith in

@@ -36,15 +36,13 @@ pub fn depth_of(tree: &[u8], rank: u32) -> u8
     ensures { result ≡ depth_of tree.now rank }
 {
     let mut at = rank;
-    let mut d: u8 = 0;
-    while d < 17 {
+    for d in 0..17 {
         if at == 0 {
             return d;
         }
         at = parent_of(tree, at);
-        d += 1;
     }
-    d
+    17
 }
 
 // Whether the bytes are whole records, of 1 to 1,024 ranks.

@@ -1,10 +1,7 @@
 -- What only the code's own steps promise each other: no promise of a public call speaks of it, and no reader has to believe it.
-use Rattle.std.specs.Prelude.{◌≡◌, Bool, true, ℕ, ◌≤◌, ◌<◌, List, get_or, length}
+use Rattle.std.specs.Prelude.{◌≡◌, Bool, true, ℕ, ◌≤◌, ◌<◌, List, get_or}
 use Rattle.table_tree.specs.Tree.{ranks_in}
 use Rattle.table_tree.specs.Depths.{depth_of, tree_good}
-use Rattle.refusal.specs.Answer.{Answer, refused, answered}
-use Rattle.table_tree_check.specs.declared.Checked.{Checked}
-use Rattle.table_tree_check.specs.declared.Checked.TheVariants.{Refused, Passed}
 
 -- `depths` has the depths of the ranks below r, none of them above 16: what the test of a tree has found so far
 pub record Shallow (tree depths : List ℕ) (r : ℕ) : Type 0 where
@@ -15,13 +12,3 @@ pub record Shallow (tree depths : List ℕ) (r : ℕ) : Type 0 where
 pub record Finds (tree left : List ℕ) (r : Bool) : Type 0 where
   pub told : r ≡ tree_good tree
   pub found : r ≡ true → Shallow tree left (ranks_in tree)
-
--- what a check says: the refusal, or how many entries the table has
-abbrev pub told : Checked → Answer ℕ
-told (Refused r) = refused r
-told (Passed n) = answered n
-
--- "it tells how many entries it wrote"
-abbrev pub how_many : Answer (List ℕ) → Answer ℕ
-how_many (refused r) = refused r
-how_many (answered xs) = answered (length xs)

@@ -4,19 +4,12 @@
 ghost use Rattle.std.specs.Prelude.{◌≡◌, ◌≤◌, length};
 ghost use Rattle.table_records.specs.Records.{most_records};
 ghost use Rattle.table_tree.specs.Depths.{depth_of, tree_good};
-ghost use Rattle.refusal.specs.Answer.{written_over};
-ghost use Rattle.table_tree_check.specs.Working.{Shallow, Finds, told, how_many};
+ghost use Rattle.refusal.specs.Answer.{written_over, result_of};
+ghost use Rattle.table_tree_check.specs.Working.{Shallow, Finds};
 ghost use Rattle.table_tree_check.specs.Checking.{depths_into};
 
 use refusal::Refusal;
 use table_records::MOST_RECORDS;
-
-// What a check of a table says: why it is wrong, or how many entries it has.
-#[derive(Drop)]
-pub enum Checked {
-    Refused(Refusal),
-    Passed(usize),
-}
 
 // The depth of a rank, where `depths` has those of the ranks below it. A rank whose parent is among them needs no climb.
 fn depth_after(tree: &[u8], depths: &[u8], rank: u32) -> u8
@@ -43,14 +36,12 @@ fn find_depths(tree: &[u8], depths: &mut [u8]) -> bool
         return false;
     }
     let n = table_tree::ranks_in(tree);
-    let mut r: u32 = 0;
-    while (r as usize) < n {
+    for r in 0..n as u32 {
         let d = depth_after(tree, depths, r);
         if d > 16 {
             return false;
         }
         depths[r as usize] = d;
-        r += 1;
     }
     true
 }
@@ -65,17 +56,17 @@ pub fn is_tree(tree: &[u8]) -> bool
 
 // The tree check: 14, then 11, or the depths of all ranks, one byte each, and how many they are. They are found in an array of our own, since a
 // refusal writes nothing, and copied when nothing can be refused any more.
-pub fn check_tree(tree: &[u8], depths: &mut [u8]) -> Checked
-    ensures { (told result ≡ how_many (depths_into (length depths.old) tree.now)) × (depths.new ≡ written_over (depths_into (length depths.old) tree.now) depths.old) }
+pub fn check_tree(tree: &[u8], depths: &mut [u8]) -> Result<usize, Refusal>
+    ensures { (result ≡ result_of length (depths_into (length depths.old) tree.now)) × (depths.new ≡ written_over (depths_into (length depths.old) tree.now) depths.old) }
 {
     let mut found = [0u8; MOST_RECORDS];
     if !find_depths(tree, &mut found) {
-        return Checked::Refused(Refusal::TreeWrong);
+        return Err(Refusal::TreeWrong);
     }
     let n = table_tree::ranks_in(tree);
     if depths.len() < n {
-        return Checked::Refused(Refusal::OutputShort);
+        return Err(Refusal::OutputShort);
     }
     bytes_copy::copy(&found[..n], depths);
-    Checked::Passed(n)
+    Ok(n)
 }

@@ -9,15 +9,15 @@ pub returns-then-row-lt-COUNT_RECORD : goal.returns-then-row-lt-COUNT_RECORD
 returns-then-row-lt-COUNT_RECORD c = let s = c.args in
     fills_none (tree_short s.tree.now (length s.depths.now) (length s.row.now) c.if-row-lt-COUNT_RECORD.true) c.number.ensures
 
-pub returns-in-Refused : goal.returns-in-Refused
-returns-in-Refused c = let s = c.args in
-    let r = c.in-Refused in
+pub returns-in-Err : goal.returns-in-Err
+returns-in-Err c = let s = c.args in
+    let r = c.in-Err in
     fills_on (tree_on s.tree.now (length s.depths.now) (length s.row.now) c.if-row-lt-COUNT_RECORD.false)
-    (fills_refused (tree_refused (depths_into (length s.depths.now) s.tree.now) r.r r.ensures.0) c.number-in-Refused.ensures r.ensures.1)
+    (fills_refused (tree_refused (depths_into (length s.depths.now) s.tree.now) r.r r.ensures.0) c.number-in-Err.ensures r.ensures.1)
 
-pub returns-in-Passed : goal.returns-in-Passed
-returns-in-Passed c = let s = c.args in
-    let n = c.in-Passed in
+pub returns-in-Ok : goal.returns-in-Ok
+returns-in-Ok c = let s = c.args in
+    let n = c.in-Ok in
     let room = c.if-row-lt-COUNT_RECORD.false in
     fills_on (tree_on s.tree.now (length s.depths.now) (length s.row.now) room)
     (fills_counted (tree_counted (depths_into (length s.depths.now) s.tree.now) n.n n.ensures.0) n.ensures.1 room c.put_row.ensures)

@@ -1,7 +1,6 @@
 -- The tree check by its ways out: 14, 11, and the depths that were found.
-use Rattle.std.proofs.Common.{◌≡◌, refl, sym, ap, ◌∙◌, true, ◌≤◌, length, take, arith, length-take-le}
+use Rattle.std.proofs.Common.{◌≡◌, Ok, refl, sym, ap, ◌∙◌, true, ◌≤◌, length, take, arith, length-take-le}
 use Rattle.bytes_number.proofs.Buffers.{laid_room}
-use Rattle.refusal.specs.Answer.{answered}
 use Rattle.table_tree.specs.Tree.{ranks_in}
 use Rattle.table_tree.specs.Depths.{tree_good, depths_of}
 use Rattle.table_tree.proofs.Tree.{whole_few}
@@ -35,6 +34,6 @@ returns c =
     let copied : take c.ranks_in-n.result c.find_depths.new.depths ≡ depths_of tree =
     rw c.ranks_in-n.ensures (depths_found tree c.find_depths.new.depths room (c.find_depths.ensures.found c.if-not-find_depths.false)) in
     rw (into_right tree (length c.args.depths.now) right fits) (
-      ap answered (c.ranks_in-n.ensures ∙ sym (length_depths tree (ranks_in tree))),
+      ap Ok (c.ranks_in-n.ensures ∙ sym (length_depths tree (ranks_in tree))),
       c.copy.ensures ∙ rw copied (laid_room (depths_of tree) c.args.depths.now (omega (arith, fits, length_depths tree (ranks_in tree)))),
     )

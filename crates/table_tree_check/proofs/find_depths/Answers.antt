@@ -10,8 +10,11 @@ returns-then-not-is_whole c = finds_none _ _ (bad_whole c.args.tree.now (sym c.i
 pub returns-then-parent_of-ne-NO_PARENT : goal.returns-then-parent_of-ne-NO_PARENT
 returns-then-parent_of-ne-NO_PARENT c = finds_none _ _ (bad_top c.args.tree.now (λ e. omega (arith, c.parent_of.ensures)))
 
+pub overflow_cast-r-end : goal.overflow_cast-r-end
+overflow_cast-r-end c = omega (arith, c.ranks_in-n.ensures, whole_few c.args.tree.now (sym c.is_whole.ensures ∙ c.if-not-is_whole.false))
+
 pub loop-r-init : goal.loop-r-init
-loop-r-init c = (omega arith, omega (arith, c.ranks_in-n.ensures, whole_few c.args.tree.now (sym c.is_whole.ensures ∙ c.if-not-is_whole.false)), shallow_none _ _)
+loop-r-init c = (omega (arith, c.ranks_in-n.ensures, whole_few c.args.tree.now (sym c.is_whole.ensures ∙ c.if-not-is_whole.false)), shallow_none _ _)
 
 pub returns-then-d-gt16 : goal.returns-then-d-gt16
 returns-then-d-gt16 c =
@@ -19,4 +22,4 @@ returns-then-d-gt16 c =
 
 pub returns : goal.returns
 returns c =
-    finds_all c.args.tree.now (sym c.is_whole.ensures ∙ c.if-not-is_whole.false) (omega (arith, c.parent_of.ensures)) c.loop-r.depths c.loop-r.r (omega (arith, c.ranks_in-n.ensures)) c.loop-r.invariant.2
+    finds_all c.args.tree.now (sym c.is_whole.ensures ∙ c.if-not-is_whole.false) (omega (arith, c.parent_of.ensures)) c.loop-r.depths c.loop-r.r (omega (arith, c.ranks_in-n.ensures)) c.loop-r.invariant.1
