@@ -2,11 +2,10 @@
 #![tactic(auto)]
 
 ghost use Rattle.std.specs.Prelude.{false, ◌≡◌};
-ghost use Rattle.step_routing.specs.Requests.{deliver_or, to_parent, upwards, to_rank, request_way};
+ghost use Rattle.step_routing.specs.Requests.{registered, deliver_or, to_parent, upwards, to_rank, request_way};
 
 use frame_message::Header;
-use step_routing::Way;
-use table_records::Found;
+use step_routing::{Tables, Way};
 
 // The nodeid of any rank.
 const ANY_RANK: u32 = 4294967295;
@@ -15,14 +14,13 @@ const NO_SERVICE: u32 = 38;
 // No such rank: Linux's number for a host that cannot be reached.
 const HOST_UNREACHABLE: u32 = 113;
 
-// Delivered with the record that was found, else what else is to be done.
-fn deliver_or(found: Found, other: Way) -> Way
-    ensures { result ≡ deliver_or found other }
+// Delivered where this rank registers the topic's service, else what else is to be done.
+fn deliver_or(services: &[u8], rank: u32, topic: &[u8], other: Way) -> Way
+    ensures { result ≡ deliver_or (registered services.now rank topic.now) other }
 {
-    match found {
-        Found::At(number) => Way::Deliver(number),
-        Found::Nothing => other,
-    }
+    let service = table_services_find::service_of(topic);
+    table_services_find::find_service(services, rank, service)
+        .map_or(other, |number| Way::Deliver(number))
 }
 
 // To the parent, and an error at rank 0.
@@ -36,46 +34,38 @@ fn to_parent(tree: &[u8], rank: u32) -> Way
 }
 
 // Delivered where this rank registers the service, else to the parent.
-fn upwards(tree: &[u8], services: &[u8], rank: u32, topic: &[u8]) -> Way
-    ensures { result ≡ upwards tree.now services.now rank topic.now false }
+fn upwards(t: Tables, rank: u32, topic: &[u8]) -> Way
+    ensures { result ≡ upwards t.entry.tree.now t.entry.services.now rank topic.now false }
 {
-    deliver_or(
-        table_services_find::find_service(services, rank, table_services_find::service_of(topic)),
-        to_parent(tree, rank),
-    )
+    deliver_or(t.services, rank, topic, to_parent(t.tree, rank))
 }
 
 // To the rank that is named: delivered there or an error; else to the next broker on the way.
-fn to_rank(tree: &[u8], services: &[u8], rank: u32, nodeid: u32, topic: &[u8]) -> Way
-    ensures { result ≡ to_rank tree.now services.now rank nodeid topic.now }
+fn to_rank(t: Tables, rank: u32, nodeid: u32, topic: &[u8]) -> Way
+    ensures { result ≡ to_rank t.entry.tree.now t.entry.services.now rank nodeid topic.now }
 {
-    if nodeid as usize >= table_tree::ranks_in(tree) {
+    if nodeid as usize >= table_tree::ranks_in(t.tree) {
         return Way::Fail(HOST_UNREACHABLE);
     }
     if nodeid == rank {
-        let found = table_services_find::find_service(
-            services,
-            rank,
-            table_services_find::service_of(topic),
-        );
-        return deliver_or(found, Way::Fail(NO_SERVICE));
+        return deliver_or(t.services, rank, topic, Way::Fail(NO_SERVICE));
     }
-    Way::Forward(table_tree_hops::next_hop(tree, rank, nodeid))
+    Way::Forward(table_tree_hops::next_hop(t.tree, rank, nodeid))
 }
 
 // Where the broker of a rank sends a request with this header and topic.
-pub fn request_way(tree: &[u8], services: &[u8], rank: u32, header: Header, topic: &[u8]) -> Way
-    ensures { result ≡ request_way tree.now services.now rank header topic.now }
+pub fn request_way(t: Tables, rank: u32, header: Header, topic: &[u8]) -> Way
+    ensures { result ≡ request_way t.entry.tree.now t.entry.services.now rank header topic.now }
 {
     if header.first == ANY_RANK {
-        return upwards(tree, services, rank, topic);
+        return upwards(t, rank, topic);
     }
     if !frame_flags::is_upstream(header.flags) {
-        return to_rank(tree, services, rank, header.first, topic);
+        return to_rank(t, rank, header.first, topic);
     }
     // upstream the broker that the nodeid names is skipped, and no other
     if rank == header.first {
-        return to_parent(tree, rank);
+        return to_parent(t.tree, rank);
     }
-    upwards(tree, services, rank, topic)
+    upwards(t, rank, topic)
 }

@@ -1,4 +1,5 @@
 -- What an outcome tells of the way that led to it: each outcome comes of one way only.
+use Rattle.std.specs.Prelude.{None, Some, Ok, Err}
 use mathlib.Core.Path.{◌≡◌, refl, ap, ◌∙◌}
 use mathlib.Core.Bool.{true, false}
 use mathlib.Core.Logic.{⊎_elim}
@@ -7,7 +8,7 @@ use native.Mathlib.Omega.{arith}
 use borrow.Author.Tests.{eq-eqb, ne_eqb}
 use Rattle.bytes_number.proofs.Truth.{outcome}
 use Rattle.refusal.specs.declared.Refusal.{Refusal}
-use Rattle.refusal.specs.declared.Refusal.TheVariants.{ForwardLong, NotRouted, NoNeighbour}
+use Rattle.refusal.specs.declared.Refusal.TheVariants.{ForwardLong, NotRouted}
 use Rattle.refusal.specs.Answer.{Answer, refused, answered}
 use Rattle.frame_message.specs.Header.{no_response}
 use Rattle.frame_message.specs.Message.{Message}
@@ -15,10 +16,8 @@ use Rattle.table_identities.specs.Identities.{identity_at}
 use Rattle.step_routing.specs.declared.Broker.{Broker}
 use Rattle.step_routing.specs.declared.Way.{Way}
 use Rattle.step_routing.specs.declared.Way.TheVariants.{Deliver, Forward, Fail}
-use Rattle.step_routing.specs.declared.Back.{Back}
-use Rattle.step_routing.specs.declared.Back.TheVariants.{Home, To, Stray}
 use Rattle.step_routing.specs.Requests.{request_way}
-use Rattle.step_routing.specs.Responses.{response_way}
+use Rattle.step_routing.specs.Responses.{Back, response_way}
 use Rattle.step_routing.specs.Messages.{pushed, popped, error_reply, too_large}
 use Rattle.step_routing.specs.Routed.{Tables, Outcome, delivered, forwarded, replied, silenced, home, failed, forwarded_if, requested, responded, routed}
 
@@ -149,35 +148,37 @@ module _ {t : Tables} {b : Broker} {m : Message} {way : Way} {a : Answer Outcome
 -- ---- the outcomes of a response
 
 module _ (m : Message) where
-  pub home_is : (way : Back) → responded m way ≡ answered home → way ≡ Home
-  home_is Home e = refl
-  home_is (To broker) e = clashing cc
-  home_is Stray e = clashing cc
+  pub home_is : (way : Back) → responded m way ≡ answered home → way ≡ Ok None
+  home_is (Ok None) e = refl
+  home_is (Ok (Some broker)) e = clashing cc
+  home_is (Err q) e = clashing cc
 
-  pub sent_is : (way : Back) (next : ℕ) (new : Message) → responded m way ≡ answered (forwarded next new) → (way ≡ To next) × (new ≡ popped m)
-  sent_is Home next new e = clashing cc
-  sent_is (To broker) next new e =
+  pub sent_is : (way : Back) (next : ℕ) (new : Message) → responded m way ≡ answered (forwarded next new) → (way ≡ Ok (Some next)) × (new ≡ popped m)
+  sent_is (Ok None) next new e = clashing cc
+  sent_is (Ok (Some broker)) next new e =
       let same : broker ≡ next = cc in
-      (ap To same, cc)
-  sent_is Stray next new e = clashing cc
+      (ap (λ (n : ℕ). Ok (Some n)) same, cc)
+  sent_is (Err q) next new e = clashing cc
 
-  pub stray_is : (way : Back) (r : Refusal) → responded m way ≡ refused r → (way ≡ Stray) × (r ≡ NoNeighbour)
-  stray_is Home r e = clashing cc
-  stray_is (To broker) r e = clashing cc
-  stray_is Stray r e = (refl, cc)
+  pub stray_is : (way : Back) (r : Refusal) → responded m way ≡ refused r → way ≡ Err r
+  stray_is (Ok None) r e = clashing cc
+  stray_is (Ok (Some broker)) r e = clashing cc
+  stray_is (Err q) r e =
+      let same : q ≡ r = cc in
+      ap Err same
 
   -- a response is never delivered, and no error comes of it
   pub not_delivered : (way : Back) (number : ℕ) → responded m way ≡ answered (delivered number) → ⊥
-  not_delivered Home number e = clashing cc
-  not_delivered (To broker) number e = clashing cc
-  not_delivered Stray number e = clashing cc
+  not_delivered (Ok None) number e = clashing cc
+  not_delivered (Ok (Some broker)) number e = clashing cc
+  not_delivered (Err q) number e = clashing cc
 
   pub not_replied : (way : Back) (errnum : ℕ) (reply : Message) → responded m way ≡ answered (replied errnum reply) → ⊥
-  not_replied Home errnum reply e = clashing cc
-  not_replied (To broker) errnum reply e = clashing cc
-  not_replied Stray errnum reply e = clashing cc
+  not_replied (Ok None) errnum reply e = clashing cc
+  not_replied (Ok (Some broker)) errnum reply e = clashing cc
+  not_replied (Err q) errnum reply e = clashing cc
 
   pub not_silenced : (way : Back) (errnum : ℕ) → responded m way ≡ answered (silenced errnum) → ⊥
-  not_silenced Home errnum e = clashing cc
-  not_silenced (To broker) errnum e = clashing cc
-  not_silenced Stray errnum e = clashing cc
+  not_silenced (Ok None) errnum e = clashing cc
+  not_silenced (Ok (Some broker)) errnum e = clashing cc
+  not_silenced (Err q) errnum e = clashing cc

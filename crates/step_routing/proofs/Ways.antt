@@ -1,19 +1,22 @@
 -- Where a request and a response go: one law for each way through the definitions, in the code's order.
+use Rattle.std.specs.Prelude.{Option, None, Some, Ok, Err}
 use mathlib.Core.Path.{◌≡◌, refl}
-use mathlib.Core.Bool.{Bool, true, false}
+use mathlib.Core.Bool.{Bool, true, false, cond, ◌&&◌}
 use Prim.Native.Nat.{ℕ, ◌<◌, ◌≤◌}
 use mathlib.Core.List.{List, [], ◌∷◌}
+use native.Mathlib.Omega.{arith}
+use lib.Dec.{ltb}
 use borrow.Author.Tests.{eq-eqb, ne_eqb, lt-ltb, le-ltb}
+use Rattle.refusal.specs.declared.Refusal.{Refusal}
+use Rattle.refusal.specs.declared.Refusal.TheVariants.{NoNeighbour}
 use Rattle.frame_message.specs.declared.Header.{Header}
 use Rattle.frame_message.specs.Header.{is_upstream}
-use Rattle.table_records.specs.declared.Found.TheVariants.{At}
 use Rattle.table_tree.specs.Tree.{ranks_in, parent_of}
 use Rattle.table_tree_hops.specs.Towards.{is_neighbour}
 use Rattle.table_identities.specs.Identities.{broker_of}
 use Rattle.step_routing.specs.declared.Way.TheVariants.{Forward, Fail}
-use Rattle.step_routing.specs.declared.Back.TheVariants.{Home, To, Stray}
 use Rattle.step_routing.specs.Requests.{registered, deliver_or, to_parent, upwards, next_broker, to_rank, request_way, skips}
-use Rattle.step_routing.specs.Responses.{towards_broker, response_way}
+use Rattle.step_routing.specs.Responses.{Back, towards_broker, response_way}
 
 module _ (tree : List ℕ) (rank : ℕ) where
   pub parent_none : rank ≡ 0 → to_parent tree rank ≡ Fail 38
@@ -53,7 +56,7 @@ module _ (tree services : List ℕ) (rank : ℕ) (topic : List ℕ) where
     way_rank n u = rw (ne_eqb h.first 4294967295 n, u)
 
 module _ (tree identities : List ℕ) (rank : ℕ) where
-  pub back_none : response_way tree identities rank [] ≡ Home
+  pub back_none : response_way tree identities rank [] ≡ Ok None
   unfolding response_way
   back_none = refl
 
@@ -62,11 +65,25 @@ module _ (tree identities : List ℕ) (rank : ℕ) where
   back_top top below = refl
 
 module _ (tree : List ℕ) (rank broker : ℕ) where
-  pub broker_no_rank : 1024 ≤ broker → towards_broker tree rank (At broker) ≡ Stray
+  pub broker_no_rank : 1024 ≤ broker → towards_broker tree rank (Some broker) ≡ Err NoNeighbour
   broker_no_rank h = rw (le-ltb broker 1024 h)
 
-  pub broker_near : broker < 1024 → is_neighbour tree rank broker ≡ true → towards_broker tree rank (At broker) ≡ To broker
+  pub broker_near : broker < 1024 → is_neighbour tree rank broker ≡ true → towards_broker tree rank (Some broker) ≡ Ok (Some broker)
   broker_near h e = rw (lt-ltb broker 1024 h, e)
 
-  pub broker_far : broker < 1024 → is_neighbour tree rank broker ≡ false → towards_broker tree rank (At broker) ≡ Stray
+  pub broker_far : broker < 1024 → is_neighbour tree rank broker ≡ false → towards_broker tree rank (Some broker) ≡ Err NoNeighbour
   broker_far h e = rw (lt-ltb broker 1024 h, e)
+
+-- a response is refused for one reason alone
+only_one : (t : Bool) (broker : ℕ) {r : Refusal} → ◌≡◌ {A = Back} (cond t (Ok (Some broker)) (Err NoNeighbour)) (Err r) → r ≡ NoNeighbour
+only_one true broker e = absurd (let z : ◌≡◌ {A = ℕ} 0 1 = cc in omega arith)
+only_one false broker e = cc
+
+only_stray : (tree : List ℕ) (rank : ℕ) (found : Option ℕ) {r : Refusal} → towards_broker tree rank found ≡ Err r → r ≡ NoNeighbour
+only_stray tree rank None e = absurd (let z : ◌≡◌ {A = ℕ} 0 1 = cc in omega arith)
+only_stray tree rank (Some broker) e = only_one (ltb broker 1024 && is_neighbour tree rank broker) broker e
+
+pub stray_only : (tree identities : List ℕ) (rank : ℕ) (rs : List (List ℕ)) {r : Refusal} → response_way tree identities rank rs ≡ Err r → r ≡ NoNeighbour
+unfolding response_way
+stray_only tree identities rank [] e = absurd (let z : ◌≡◌ {A = ℕ} 0 1 = cc in omega arith)
+stray_only tree identities rank (top ∷ below) e = only_stray tree rank (broker_of identities top) e

@@ -1,9 +1,7 @@
 -- Where a broker sends a request. "Requests: .."
-use Rattle.std.specs.Prelude.{ℕ, Bool, false, cond, List, eqb, ltb}
+use Rattle.std.specs.Prelude.{ℕ, Option, None, Some, Bool, false, cond, List, eqb, ltb}
 use Rattle.frame_message.specs.declared.Header.{Header}
 use Rattle.frame_message.specs.Header.{is_upstream}
-use Rattle.table_records.specs.declared.Found.{Found}
-use Rattle.table_records.specs.declared.Found.TheVariants.{At, Nothing}
 use Rattle.table_tree.specs.Tree.{ranks_in, parent_of}
 use Rattle.table_tree_hops.specs.Towards.{towards}
 use Rattle.table_services_find.specs.Lookup.{service_of, registered_as}
@@ -22,13 +20,13 @@ abbrev pub host_unreachable : ℕ
 host_unreachable = 113
 
 -- "if this rank registers the service": the number of its record, or none
-abbrev pub registered : List ℕ → ℕ → List ℕ → Found
+abbrev pub registered : List ℕ → ℕ → List ℕ → Option ℕ
 registered services rank topic = registered_as services rank (service_of topic)
 
 -- "deliver if .., else .."
-abbrev pub deliver_or : Found → Way → Way
-deliver_or (At number) other = Deliver number
-deliver_or Nothing other = other
+abbrev pub deliver_or : Option ℕ → Way → Way
+deliver_or (Some number) other = Deliver number
+deliver_or None other = other
 
 -- "forward to the parent; at rank 0, error 38"
 abbrev pub to_parent : List ℕ → ℕ → Way

@@ -1,7 +1,7 @@
 -- One broker's step on a message. "Answers: 1 delivered, with the record's number, counted from 0; 2 forward, with the rank; 3 error reply made, with
 -- the error number; 4 silenced (an error was due, noresponse set), with that number; 5 home."
-use Rattle.std.specs.Prelude.{◌≡◌, ℕ, true, cond, List, eqb}
-use Rattle.refusal.specs.declared.Refusal.TheVariants.{ForwardLong, NotRouted, NoNeighbour}
+use Rattle.std.specs.Prelude.{◌≡◌, ℕ, None, Some, Ok, Err, true, cond, List, eqb}
+use Rattle.refusal.specs.declared.Refusal.TheVariants.{ForwardLong, NotRouted}
 use Rattle.refusal.specs.Answer.{Answer, refused, answered, refuse_if}
 use Rattle.frame_message.specs.Header.{request_type, response_type, no_response}
 use Rattle.frame_message.specs.Message.{Message}
@@ -11,10 +11,9 @@ use Rattle.table_identities.specs.Identities.{identity_at, identities_good}
 use Rattle.step_routing.specs.declared.Broker.{Broker}
 use Rattle.step_routing.specs.declared.Way.{Way}
 use Rattle.step_routing.specs.declared.Way.TheVariants.{Deliver, Forward, Fail}
-use Rattle.step_routing.specs.declared.Back.{Back}
-use Rattle.step_routing.specs.declared.Back.TheVariants.{Home, To, Stray}
+use Rattle.step_routing.specs.declared.Tables.{Tables as LentTables}
 use Rattle.step_routing.specs.Requests.{request_way}
-use Rattle.step_routing.specs.Responses.{response_way}
+use Rattle.step_routing.specs.Responses.{Back, response_way}
 use Rattle.step_routing.specs.Messages.{pushed, popped, error_reply, too_large}
 
 -- "Given the tables, .."
@@ -25,6 +24,10 @@ pub record Tables : Type 0 where
 
 abbrev pub tables_of : List ℕ → List ℕ → List ℕ → Tables
 tables_of tree services identities = record { tree = tree; services = services; identities = identities }
+
+-- what the three slices hold that a step is lent
+abbrev pub tables_in : LentTables → Tables
+tables_in t = tables_of t.tree.now t.services.now t.identities.now
 
 -- "Valid tables are those to which 14, 15 and 16 below do not apply."
 pub record ValidTables (t : Tables) : Type 0 where
@@ -55,11 +58,11 @@ requested t b m (Deliver number) = answered (delivered number)
 requested t b m (Forward next) = forwarded_if next (pushed (identity_at t.identities b.rank) m)
 requested t b m (Fail errnum) = answered (failed b errnum m)
 
--- 19 where the response's top route is a broker that is no neighbour
+-- a response is home, or goes on; 19 where its top route is a broker that is no neighbour
 abbrev pub responded : Message → Back → Answer Outcome
-responded m Home = answered home
-responded m (To broker) = answered (forwarded broker (popped m))
-responded m Stray = refused NoNeighbour
+responded m (Ok None) = answered home
+responded m (Ok (Some broker)) = answered (forwarded broker (popped m))
+responded m (Err r) = refused r
 
 -- a request, a response, or 18: "step or walk given an event or control"
 unfoldable pub routed : Tables → Broker → Message → Answer Outcome

@@ -5,7 +5,6 @@ ghost use Rattle.std.specs.Prelude.{◌≡◌};
 ghost use Rattle.step_routing.specs.Messages.{reply_header};
 
 use frame_message::{Header, RESPONSE};
-use refusal::Refusal;
 
 // An error reply's flags: topic and route, and streaming where the request had it.
 const REPLY: u8 = 0x09;
@@ -20,27 +19,26 @@ pub struct Broker {
     pub rolemask: u32,
 }
 
-// What is done with a request: delivered with a record's number, forwarded to a rank, or an error.
-#[derive(Drop)]
+// The tables by which a step goes, lent to it.
+#[derive(Clone, Copy)]
+pub struct Tables<'a> {
+    pub tree: &'a [u8],
+    pub services: &'a [u8],
+    pub identities: &'a [u8],
+}
+
+// What is done with a request: delivered with a record's number, forwarded to a rank, or an error with its number.
+#[derive(Clone, Copy)]
 pub enum Way {
     Deliver(usize),
     Forward(u32),
     Fail(u32),
 }
 
-// What is done with a response: it is home, or goes to a rank; or its top route is a broker that is no neighbour.
-#[derive(Drop)]
-pub enum Back {
-    Home,
-    To(u32),
-    Stray,
-}
-
-// What a step says: why it is refused; or delivered with a record's number, forwarded to a rank, an error reply or silence with the error's number,
+// What a step says that is not refused: delivered with a record's number, forwarded to a rank, an error reply or silence with the error's number,
 // or home.
-#[derive(Clone, Copy)]
+#[derive(Clone, Copy, PartialEq, Eq)]
 pub enum Stepped {
-    Refused(Refusal),
     Delivered(usize),
     Forwarded(u32),
     Replied(u32),
