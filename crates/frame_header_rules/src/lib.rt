@@ -4,7 +4,7 @@
 ghost use Rattle.std.specs.Prelude.{◌≡◌};
 ghost use Rattle.frame_message.specs.Header.{is_type, are_flags, parts_fit, fields_good};
 
-use frame_message::{CONTROL, EVENT, Header, REQUEST, RESPONSE};
+use frame_message::{Header, Kind};
 
 // The nodeid that never appears on the wire.
 const NO_NODE: u32 = 4294967294;
@@ -16,16 +16,7 @@ const FLAG_80: u8 = 0x80;
 pub fn is_type(kind: u8) -> bool
     ensures { result ≡ is_type kind }
 {
-    if kind == REQUEST {
-        return true;
-    }
-    if kind == RESPONSE {
-        return true;
-    }
-    if kind == EVENT {
-        return true;
-    }
-    kind == CONTROL
+    Kind::try_from(kind).is_ok()
 }
 
 // 23: whether flag 80 is clear.
@@ -36,38 +27,29 @@ pub fn are_flags(flags: u8) -> bool
 }
 
 // Whether the flags ask for the parts that the type has.
+#[tactic(auto, unfolding(frame_message::specs::Header::parts_fit))]
 pub fn parts_fit(h: Header) -> bool
     ensures { result ≡ parts_fit h }
 {
     let route = frame_flags::has_route(h.flags);
     let topic = frame_flags::has_topic(h.flags);
-    if h.kind == CONTROL {
-        if route {
-            return false;
-        }
-        if topic {
-            return false;
-        }
-        return !frame_flags::has_payload(h.flags);
+    let payload = frame_flags::has_payload(h.flags);
+    match Kind::try_from(h.kind) {
+        Ok(Kind::Control) => !route && !topic && !payload,
+        Ok(Kind::Event) => !route && topic,
+        _ => route && topic,
     }
-    if h.kind == EVENT {
-        if route {
-            return false;
-        }
-        return topic;
-    }
-    if route { topic } else { false }
 }
 
-// Whether the fields that a type binds hold what they must: a request's nodeid, an event's unused field.
+// Whether the fields that a type binds hold what they must: a request's nodeid, an event's unused
+// field.
+#[tactic(auto, unfolding(frame_message::specs::Header::fields_good))]
 pub fn fields_good(h: Header) -> bool
     ensures { result ≡ fields_good h }
 {
-    if h.kind == REQUEST {
-        return h.first != NO_NODE;
+    match Kind::try_from(h.kind) {
+        Ok(Kind::Request) => h.first != NO_NODE,
+        Ok(Kind::Event) => h.second == 0,
+        _ => true,
     }
-    if h.kind == EVENT {
-        return h.second == 0;
-    }
-    true
 }
