@@ -16,7 +16,8 @@ use Rattle.frame_message.specs.Reading.{cut_part, first_part, parts_in, front, b
 use Rattle.frame_message.proofs.Lists.{Each, bytes_back}
 use Rattle.frame_message.proofs.Parts.{Sized, Split, First, first_split, split, join}
 use Rattle.frame_parts.specs.declared.PartCounts.{PartCounts}
-use Rattle.frame_parts.specs.declared.Counting.TheVariants.{Refused, Counted}
+use Rattle.frame_parts.specs.declared.Stop.{Stop}
+use Rattle.std.specs.Prelude.{Ok, Err}
 use Rattle.frame_parts.specs.WorkingCounting.{stop_byte, counted_as, counting_of}
 use Rattle.bytes_number.proofs.Truth.{true_false}
 use Rattle.frame_parts.proofs.Passing.{joined-many, part_has_size}
@@ -81,15 +82,15 @@ wrong_size (suc most) (x ∷ xs) q h l e = go (λ rest b k f. wrong_size most re
 
 -- ---- what the counting of the parts tells
 
-not_both : {r : Refusal} {told : ℕ} {counts : PartCounts} → Refused r told ≡ Counted counts → ⊥
+not_both : {stop : Stop} {counts : PartCounts} → Err stop ≡ Ok counts → ⊥
 not_both e = let z : true ≡ false = cc in true_false z
 
 -- whatever stopped it, it is 30
-pub cut_refused : (b : List ℕ) {r : Refusal} {told : ℕ} → Refused r told ≡ counting_of (length b) b → cut_parts b ≡ refused CommandPartWrong
+pub cut_refused : (b : List ℕ) {stop : Stop} → Err stop ≡ counting_of (length b) b → cut_parts b ≡ refused CommandPartWrong
 unfolding cut_parts
-cut_refused b {r} {told} e = go (parts_in (length b) b) e
+cut_refused b {stop} e = go (parts_in (length b) b) e
   where
-    go : (a : Answer (List (List ℕ))) → Refused r told ≡ counted_as (stop_byte (length b) b) a → as_thirty a ≡ refused CommandPartWrong
+    go : (a : Answer (List (List ℕ))) → Err stop ≡ counted_as (stop_byte (length b) b) a → as_thirty a ≡ refused CommandPartWrong
     go (refused q) e = refl
     go (answered ps) e = absurd (not_both e)
 
@@ -100,11 +101,11 @@ pub record CutInto (b : List ℕ) (count : ℕ) : Type 0 where
   pub cuts : cut_parts b ≡ answered parts
   pub counted : count ≡ length parts
 
-pub cut_counted : (b : List ℕ) {counts : PartCounts} → Counted counts ≡ counting_of (length b) b → CutInto b counts.count
+pub cut_counted : (b : List ℕ) {counts : PartCounts} → Ok counts ≡ counting_of (length b) b → CutInto b counts.count
 unfolding cut_parts
 cut_counted b {counts} e = go (parts_in (length b) b) refl e
   where
-    go : (a : Answer (List (List ℕ))) → parts_in (length b) b ≡ a → Counted counts ≡ counted_as (stop_byte (length b) b) a → CutInto b counts.count
+    go : (a : Answer (List (List ℕ))) → parts_in (length b) b ≡ a → Ok counts ≡ counted_as (stop_byte (length b) b) a → CutInto b counts.count
     go (refused q) k e = absurd (not_both (sym e))
     go (answered ps) k e =
         let same : counts ≡ record { count = length ps; empty = length (before_empty ps); group = length (joined (before_empty ps)); last = length (joined (front ps)) } = cc in

@@ -6,7 +6,7 @@ use mathlib.Core.List.{List, [], ◌∷◌, append-nil}
 use native.Mathlib.Omega.{arith}
 use lib.ListN.{length, drop, length-append}
 use Rattle.frame_message.specs.Frame.{size_bytes, part_bytes, joined}
-use Rattle.frame_layout.specs.declared.Stretch.{Stretch}
+use Rattle.frame_message.specs.declared.Stretch.{Stretch}
 use Rattle.mdp_command.specs.declared.CommandPlaces.{CommandPlaces}
 use Rattle.mdp_command.specs.CommandBytes.{mark_of, front_parts}
 use Rattle.mdp_command.specs.Places.{places_of}

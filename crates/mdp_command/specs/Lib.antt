@@ -7,3 +7,5 @@ pub mod CommandReading
 pub mod Places
 -- What begins with Working serves the proofs alone: nothing there has to be believed.
 pub mod Working
+pub mod WorkingSender
+pub mod WorkingGiven
