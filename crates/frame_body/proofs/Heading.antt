@@ -19,8 +19,8 @@ use Rattle.frame_message.proofs.Lists.{front-final}
 use Rattle.frame_message.proofs.Headers.{Answers, header_answered}
 use Rattle.frame_message.proofs.Parts.{joined-append, split, part_short, part_long}
 use Rattle.frame_parts.specs.declared.PartCounts.{PartCounts}
-use Rattle.frame_parts.specs.declared.Counting.TheVariants.{Refused, Counted}
-use Rattle.frame_header.specs.declared.Head.TheVariants.{Wrong, Fields}
+use Rattle.std.specs.Prelude.{Ok, Err}
+use Rattle.frame_parts.specs.declared.Stop.{Stop}
 use Rattle.frame_header.specs.WorkingHead.{head_as}
 use Rattle.frame_parts.specs.WorkingCounting.{stop_byte, counted_as, counting_of}
 use Rattle.frame_parts.proofs.Passing.{before_short}
@@ -28,18 +28,19 @@ use Rattle.frame_body.specs.WorkingJudging.{parts_found, CountsOf, Headed}
 
 -- ---- what the counting tells
 
-not_both : {r : Refusal} {stop : ℕ} {counts : PartCounts} → Refused r stop ≡ Counted counts → ⊥
+not_both : {stop : Stop} {counts : PartCounts} → Err stop ≡ Ok counts → ⊥
 not_both e = let z : ◌≡◌ {A = ℕ} 0 1 = cc in omega arith
 
-pub counting_refused : (stop : ℕ) (a : Answer (List (List ℕ))) {r : Refusal} {told : ℕ} → Refused r told ≡ counted_as stop a → a ≡ refused r
-counting_refused stop (refused q) e = cc
+pub counting_refused : (stop : ℕ) (a : Answer (List (List ℕ))) {told : Stop} → Err told ≡ counted_as stop a → a ≡ refused told.why
+counting_refused stop (refused q) {told} e = let same : told ≡ record { why = q; at = stop } = cc in
+    ap refused (sym (ap (λ (s : Stop). s.why) same))
 counting_refused stop (answered ps) e = absurd (not_both e)
 
-pub counting_done : (body : List ℕ) {counts : PartCounts} → Counted counts ≡ counting_of 68 body → CountsOf body counts
+pub counting_done : (body : List ℕ) {counts : PartCounts} → Ok counts ≡ counting_of 68 body → CountsOf body counts
 unfolding parts_found
 counting_done body {counts} e = go (parts_in 68 body) refl e
   where
-    go : (a : Answer (List (List ℕ))) → parts_in 68 body ≡ a → Counted counts ≡ counted_as (stop_byte 68 body) a → CountsOf body counts
+    go : (a : Answer (List (List ℕ))) → parts_in 68 body ≡ a → Ok counts ≡ counted_as (stop_byte 68 body) a → CountsOf body counts
     go (refused r) k e = absurd (not_both (sym e))
     go (answered ps) k e =
         let same : counts ≡ record { count = length ps; empty = length (before_empty ps); group = length (joined (before_empty ps)); last = length (joined (front ps)) } = cc in
@@ -70,11 +71,11 @@ unfolding header_or_why
 not_header p n = rw (ne_eqb (length p) 20 n)
 
 -- what is told of a header that was read
-told_wrong : (a : Answer Header) {r : Refusal} → Wrong r ≡ head_as a → a ≡ refused r
+told_wrong : (a : Answer Header) {r : Refusal} → Err r ≡ head_as a → a ≡ refused r
 told_wrong (refused q) e = cc
 told_wrong (answered h) e = let z : ◌≡◌ {A = ℕ} 0 1 = cc in absurd (omega arith)
 
-told_fields : (a : Answer Header) {h : Header} → Fields h ≡ head_as a → a ≡ answered h
+told_fields : (a : Answer Header) {h : Header} → Ok h ≡ head_as a → a ≡ answered h
 told_fields (refused q) e = let z : ◌≡◌ {A = ℕ} 0 1 = cc in absurd (omega arith)
 told_fields (answered h) e = cc
 
@@ -136,10 +137,10 @@ module _ (body : List ℕ) (b : Bytes body) (counts : PartCounts) (o : CountsOf 
         let bytes : drop (counts.last + 1) body ≡ final [] ps = sym (drop-drop 1 counts.last body) ∙ rw (behind, part_short (final [] ps) (omega (arith, head_size))) in
         rw bytes (take_all (length body - (counts.last + 1)) (final [] ps) (omega (arith, head_size)))
 
-    pub head_wrong : {r : Refusal} → Wrong r ≡ head_as (header_or_why (take (length body - (counts.last + 1)) (drop (counts.last + 1) body))) → and_then (parts_in 68 body) judged ≡ refused r
+    pub head_wrong : {r : Refusal} → Err r ≡ head_as (header_or_why (take (length body - (counts.last + 1)) (drop (counts.last + 1) body))) → and_then (parts_in 68 body) judged ≡ refused r
     head_wrong e = header_refused (ap header_or_why (sym head_bytes) ∙ told_wrong _ e)
 
-    module _ (h : Header) (e : Fields h ≡ head_as (header_or_why (take (length body - (counts.last + 1)) (drop (counts.last + 1) body)))) (short : length body ≤ 32768) where
+    module _ (h : Header) (e : Ok h ≡ head_as (header_or_why (take (length body - (counts.last + 1)) (drop (counts.last + 1) body)))) (short : length body ≤ 32768) where
       read : header_or_why (final [] ps) ≡ answered h
       read = ap header_or_why (sym head_bytes) ∙ told_fields _ e
 

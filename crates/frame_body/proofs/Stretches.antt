@@ -12,7 +12,7 @@ use Rattle.bytes_number.proofs.Numbers.{number-four, bytes_drop}
 use Rattle.frame_message.specs.Frame.{size_bytes, part_bytes, joined}
 use Rattle.frame_message.proofs.Lists.{Each}
 use Rattle.frame_message.proofs.Parts.{Sized, split, part_short, part_long}
-use Rattle.frame_layout.specs.declared.Stretch.{Stretch}
+use Rattle.frame_message.specs.declared.Stretch.{Stretch}
 use Rattle.frame_layout.specs.declared.Piece.{Piece}
 use Rattle.frame_parts.proofs.Passing.{part_from}
 use Rattle.frame_body.specs.WorkingJudging.{parts_found, Found, stretch_at, piece_at}

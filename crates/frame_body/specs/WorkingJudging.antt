@@ -9,7 +9,7 @@ use Rattle.frame_message.specs.Working.{is_header}
 use Rattle.frame_message.specs.Frame.{size_bytes, part_bytes, joined, group_if}
 use Rattle.frame_message.specs.Writing.{routes_good}
 use Rattle.frame_message.specs.Reading.{parts_in, front, final, before_empty, routes_in, parts_agree, is_topic_part}
-use Rattle.frame_layout.specs.declared.Stretch.{Stretch}
+use Rattle.frame_message.specs.declared.Stretch.{Stretch}
 use Rattle.frame_layout.specs.declared.Layout.{Layout}
 use Rattle.frame_layout.specs.Layout.{stretch_if}
 use Rattle.frame_parts.specs.declared.PartCounts.{PartCounts}

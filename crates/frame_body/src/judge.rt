@@ -7,10 +7,10 @@ ghost use Rattle.frame_layout.specs.WorkingPlacing.{read_as};
 ghost use Rattle.frame_body.specs.WorkingJudging.{parts_found, Found, stretch_at, piece_if, Within, topic_wrong, CountsOf, Headed, Sorted};
 
 use crate::agree::{if_set, parts_agree};
-use frame_header::{Head, read_header};
-use frame_layout::{Piece, Reading, Stretch, placed};
-use frame_message::Header;
-use frame_parts::{Counting, PartCounts, count_parts};
+use frame_header::read_header;
+use frame_layout::{Layout, Piece, placed};
+use frame_message::{Header, Stretch};
+use frame_parts::{PartCounts, count_parts};
 use refusal::Refusal;
 
 // The data of the part that begins s, whose size is known to be right.
@@ -92,7 +92,7 @@ fn topic_wrong(body: &[u8], flags: u8, topic: Piece) -> bool
 
 // 9 and 10, and then the message: the parts are as many as they should be, and the routes are right. The topic begins behind the
 // delimiter, or at the front where there is none.
-fn judge_rest(body: &[u8], counts: PartCounts, h: Header, routes: usize) -> Reading
+fn judge_rest(body: &[u8], counts: PartCounts, h: Header, routes: usize) -> Result<Layout, Refusal>
     requires { Sorted body.now counts h routes }
     ensures { result ≡ read_as (judged_as h (front (parts_found body.now))) }
 {
@@ -101,59 +101,52 @@ fn judge_rest(body: &[u8], counts: PartCounts, h: Header, routes: usize) -> Read
     let wrong = topic_wrong(body, h.flags, topic);
     let good = frame_header_rules::fields_good(h);
     if wrong {
-        return Reading::Refused(Refusal::TopicWrong);
+        return Err(Refusal::TopicWrong);
     }
-    if good {
-        let payload = piece_if(body, frame_flags::has_payload(h.flags), topic.next);
-        Reading::Accepted(placed(body.len(), h, routes, topic, payload))
-    } else {
-        Reading::Refused(Refusal::FieldWrong)
+    if !good {
+        return Err(Refusal::FieldWrong);
     }
+    let payload = piece_if(body, frame_flags::has_payload(h.flags), topic.next);
+    Ok(placed(body.len(), h, routes, topic, payload))
 }
 
 // 7 and 8: whether the parts are those that type and flags ask for, and then the routes, which are the parts in front of the delimiter.
-fn judge_parts(body: &[u8], counts: PartCounts, h: Header) -> Reading
+fn judge_parts(body: &[u8], counts: PartCounts, h: Header) -> Result<Layout, Refusal>
     requires { Headed body.now counts h }
     ensures { result ≡ read_as (judged_as h (front (parts_found body.now))) }
 {
     let routes = if_set(frame_flags::has_route(h.flags), counts.empty);
     let agree = parts_agree(h, counts.count, routes);
     if !agree {
-        return Reading::Refused(Refusal::PartsDisagree);
+        return Err(Refusal::PartsDisagree);
     }
     if frame_message::MOST_ROUTES < routes {
-        return Reading::Refused(Refusal::RouteWrong);
+        return Err(Refusal::RouteWrong);
     }
-    if are_routes(body, routes) {
-        judge_rest(body, counts, h, routes)
-    } else {
-        Reading::Refused(Refusal::RouteWrong)
+    if !are_routes(body, routes) {
+        return Err(Refusal::RouteWrong);
     }
+    judge_rest(body, counts, h, routes)
 }
 
 // 6 and 20 to 23, and then the rest: the header is the last of the parts that were counted.
-fn judge_counted(body: &[u8], counts: PartCounts) -> Reading
+fn judge_counted(body: &[u8], counts: PartCounts) -> Result<Layout, Refusal>
     requires { (length body.now ≤ 32768) × CountsOf body.now counts }
     ensures { result ≡ read_as (and_then (parts_in 68 body.now) judged) }
 {
     let last = counts.last;
     if body.len() - last != frame_message::HEADER_PART {
-        return Reading::Refused(Refusal::HeaderWrong);
+        return Err(Refusal::HeaderWrong);
     }
-    let start = last + 1;
-    match read_header(&body[start..]) {
-        Head::Wrong(why) => Reading::Refused(why),
-        Head::Fields(h) => judge_parts(body, counts, h),
-    }
+    let h = read_header(&body[last + 1..])?;
+    judge_parts(body, counts, h)
 }
 
 // Reads a body: its parts, the header, which is the last of them, and the rest.
-pub(crate) fn judge(body: &[u8]) -> Reading
+pub(crate) fn judge(body: &[u8]) -> Result<Layout, Refusal>
     requires { length body.now ≤ 32768 }
     ensures { result ≡ read_as (and_then (parts_in 68 body.now) judged) }
 {
-    match count_parts(body, frame_message::MOST_PARTS) {
-        Counting::Refused(r, _) => Reading::Refused(r),
-        Counting::Counted(counts) => judge_counted(body, counts),
-    }
+    let counts = count_parts(body, frame_message::MOST_PARTS)?;
+    judge_counted(body, counts)
 }

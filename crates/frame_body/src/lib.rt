@@ -7,7 +7,7 @@ ghost use Rattle.frame_layout.specs.WorkingPlacing.{read_as};
 ghost use Rattle.frame_body.specs.WorkingBody.{body_reading};
 ghost use Rattle.frame_body.specs.WorkingJudging.{parts_wanted};
 
-use frame_layout::Reading;
+use frame_layout::Layout;
 use frame_message::Header;
 use judge::judge;
 use refusal::Refusal;
@@ -26,11 +26,11 @@ pub fn parts_agree(h: Header, count: usize, routes: usize) -> bool
 }
 
 // Reads the body of a frame. One that is too long is not looked at.
-pub fn read_body(body: &[u8]) -> Reading
+pub fn read_body(body: &[u8]) -> Result<Layout, Refusal>
     ensures { result ≡ read_as (body_reading body.now) }
 {
     if frame_message::MOST_BODY < body.len() {
-        return Reading::Refused(Refusal::BodyLong);
+        return Err(Refusal::BodyLong);
     }
     judge(body)
 }

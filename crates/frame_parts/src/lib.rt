@@ -24,6 +24,15 @@ pub struct Stop {
     pub at: usize,
 }
 
+// Whoever does not ask where has the refusal alone.
+impl From<Stop> for Refusal {
+    ghost from_gives = { λ stop why. why ≡ stop.why };
+
+    fn from(stop: Stop) -> Refusal {
+        stop.why
+    }
+}
+
 // The parts of a body, counted as they come. One more than most is refused before its size is read.
 pub fn count_parts(body: &[u8], most: usize) -> Result<PartCounts, Stop>
     ensures { result ≡ counting_of most body.now }

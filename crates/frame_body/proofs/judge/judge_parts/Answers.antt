@@ -31,10 +31,10 @@ pub judge_rest-requires : goal.judge_rest-requires
 judge_rest-requires c =
     let r = routes c.args.counts.empty _ _ _ c.has_route.ensures c.if_set-routes.ensures in
     let agree = agree_tested _ _ _ c.requires _ r ∙ sym c.parts_agree-agree.ensures ∙ c.if-not-agree.false in
-    sorted _ _ _ c.requires _ r agree (omega arith) (sym c.are_routes.ensures ∙ c.if-are_routes.true)
+    sorted _ _ _ c.requires _ r agree (omega arith) (sym c.are_routes.ensures ∙ c.if-not-are_routes.false)
 
-pub returns-else-are_routes : goal.returns-else-are_routes
-returns-else-are_routes c =
+pub returns-then-not-are_routes : goal.returns-then-not-are_routes
+returns-then-not-are_routes c =
     let r = routes c.args.counts.empty _ _ _ c.has_route.ensures c.if_set-routes.ensures in
     let agree = agree_tested _ _ _ c.requires _ r ∙ sym c.parts_agree-agree.ensures ∙ c.if-not-agree.false in
-    sym (ap read_as (judged_routes _ _ agree (routes_tested _ _ _ c.requires _ r agree (omega arith) ∙ sym c.are_routes.ensures ∙ c.if-are_routes.false)))
+    sym (ap read_as (judged_routes _ _ agree (routes_tested _ _ _ c.requires _ r agree (omega arith) ∙ sym c.are_routes.ensures ∙ c.if-not-are_routes.true)))

@@ -1,12 +1,11 @@
 -- The topic begins behind the routing group, the payload behind the topic; and 9 and 10 are what was tested.
-use Rattle.std.proofs.Common.{◌≡◌, ◌+◌, ℕ, Bool, cond, List, length, drop, arith, sym, ap, ◌∙◌}
+use Rattle.std.proofs.Common.{Ok, ◌≡◌, ◌+◌, ℕ, Bool, cond, List, length, drop, arith, sym, ap, ◌∙◌}
 use Rattle.bytes_number.proofs.Numbers.{bytes_of_lem}
 use Rattle.frame_message.specs.declared.Header.{Header}
 use Rattle.frame_message.specs.Frame.{joined}
 use Rattle.frame_message.specs.Header.{has_route}
 use Rattle.frame_message.specs.Reading.{front}
 use Rattle.frame_layout.specs.declared.Piece.{Piece}
-use Rattle.frame_layout.specs.declared.Reading.TheVariants.{Accepted}
 use Rattle.frame_layout.specs.WorkingPlacing.{read_as}
 use Rattle.frame_parts.specs.declared.PartCounts.{PartCounts}
 use Rattle.frame_body.specs.WorkingJudging.{Sorted, parts_found, group_in, piece_if}
@@ -81,22 +80,22 @@ piece_if-payload-requires-clause-nonzero c =
     let topic = piece _ _ _ _ _ c.has_topic.ensures c.piece_if-topic.ensures in
     λ _. payload_some _ _ _ _ c.requires b _ at _ topic
 
-pub returns-then-good : goal.returns-then-good
-returns-then-good c =
+pub returns-then-not-good : goal.returns-then-not-good
+returns-then-not-good c =
+    let b = bytes_of_lem c.args.body.now (λ i. (c.type_inv.body i).fits) in
+    let at = place _ _ _ _ _ _ c.requires c.has_route.ensures c.if_set-at.ensures in
+    let topic = piece _ _ _ _ _ c.has_topic.ensures c.piece_if-topic.ensures in
+    let right = sym (topic_tested _ _ _ _ c.requires b _ at _ topic) ∙ sym c.topic_wrong-wrong.ensures ∙ c.if-wrong.false in
+    sym (ap read_as (judged_field _ _ c.requires.agree c.requires.good right (sym c.fields_good-good.ensures ∙ c.if-not-good.true)))
+
+pub returns : goal.returns
+returns c =
     let b = bytes_of_lem c.args.body.now (λ i. (c.type_inv.body i).fits) in
     let at = place _ _ _ _ _ _ c.requires c.has_route.ensures c.if_set-at.ensures in
     let topic = piece _ _ _ _ _ c.has_topic.ensures c.piece_if-topic.ensures in
     let payload = piece _ _ _ _ _ c.has_payload.ensures c.piece_if-payload.ensures in
     let good = sym (topic_tested _ _ _ _ c.requires b _ at _ topic) ∙ sym c.topic_wrong-wrong.ensures ∙ c.if-wrong.false in
-    let fields = sym c.fields_good-good.ensures ∙ c.if-good.true in
+    let fields = sym c.fields_good-good.ensures ∙ c.if-not-good.false in
     let answer = answer_is _ _ _ _ c.requires b _ at _ topic _ payload good fields in
     let fits = placeable _ _ _ _ c.requires b _ at _ topic _ payload good in
-    ap Accepted (c.placed.ensures ∙ placed_in_lem _ _ _ _ _ fits ∙ placed_is _ _ _ _ c.requires b _ at _ topic _ payload good fields) ∙ sym (ap read_as answer)
-
-pub returns-else-good : goal.returns-else-good
-returns-else-good c =
-    let b = bytes_of_lem c.args.body.now (λ i. (c.type_inv.body i).fits) in
-    let at = place _ _ _ _ _ _ c.requires c.has_route.ensures c.if_set-at.ensures in
-    let topic = piece _ _ _ _ _ c.has_topic.ensures c.piece_if-topic.ensures in
-    let right = sym (topic_tested _ _ _ _ c.requires b _ at _ topic) ∙ sym c.topic_wrong-wrong.ensures ∙ c.if-wrong.false in
-    sym (ap read_as (judged_field _ _ c.requires.agree c.requires.good right (sym c.fields_good-good.ensures ∙ c.if-good.false)))
+    ap Ok (c.placed.ensures ∙ placed_in_lem _ _ _ _ _ fits ∙ placed_is _ _ _ _ c.requires b _ at _ topic _ payload good fields) ∙ sym (ap read_as answer)
