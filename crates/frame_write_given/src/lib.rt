@@ -48,12 +48,7 @@ pub fn routes_good(routes: &[u8]) -> bool
     if routes.len() % frame_forms::ROUTE != 0 {
         return false;
     }
-    let mut i = 0;
-    while i < routes.len() {
-        if !frame_forms::is_route(&routes[i..i + frame_forms::ROUTE]) {
-            return false;
-        }
-        i += frame_forms::ROUTE;
-    }
-    true
+    routes
+        .chunks_exact(frame_forms::ROUTE)
+        .all(|route| frame_forms::is_route(route))
 }
