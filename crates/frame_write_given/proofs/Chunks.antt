@@ -1,6 +1,6 @@
 -- Laws on the routes that `chunks_exact` yields of whole routes: they are the routes that the bytes are cut into.
-use Rattle.std.proofs.Common.{arith, ◌≡◌, ◌∙◌, refl, sym, ap, subst, ℕ, zero, suc, ◌+◌, ◌%◌, ◌<◌, ◌≤◌, Bool, true, false, List, [], ◌∷◌, ◌++◌, length, get_or, take, drop, length-append, Bor, Option, Some, None}
-use mathlib.Core.Bool.{◌&&◌, and-false}
+use Rattle.std.proofs.Common.{arith, ◌≡◌, ◌∙◌, refl, sym, ap, subst, ℕ, zero, suc, ◌%◌, ◌<◌, Bool, true, false, List, [], ◌∷◌, ◌++◌, length, length-append, Bor, Some, None}
+use mathlib.Core.Bool.{and-false}
 use Rattle.std.specs.Bool.{MatchBool}
 use Rattle.std.specs.List.{AllWithin, HoldsAt}
 use Rattle.std.specs.declared.slice.ChunksExact.{ChunksExact}
@@ -35,9 +35,10 @@ routes_yielded s w e = subst (λ (xs : List ℕ). YieldsList (chunks_exact_steps
 
     some : (s : ChunksExact ℕ) (x : Bor (List ℕ)) (t : ChunksExact ℕ) → Whole s → chunks_exact_steps s (Some x) t → Whole t × (cut (chunks_exact_rest s) ≡ x.now ∷ cut (chunks_exact_rest t))
     some s x t w h =
-        let wide : length x.now ≡ 37 = h.1.1 ∙ w.size in
-        (record { size = h.0 ∙ w.size; whole = omega (arith, length-append x.now (chunks_exact_rest t), ap length h.1.0, w.whole, wide) },
-        ap cut h.1.0 ∙ cut_front x.now (chunks_exact_rest t) wide)
+        let wide : length x.now ≡ 37 = h.1.1 ∙ w.size in (
+          record { size = h.0 ∙ w.size; whole = omega (arith, length-append x.now (chunks_exact_rest t), ap length h.1.0, w.whole, wide) },
+          ap cut h.1.0 ∙ cut_front x.now (chunks_exact_rest t) wide,
+        )
 
 -- whether all of them are of the form, by what `all` says of each
 all_good : (rs : List (List ℕ)) → AllWithin (λ r. is_route r ≡ true) rs 0 (length rs) → true ≡ all_routes rs

@@ -1,40 +1,42 @@
-// Whether the parts that the writer is given fit: whether they agree with the header, and whether the routes are of their form.
+// What the writer is given, and whether its parts fit: whether they agree with the header, and whether the routes are of their form.
 #![tactic(auto)]
 
 ghost use Rattle.std.specs.Prelude.{◌≡◌, ◌&&◌, ◌||◌};
 ghost use Rattle.frame_message.specs.Header.{parts_fit};
-ghost use Rattle.frame_message.specs.Writing.{is_empty, parts_given_fit, routes_good, cut, given_message};
+ghost use Rattle.frame_message.specs.Writing.{is_empty, parts_given_fit, routes_good, cut};
+ghost use Rattle.frame_write_given.specs.Drafts.{drafted};
 
 use frame_message::Header;
 
 // How many bytes the most routes have.
 const MOST_ROUTE_BYTES: usize = frame_message::MOST_ROUTES * frame_forms::ROUTE;
 
-// Whether a part may be given: it is empty, or its flag is set.
+// A message that is to be written: its header, the routes one behind another, the topic without its zero byte, and the payload.
+#[derive(Clone, Copy)]
+pub struct Draft<'a> {
+    pub header: Header,
+    pub routes: &'a [u8],
+    pub topic: &'a [u8],
+    pub payload: &'a [u8],
+}
+
+// Whether a part may be given: its flag is set, or it is empty.
 fn may_be_given(flag: bool, part: &[u8]) -> bool
     ensures { result ≡ (flag || is_empty part.now) }
 {
-    if part.len() == 0 {
-        return true;
-    }
-    flag
+    flag || part.is_empty()
 }
 
 // Whether the flags fit the type and no part is given without its flag.
-pub fn parts_agree(header: Header, routes: &[u8], topic: &[u8], payload: &[u8]) -> bool
-    ensures { result ≡ (parts_fit header && parts_given_fit (given_message header routes.now topic.now payload.now)) }
+pub fn parts_agree(draft: &Draft) -> bool
+    ensures { result ≡ (parts_fit draft.now.header && parts_given_fit (drafted draft.now)) }
 {
+    let header = draft.header;
     let flags = header.flags;
-    if !frame_header_rules::parts_fit(header) {
-        return false;
-    }
-    if !may_be_given(frame_flags::has_route(flags), routes) {
-        return false;
-    }
-    if !may_be_given(frame_flags::has_topic(flags), topic) {
-        return false;
-    }
-    may_be_given(frame_flags::has_payload(flags), payload)
+    frame_header_rules::parts_fit(header)
+        && may_be_given(frame_flags::has_route(flags), draft.routes)
+        && may_be_given(frame_flags::has_topic(flags), draft.topic)
+        && may_be_given(frame_flags::has_payload(flags), draft.payload)
 }
 
 // Whether there are at most 64 routes of 37 bytes, and each is of the form.
@@ -42,10 +44,7 @@ pub fn parts_agree(header: Header, routes: &[u8], topic: &[u8], payload: &[u8]) 
 pub fn routes_good(routes: &[u8]) -> bool
     ensures { result ≡ routes_good (cut routes.now) }
 {
-    if MOST_ROUTE_BYTES < routes.len() {
-        return false;
-    }
-    if routes.len() % frame_forms::ROUTE != 0 {
+    if MOST_ROUTE_BYTES < routes.len() || routes.len() % frame_forms::ROUTE != 0 {
         return false;
     }
     routes
