@@ -1,10 +1,11 @@
 // How long the parts and the body are that will be written.
-ghost use Rattle.std.specs.Prelude.{◌≡◌, ◌≤◌, ◌%◌, length};
-ghost use Rattle.frame_message.specs.Frame.{body_of};
-ghost use Rattle.frame_message.specs.Writing.{given_message};
+ghost use Rattle.std.specs.Prelude.{◌≡◌, ◌+◌, ◌≤◌, ◌%◌, length};
+ghost use Rattle.frame_message.specs.Frame.{size_bytes, body_of};
+ghost use Rattle.frame_write_given.specs.Drafts.{drafted};
 ghost use Rattle.frame_write_check.specs.Working.{part_length, group_length};
 
-use frame_message::Header;
+use frame_part_size::LONG;
+use frame_write_given::Draft;
 
 // How many bytes the routing group takes: 38 a route, and one for the delimiter.
 fn group_length(given: bool, n: usize) -> usize
@@ -18,26 +19,31 @@ fn group_length(given: bool, n: usize) -> usize
     }
 }
 
-// How many bytes a part of n bytes takes with its size.
+// How many bytes a part of n bytes takes: its size has one byte, or five.
+pub fn length_with_size(n: usize) -> usize
+    requires { n ≤ 32768 }
+    ensures { result ≡ length (size_bytes n) + n }
+{
+    if n < LONG { 1 + n } else { 5 + n }
+}
+
+// How many bytes a part of n bytes takes where it is there.
 fn part_length(given: bool, n: usize) -> usize
     requires { n ≤ 32768 }
     ensures { result ≡ part_length given n }
 {
-    if given {
-        if n < 255 { n + 1 } else { n + 5 }
-    } else {
-        0
-    }
+    if given { length_with_size(n) } else { 0 }
 }
 
 // The body's length, of parts that are short enough for it to be added up.
-pub(crate) fn body_length(header: Header, routes: &[u8], topic: &[u8], payload: &[u8]) -> usize
-    requires routes_len_bound { (length routes.now ≤ 2368) × (length routes.now % 37 ≡ 0) }
-    requires topic_len_bound { (length topic.now ≤ 255) × (length payload.now ≤ 32768) }
-    ensures { result ≡ length (body_of (given_message header routes.now topic.now payload.now)) }
+pub(crate) fn body_length(draft: &Draft) -> usize
+    requires routes_len_bound { (length draft.now.routes.now ≤ 2368) × (length draft.now.routes.now % 37 ≡ 0) }
+    requires topic_len_bound { (length draft.now.topic.now ≤ 255) × (length draft.now.payload.now ≤ 32768) }
+    ensures { result ≡ length (body_of (drafted draft.now)) }
 {
-    let flags = header.flags;
-    let group = group_length(frame_flags::has_route(flags), routes.len());
-    let upto = group + part_length(frame_flags::has_topic(flags), topic.len() + 1);
-    upto + part_length(frame_flags::has_payload(flags), payload.len()) + frame_message::HEADER_PART
+    let flags = draft.header.flags;
+    let group = group_length(frame_flags::has_route(flags), draft.routes.len());
+    let topic = part_length(frame_flags::has_topic(flags), draft.topic.len() + 1);
+    let payload = part_length(frame_flags::has_payload(flags), draft.payload.len());
+    group + topic + payload + frame_message::HEADER_PART
 }

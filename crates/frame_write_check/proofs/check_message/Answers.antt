@@ -1,6 +1,7 @@
 -- The writer's order, at the tests that led to each return.
 use Rattle.std.proofs.Common.{rules, ◌∙◌, not}
-use Rattle.frame_message.specs.Writing.{writing_into, given_message}
+use Rattle.frame_message.specs.Writing.{writing_into}
+use Rattle.frame_write_given.specs.Drafts.{drafted}
 use Rattle.frame_write_check.specs.Working.{measured}
 use Rattle.frame_write_check.proofs.Judging.{Order, order_is, told_type, told_flag, told_parts, told_route, told_topic, told_field, told_rest}
 use Rattle.frame_write_check.proofs.check_message.Goals as goal
@@ -8,10 +9,10 @@ use Rattle.frame_write_check.proofs.check_message.Goals.{After-fields_good-field
 
 -- the six tests, as they are known before any is told: what is written into so much room is the message that is given, or what is left of the
 -- order behind the six tests
-order : (d : After-fields_good-fields) → Order (not d.is_type-typed.result) (not d.are_flags-clear.result) (not d.parts_agree-agree.result) (not d.routes_good-good.result) d.topic_wrong-wrong.result (not d.fields_good-fields.result) (measured d.args.room (given_message d.args.header d.args.routes.now d.args.topic.now d.args.payload.now)) (writing_into d.args.room (given_message d.args.header d.args.routes.now d.args.topic.now d.args.payload.now))
+order : (d : After-fields_good-fields) → Order (not d.is_type-typed.result) (not d.are_flags-clear.result) (not d.parts_agree-agree.result) (not d.routes_good-good.result) d.topic_wrong-wrong.result (not d.fields_good-fields.result) (measured d.args.room (drafted d.args.draft.now)) (writing_into d.args.room (drafted d.args.draft.now))
 order d =
     record {
-      order = order_is d.args.header d.args.routes.now d.args.topic.now d.args.payload.now d.args.room d.is_type-typed.ensures d.are_flags-clear.ensures d.parts_agree-agree.ensures d.routes_good-good.ensures d.topic_wrong-wrong.ensures d.fields_good-fields.ensures;
+      order = order_is d.args.draft.now d.args.room d.is_type-typed.ensures d.are_flags-clear.ensures d.parts_agree-agree.ensures d.routes_good-good.ensures d.topic_wrong-wrong.ensures d.fields_good-fields.ensures;
     }
 
 pub returns-then-not-typed : goal.returns-then-not-typed

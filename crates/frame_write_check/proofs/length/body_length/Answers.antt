@@ -5,5 +5,5 @@ use Rattle.frame_write_check.proofs.length.body_length.Goals as goal
 
 pub returns : goal.returns
 returns c =
-    rw (c.group_length-group.ensures, c.part_length.ensures, c.part_length-2.ensures)
-    (sym (body_length_lem c.args.header c.args.routes.now c.args.topic.now c.args.payload.now c.has_route.ensures c.has_topic.ensures c.has_payload.ensures c.requires.routes_len_bound.1))
+    rw (c.group_length-group.ensures, c.part_length-topic.ensures, c.part_length-payload.ensures)
+    (sym (body_length_lem c.args.draft.now c.has_route.ensures c.has_topic.ensures c.has_payload.ensures c.requires.routes_len_bound.1))
