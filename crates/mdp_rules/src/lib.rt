@@ -2,96 +2,79 @@
 #![tactic(auto)]
 
 ghost use Rattle.std.specs.Prelude.{◌≡◌, cond, ◌&&◌, eqb, leb};
-ghost use Rattle.mdp_command.specs.Command.{is_command, is_work, most_body_parts};
-ghost use Rattle.mdp_rules.specs.WorkingCarried.{carried_by};
+ghost use Rattle.mdp_command.specs.Command.{most_body_parts};
+ghost use Rattle.mdp_command.specs.WorkingSender.{sender_number};
+ghost use Rattle.mdp_rules.specs.WorkingCarried.{named, addressed, bodied, Carrying};
 
-use mdp_command::{CLIENT, MOST_PARTS, WORKER};
+use mdp_command::{MOST_PARTS, Sender};
+use refusal::Refusal;
 
-// A worker's commands that are not work: READY comes in front of these, HEARTBEAT and DISCONNECT behind them.
+// A client's first command and its last.
+const ASKS_FIRST: u8 = 1;
+
+const ASKS_LAST: u8 = 3;
+
+// A worker's commands: READY, then REQUEST, PARTIAL and FINAL, then HEARTBEAT and DISCONNECT.
 const READY: u8 = 1;
 
-const FIRST_WORK: u8 = 2;
+const REQUEST: u8 = 2;
 
-const LAST_WORK: u8 = 4;
+const FINAL: u8 = 4;
 
-// The last command of each sender.
-const CLIENT_LAST: u8 = 3;
+const HEARTBEAT: u8 = 5;
 
-const WORKER_LAST: u8 = 6;
+const DISCONNECT: u8 = 6;
 
-// What a command carries.
-#[derive(Drop)]
-pub struct Carried {
-    pub name: bool,
-    pub address: bool,
-    pub body: bool,
+// What a command carries behind its mark and its number.
+#[derive(Clone, Copy, Debug, PartialEq, Eq)]
+pub enum Carried {
+    NameAndBody,
+    Name,
+    AddressAndBody,
+    Nothing,
 }
 
-// Whether this sender has a command with this number.
-pub fn is_command(sender: u8, code: u8) -> bool
-    ensures { result ≡ is_command sender code }
-{
-    if code == 0 {
-        return false;
+impl Carried {
+    pub fn has_name(self) -> bool
+        ensures { result ≡ named self }
+    {
+        matches!(self, Carried::NameAndBody | Carried::Name)
     }
-    if sender == CLIENT {
-        return code <= CLIENT_LAST;
-    }
-    if sender == WORKER {
-        return code <= WORKER_LAST;
-    }
-    false
-}
 
-// Whether a worker's command is REQUEST, PARTIAL or FINAL.
-fn is_work(code: u8) -> bool
-    ensures { result ≡ is_work code }
-{
-    if code < FIRST_WORK {
-        false
-    } else {
-        code <= LAST_WORK
+    pub fn has_address(self) -> bool
+        ensures { result ≡ addressed self }
+    {
+        matches!(self, Carried::AddressAndBody)
     }
-}
 
-// What a command of this sender with this number carries.
-pub fn carries(sender: u8, code: u8) -> Carried
-    ensures { result ≡ carried_by sender code }
-{
-    if sender == CLIENT {
-        return Carried {
-            name: true,
-            address: false,
-            body: true,
-        };
+    pub fn has_body(self) -> bool
+        ensures { result ≡ bodied self }
+    {
+        matches!(self, Carried::NameAndBody | Carried::AddressAndBody)
     }
-    let ready = code == READY;
-    let work = is_work(code);
-    if sender == WORKER {
-        Carried {
-            name: ready,
-            address: work,
-            body: work,
-        }
-    } else {
-        Carried {
-            name: ready,
-            address: false,
-            body: work,
+
+    // 34: one or more body parts where the command has a body, and none where it has not.
+    pub fn body_fits(self, parts: usize) -> bool
+        ensures { result ≡ cond (bodied self) (leb 1 parts && leb parts most_body_parts) (eqb parts 0) }
+    {
+        if self.has_body() {
+            1 <= parts && parts <= MOST_PARTS
+        } else {
+            parts == 0
         }
     }
 }
 
-// 34: one or more body parts where the command has a body, and none where it has not.
-pub fn body_fits(body: bool, parts: usize) -> bool
-    ensures { result ≡ cond body (leb 1 parts && leb parts most_body_parts) (eqb parts 0) }
+// What a command of this sender with this number carries; 33 where there is no such command.
+#[tactic(auto, unfolding(mdp_command::specs::Command::is_command, mdp_command::specs::Command::has_name, mdp_command::specs::Command::has_address, mdp_command::specs::Command::has_body))]
+pub fn carries(sender: Sender, code: u8) -> Result<Carried, Refusal>
+    ensures { Carrying (sender_number sender) code result }
 {
-    if body {
-        if parts == 0 {
-            return false;
-        }
-        parts <= MOST_PARTS
-    } else {
-        parts == 0
+    match (sender, code) {
+        (Sender::Client, ASKS_FIRST..=ASKS_LAST) => Ok(Carried::NameAndBody),
+        (Sender::Worker, READY) => Ok(Carried::Name),
+        (Sender::Worker, REQUEST..=FINAL) => Ok(Carried::AddressAndBody),
+        (Sender::Worker, HEARTBEAT..=DISCONNECT) => Ok(Carried::Nothing),
+        _ => Err(Refusal::CommandWrong),
     }
 }
