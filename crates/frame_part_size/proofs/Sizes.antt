@@ -1,6 +1,6 @@
 -- The size in front of a part: a law for each of its cases.
 use mathlib.Core.Path.{◌≡◌, refl, sym, ap, ◌∙◌}
-use Prim.Native.Nat.{ℕ, suc, ◌-◌, ◌<◌, ◌≤◌}
+use Prim.Native.Nat.{ℕ, suc, ◌+◌, ◌<◌, ◌≤◌}
 use mathlib.Core.List.{List, [], ◌∷◌}
 use native.Mathlib.Omega.{arith}
 use borrow.Author.Tests.{lt-ltb, le-ltb}
@@ -12,9 +12,9 @@ use Rattle.refusal.specs.declared.Refusal.TheVariants.{PartWrong}
 use Rattle.refusal.specs.Answer.{refused, answered}
 use Rattle.frame_message.specs.Frame.{size_bytes}
 use Rattle.frame_message.specs.Reading.{first_part}
-use Rattle.std.specs.Prelude.{Some, None}
+use Rattle.std.specs.Prelude.{Some, None, slice_get}
 use Rattle.frame_message.specs.declared.Stretch.{Stretch}
-use Rattle.frame_part_size.specs.WorkingSizes.{sized_as, size_at}
+use Rattle.frame_part_size.specs.WorkingSizes.{data_at, sized_as, size_at}
 
 -- ---- the part itself
 
@@ -55,39 +55,57 @@ pub size_none : (s : List ℕ) → length s ≡ 0 → None ≡ size_at s
 size_none [] h = refl
 size_none (x ∷ xs) h = absurd (omega arith)
 
--- the size byte is below 255
-pub size_short_passes : (s : List ℕ) → 0 < length s → get_or s 0 0 < 255 → length s - 1 < get_or s 0 0 → None ≡ size_at s
-size_short_passes [] p h k = absurd (omega arith)
-size_short_passes (x ∷ xs) p h k = rw (short_passes x xs h (omega arith))
+no_data : {A : Type 0} {x : A} → None ≡ Some x → ⊥
+no_data e = let z : ◌≡◌ {A = ℕ} 0 1 = cc in omega arith
 
-pub size_short : (s : List ℕ) → 0 < length s → get_or s 0 0 < 255 → get_or s 0 0 ≤ length s - 1 → Some (record { start = 1; len = get_or s 0 0 }) ≡ size_at s
-size_short [] p h k = absurd (omega arith)
-size_short (x ∷ xs) p h k =
-    let fits : x ≤ length xs = omega arith in
-    rw (short_cut x xs h fits, length-take-le x xs fits, sized_short x h)
+-- there is a first byte
+pub first_byte : (s : List ℕ) {x : ℕ} → Some x ≡ slice_get s 0 → (0 < length s) × (x ≡ get_or s 0 0)
+first_byte [] e = absurd (no_data (sym e))
+first_byte (y ∷ xs) e = (omega arith, cc)
+
+-- the size byte is below 255
+pub size_short : (s : List ℕ) (n : ℕ) → 0 < length s → n ≡ get_or s 0 0 → n < 255 → data_at (length s) 1 n ≡ size_at s
+size_short [] n p e h = absurd (omega arith)
+size_short (x ∷ xs) n p e h = go (dec_lt (length xs) x)
+  where
+    small : x < 255
+    small = omega arith
+
+    go : Dec (length xs < x) → data_at (suc (length xs)) 1 n ≡ size_at (x ∷ xs)
+    go (yes k) = rw (e, short_passes x xs small k, lt-ltb (suc (length xs)) (1 + x) (omega arith))
+    go (no k) =
+        let fits : x ≤ length xs = omega arith in
+        rw (e, short_cut x xs small fits, length-take-le x xs fits, sized_short x small, le-ltb (suc (length xs)) (1 + x) (omega arith))
 
 -- it is 255, and the size has four bytes more: n is the number in them
-pub size_cut : (s : List ℕ) → 0 < length s → 255 ≤ get_or s 0 0 → length s - 1 < 4 → None ≡ size_at s
-size_cut [] p h k = absurd (omega arith)
-size_cut (x ∷ xs) p h k = rw (no_size x xs h (omega arith))
+module _ (x : ℕ) (xs : List ℕ) (n : ℕ) (e : n ≡ number xs) (h : 255 ≤ x) where
+  long_small : n < 255 → first_part x xs ≡ refused PartWrong
+  long_small l = go (dec_lt (length xs) 4)
+    where
+      go : Dec (length xs < 4) → first_part x xs ≡ refused PartWrong
+      go (yes k) = no_size x xs h k
+      go (no k) = small_size x xs h (omega arith) (rw e at l)
 
-pub size_small : (s : List ℕ) (n : ℕ) → 255 ≤ get_or s 0 0 → 4 ≤ length s - 1 → n ≡ number (drop 1 s) → n < 255 → None ≡ size_at s
-size_small [] n h k e l = absurd (omega arith)
-size_small (x ∷ xs) n h k e l = rw (small_size x xs h (omega arith) (rw e at l))
+  long_data : 255 ≤ n → data_at (suc (length xs)) 5 n ≡ size_at (x ∷ xs)
+  long_data l = go (dec_lt (length xs) (4 + n))
+    where
+      short : length xs < 4 + n → Dec (length xs < 4) → first_part x xs ≡ refused PartWrong
+      short m (yes k) = no_size x xs h k
+      short m (no k) = long_passes x xs h (omega arith) (rw e at l) (omega (arith, length-drop 4 xs, e))
 
-pub size_long_passes : (s : List ℕ) (n : ℕ) → 255 ≤ get_or s 0 0 → 4 ≤ length s - 1 → n ≡ number (drop 1 s) → 255 ≤ n → length s - 1 - 4 < n → None ≡ size_at s
-size_long_passes [] n h k e l m = absurd (omega arith)
-size_long_passes (x ∷ xs) n h k e l m = rw (long_passes x xs h (omega arith) (rw e at l) (simp length-drop (rw e at (left m))))
-  where
-    left : suc (length xs) - 1 - 4 < n → length xs - 4 < n
-    left m = omega arith
+      go : Dec (length xs < 4 + n) → data_at (suc (length xs)) 5 n ≡ size_at (x ∷ xs)
+      go (yes m) = rw (short m (dec_lt (length xs) 4), lt-ltb (suc (length xs)) (5 + n) (omega arith))
+      go (no m) =
+          let fits : number xs ≤ length (drop 4 xs) = omega (arith, length-drop 4 xs, e) in
+          rw (le-ltb (suc (length xs)) (5 + n) (omega arith), long_cut x xs h (omega arith) (rw e at l) fits, length-take-le (number xs) (drop 4 xs) fits, sized_long (number xs) (rw e at l), e)
 
-pub size_long : (s : List ℕ) (n : ℕ) → 255 ≤ get_or s 0 0 → 4 ≤ length s - 1 → n ≡ number (drop 1 s) → 255 ≤ n → n ≤ length s - 1 - 4 → Some (record { start = 5; len = n }) ≡ size_at s
-size_long [] n h k e l m = absurd (omega arith)
-size_long (x ∷ xs) n h k e l m =
-    let four : 4 ≤ length xs = omega arith in
-    let fits : number xs ≤ length (drop 4 xs) = simp length-drop (omega arith) in
-    rw (long_cut x xs h four (rw e at l) fits, length-take-le (number xs) (drop 4 xs) fits, sized_long (number xs) (rw e at l), e)
+pub size_small : (s : List ℕ) (n : ℕ) → n ≡ number (drop 1 s) → 255 ≤ get_or s 0 0 → n < 255 → None ≡ size_at s
+size_small [] n e h l = absurd (omega arith)
+size_small (x ∷ xs) n e h l = rw (long_small x xs n e h l)
+
+pub size_long : (s : List ℕ) (n : ℕ) → n ≡ number (drop 1 s) → 255 ≤ get_or s 0 0 → 255 ≤ n → data_at (length s) 5 n ≡ size_at s
+size_long [] n e h l = absurd (omega arith)
+size_long (x ∷ xs) n e h l = long_data x xs n e h l
 
 -- ---- the other way: what the size tells of the part
 
@@ -118,9 +136,6 @@ first_case x xs = short (dec_lt x 255)
     short : Dec (x < 255) → FirstCase x xs
     short (yes h) = short_fits h (dec_lt (length xs) x)
     short (no h) = long (omega arith) (dec_lt (length xs) 4)
-
-no_data : {size : Stretch} → None ≡ Some size → ⊥
-no_data e = let z : ◌≡◌ {A = ℕ} 0 1 = cc in omega arith
 
 pub part_wrong : (x : ℕ) (xs : List ℕ) → None ≡ sized_as (first_part x xs) → first_part x xs ≡ refused PartWrong
 part_wrong x xs e = go (first_case x xs)

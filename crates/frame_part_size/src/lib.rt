@@ -1,44 +1,36 @@
 // The size in front of a part.
 #![tactic(auto)]
 
-ghost use Rattle.std.specs.Prelude.{◌≡◌};
-ghost use Rattle.frame_part_size.specs.WorkingSizes.{size_at};
+ghost use Rattle.std.specs.Prelude.{◌≡◌, ◌+◌, ◌^◌, ◌<◌, length};
+ghost use Rattle.frame_part_size.specs.WorkingSizes.{data_at, size_at};
 
 use frame_message::Stretch;
 
 // A part of so many bytes or more has a size of five bytes, the first of which is this.
 pub const LONG: usize = 255;
 
+// The data of so many bytes behind a part's size; None where s has fewer.
+fn data_at(s: &[u8], start: usize, len: usize) -> Option<Stretch>
+    requires { start + len < 2 ^ 64 }
+    ensures { result ≡ data_at (length s.now) start len }
+{
+    if s.len() < start + len {
+        return None;
+    }
+    Some(Stretch { start, len })
+}
+
 // Where the data of the part that begins s lies, counted from its size byte; None where its size is wrong.
 pub fn size_at(s: &[u8]) -> Option<Stretch>
     ensures { result ≡ size_at s.now }
 {
-    if s.len() == 0 {
-        return None;
-    }
-    let short = usize::from(s[0]);
-    let behind = s.len() - 1;
+    let short = usize::from(*s.first()?);
     if short < LONG {
-        if behind < short {
-            return None;
-        }
-        return Some(Stretch {
-            start: 1,
-            len: short,
-        });
-    }
-    if behind < 4 {
-        return None;
+        return data_at(s, 1, short);
     }
     let long = bytes_number::number_at(s, 1) as usize;
     if long < LONG {
         return None;
     }
-    if behind - 4 < long {
-        return None;
-    }
-    Some(Stretch {
-        start: 5,
-        len: long,
-    })
+    data_at(s, 5, long)
 }
