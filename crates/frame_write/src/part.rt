@@ -17,10 +17,8 @@ fn write_routes(out: &mut [u8], routes: &[u8]) -> usize
     ensures { Lays (joined (cut routes.now)) out.old out.new result }
 {
     let mut at = 0;
-    let mut i = 0;
-    while i < routes.len() {
-        at += write_part(&mut out[at..], &routes[i..i + frame_forms::ROUTE]);
-        i += frame_forms::ROUTE;
+    for route in routes.chunks_exact(frame_forms::ROUTE) {
+        at += write_part(&mut out[at..], route);
     }
     at
 }

@@ -13,11 +13,11 @@ use Rattle.frame_message.specs.Writing.{cut, all_routes}
 use Rattle.frame_write_given.proofs.Cuts.{cut_more}
 
 -- a route in front of others
-pub cut_front : (r xs : List ℕ) → length r ≡ 37 → cut (r ++ xs) ≡ r ∷ cut xs
+cut_front : (r xs : List ℕ) → length r ≡ 37 → cut (r ++ xs) ≡ r ∷ cut xs
 cut_front r xs e =
     rw (cut_more (r ++ xs) (omega (arith, length-append r xs)), take_at r xs 37 e, drop_at r xs 37 e)
 
-pub cut_none : (xs : List ℕ) → length xs < 37 → length xs % 37 ≡ 0 → length (cut xs) ≡ 0
+cut_none : (xs : List ℕ) → length xs < 37 → length xs % 37 ≡ 0 → cut xs ≡ []
 cut_none [] h e = refl
 cut_none (x ∷ xs) h e = absurd (omega arith)
 
@@ -26,19 +26,25 @@ pub record Whole (s : ChunksExact ℕ) : Type 0 where
   pub size : chunks_exact_size s ≡ 37
   pub whole : length (chunks_exact_rest s) % 37 ≡ 0
 
-pub routes_yielded : (s : ChunksExact ℕ) → Whole s → {xs : List ℕ} → chunks_exact_rest s ≡ xs → YieldsList (chunks_exact_steps {A = ℕ}) (λ x. x.now) s (cut xs)
-routes_yielded s w e = subst (λ (xs : List ℕ). YieldsList (chunks_exact_steps {A = ℕ}) (λ x. x.now) s (cut xs)) e
-    (YieldsList-from_shown_while (chunks_exact_steps {A = ℕ}) (λ x. x.now) (λ u. cut (chunks_exact_rest u)) Whole none some s w)
-  where
-    none : (s t : ChunksExact ℕ) → Whole s → chunks_exact_steps s None t → length (cut (chunks_exact_rest s)) ≡ 0
-    none s t w h = cut_none (chunks_exact_rest s) (omega (arith, h.1.0, w.size)) w.whole
+module _ {s t : ChunksExact ℕ} (w : Whole s) where
+  -- one is yielded
+  pub whole_more : (x : Bor (List ℕ)) → chunks_exact_steps s (Some x) t → Whole t × (cut (chunks_exact_rest s) ≡ x.now ∷ cut (chunks_exact_rest t))
+  whole_more x h =
+      let wide : length x.now ≡ 37 = h.1.1 ∙ w.size in
+      (
+        record { size = h.0 ∙ w.size; whole = omega (arith, length-append x.now (chunks_exact_rest t), ap length h.1.0, w.whole, wide) },
+        ap cut h.1.0 ∙ cut_front x.now (chunks_exact_rest t) wide
+      )
 
-    some : (s : ChunksExact ℕ) (x : Bor (List ℕ)) (t : ChunksExact ℕ) → Whole s → chunks_exact_steps s (Some x) t → Whole t × (cut (chunks_exact_rest s) ≡ x.now ∷ cut (chunks_exact_rest t))
-    some s x t w h =
-        let wide : length x.now ≡ 37 = h.1.1 ∙ w.size in (
-          record { size = h.0 ∙ w.size; whole = omega (arith, length-append x.now (chunks_exact_rest t), ap length h.1.0, w.whole, wide) },
-          ap cut h.1.0 ∙ cut_front x.now (chunks_exact_rest t) wide,
-        )
+  -- or none is left
+  pub whole_none : chunks_exact_steps s None t → cut (chunks_exact_rest s) ≡ []
+  whole_none h = cut_none (chunks_exact_rest s) (omega (arith, h.1.0, w.size)) w.whole
+
+-- all that are yielded
+pub routes_yielded : (s : ChunksExact ℕ) → Whole s → {xs : List ℕ} → chunks_exact_rest s ≡ xs → YieldsList (chunks_exact_steps {A = ℕ}) (λ x. x.now) s (cut xs)
+routes_yielded s w e =
+    subst (λ (xs : List ℕ). YieldsList (chunks_exact_steps {A = ℕ}) (λ x. x.now) s (cut xs)) e
+    (YieldsList-from_shown_while (chunks_exact_steps {A = ℕ}) (λ x. x.now) (λ u. cut (chunks_exact_rest u)) Whole (λ s t w h. ap length (whole_none w h)) (λ s x t w h. whole_more w x h) s w)
 
 -- whether all of them are of the form, by what `all` says of each
 all_good : (rs : List (List ℕ)) → AllWithin (λ r. is_route r ≡ true) rs 0 (length rs) → true ≡ all_routes rs

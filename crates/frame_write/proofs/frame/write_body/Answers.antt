@@ -7,25 +7,25 @@ use Rattle.frame_write_check.proofs.Bodies.{body_parts}
 use Rattle.frame_write.proofs.Bodies.{Room, group_fits, topic_fits, payload_fits, header_fits}
 use Rattle.frame_write.proofs.frame.write_body.Goals as goal
 
-pub write_group-topic_at-requires-clause-routes_in_bounds : goal.write_group-topic_at-requires-clause-routes_in_bounds
-write_group-topic_at-requires-clause-routes_in_bounds c =
-    let room : Room c.args.header c.args.routes.now c.args.topic.now c.args.payload.now (length c.args.out.now) = record { body = c.requires.payload_in_bounds } in
+pub write_group-at-requires-clause-routes_in_bounds : goal.write_group-at-requires-clause-routes_in_bounds
+write_group-at-requires-clause-routes_in_bounds c =
+    let room : Room c.args.draft.now (length c.args.out.now) = record { body = c.requires.payload_in_bounds } in
     group_fits room c.has_route.ensures refl refl
 
-pub write_topic-requires-clause-topic_in_bounds : goal.write_topic-requires-clause-topic_in_bounds
-write_topic-requires-clause-topic_in_bounds c =
-    let room : Room c.args.header c.args.routes.now c.args.topic.now c.args.payload.now (length c.args.out.now) = record { body = c.requires.payload_in_bounds } in
-    lays_rest c.write_group-topic_at.ensures _ (topic_fits room c.has_route.ensures c.has_topic.ensures refl)
+pub write_topic-at-requires-clause-topic_in_bounds : goal.write_topic-at-requires-clause-topic_in_bounds
+write_topic-at-requires-clause-topic_in_bounds c =
+    let room : Room c.args.draft.now (length c.args.out.now) = record { body = c.requires.payload_in_bounds } in
+    lays_rest c.write_group-at.ensures _ (topic_fits room c.has_route.ensures c.has_topic.ensures refl)
 
-pub write_payload-requires : goal.write_payload-requires
-write_payload-requires c =
-    let room : Room c.args.header c.args.routes.now c.args.topic.now c.args.payload.now (length c.args.out.now) = record { body = c.requires.payload_in_bounds } in
-    lays_rest (lays_more c.write_group-topic_at.ensures c.write_topic.ensures) _ (payload_fits room c.has_route.ensures c.has_topic.ensures c.has_payload.ensures)
+pub write_payload-at-requires : goal.write_payload-at-requires
+write_payload-at-requires c =
+    let room : Room c.args.draft.now (length c.args.out.now) = record { body = c.requires.payload_in_bounds } in
+    lays_rest (lays_more c.write_group-at.ensures c.write_topic-at.ensures) _ (payload_fits room c.has_route.ensures c.has_topic.ensures c.has_payload.ensures)
 
 pub returns : goal.returns
 returns c =
-    let room : Room c.args.header c.args.routes.now c.args.topic.now c.args.payload.now (length c.args.out.now) = record { body = c.requires.payload_in_bounds } in
-    let laid = lays_more (lays_more c.write_group-topic_at.ensures c.write_topic.ensures) c.write_payload.ensures in
-    let fits = lays_rest laid (part_bytes (header_bytes c.args.header)) (header_fits room c.has_route.ensures c.has_topic.ensures c.has_payload.ensures) in
-    rw (body_parts c.args.header c.args.routes.now c.args.topic.now c.args.payload.now c.has_route.ensures c.has_topic.ensures c.has_payload.ensures)
+    let room : Room c.args.draft.now (length c.args.out.now) = record { body = c.requires.payload_in_bounds } in
+    let laid = lays_more (lays_more c.write_group-at.ensures c.write_topic-at.ensures) c.write_payload-at.ensures in
+    let fits = lays_rest laid (part_bytes (header_bytes c.args.draft.now.header)) (header_fits room c.has_route.ensures c.has_topic.ensures c.has_payload.ensures) in
+    rw (body_parts c.args.draft.now c.has_route.ensures c.has_topic.ensures c.has_payload.ensures)
     (lays_more laid (lays_counted fits c.write_header.ensures.value c.write_header.ensures.out_after))
