@@ -1,6 +1,6 @@
 -- Laws on the routes that are laid one at a time: the parts of those in front are laid, and with the parts of those that are left they are
 -- the parts of all.
-use Rattle.std.proofs.Common.{arith, ◌≡◌, ◌∙◌, refl, sym, ap, ℕ, ◌+◌, ◌-◌, ◌%◌, ◌<◌, ◌≤◌, List, [], ◌∷◌, ◌++◌, append_assoc, length, length-append, Bor, Some, None}
+use Rattle.std.proofs.Common.{arith, ◌≡◌, ◌∙◌, sym, ap, ℕ, ◌+◌, ◌-◌, ◌≤◌, List, [], ◌++◌, append_assoc, length, length-append, Bor, Some, None}
 use mathlib.Core.List.{append-nil}
 use borrow.Rule.Slice.PartMut.{mid_of, put_mid}
 use Rattle.std.specs.declared.slice.ChunksExact.{ChunksExact}
@@ -8,7 +8,7 @@ use Rattle.std.specs.Slice.Iter.{chunks_exact_rest, chunks_exact_steps}
 use Rattle.frame_message.specs.Frame.{part_bytes, joined}
 use Rattle.frame_message.specs.Writing.{cut}
 use Rattle.bytes_number.specs.WorkingLays.{Lays}
-use Rattle.bytes_number.proofs.Laying.{lays_none, lays_more, lays_length, lays_rest}
+use Rattle.bytes_number.proofs.Laying.{lays_none, lays_more, lays_length}
 use Rattle.frame_write_given.proofs.Chunks.{Whole, whole_more, whole_none}
 
 -- so many bytes are laid, and these routes are still to be yielded

@@ -7,6 +7,7 @@ ghost use Rattle.frame_write_given.specs.Drafts.{drafted};
 
 use crate::part;
 use frame_message::{FRONT, START};
+use frame_part_write::write_part_if;
 use frame_write_given::Draft;
 
 // The body: the routing group, the topic, the payload, and the header, which is always last.
@@ -19,7 +20,11 @@ fn write_body(out: &mut [u8], draft: &Draft) -> usize
     let flags = header.flags;
     let mut at = part::write_group(out, frame_flags::has_route(flags), draft.routes);
     at += part::write_topic(&mut out[at..], frame_flags::has_topic(flags), draft.topic);
-    at += part::write_payload(&mut out[at..], frame_flags::has_payload(flags), draft.payload);
+    at += write_part_if(
+        &mut out[at..],
+        frame_flags::has_payload(flags),
+        draft.payload,
+    );
     at + frame_header::write_header(&mut out[at..], header)
 }
 

@@ -62,11 +62,3 @@ pub(crate) fn write_topic(out: &mut [u8], given: bool, topic: &[u8]) -> usize
         0
     }
 }
-
-// The payload, where there is one.
-pub(crate) fn write_payload(out: &mut [u8], given: bool, payload: &[u8]) -> usize
-    requires { length (joined (part_if given payload.now)) ≤ length out.old }
-    ensures { Lays (joined (part_if given payload.now)) out.old out.new result }
-{
-    if given { write_part(out, payload) } else { 0 }
-}
