@@ -31,10 +31,11 @@ pub fn find_body(bytes: &[u8]) -> Result<&[u8], Refusal>
     if frame_message::MOST_BODY < size {
         return Err(Refusal::BodyLong);
     }
-    if bytes.len() < FRONT + size {
+    let end = FRONT + size;
+    if bytes.len() < end {
         return Err(Refusal::InputShort);
     }
-    Ok(&bytes[FRONT..FRONT + size])
+    Ok(&bytes[FRONT..end])
 }
 
 // Reads the frame at the front of bytes. What lies behind it is ignored.

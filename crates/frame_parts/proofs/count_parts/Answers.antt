@@ -16,12 +16,12 @@ pub loop-at-init : goal.loop-at-init
 loop-at-init c = passed_none c.args.most c.args.body.now
 
 pub returns-then-counts-most : goal.returns-then-counts-most
-returns-then-counts-most c = passed_many c.loop-at.invariant c.loop-at-test.true c.if-counts-most.true
+returns-then-counts-most c = passed_many c.loop-at.invariant c.loop-at-test.true (omega arith)
 
 -- there was room for the part whose size is wrong: 5 comes before its size is read
 pub returns-in_default : goal.returns-in_default
 returns-in_default c =
-    passed_wrong c.loop-at.invariant c.loop-at-test.true c.if-counts-most.false (found c.args.body.now c.loop-at.at c.in_default.ensures)
+    passed_wrong c.loop-at.invariant c.loop-at-test.true (λ e. omega arith) (found c.args.body.now c.loop-at.at c.in_default.ensures)
 
 pub overflow_add-next-in-loop-at : goal.overflow_add-next-in-loop-at
 overflow_add-next-in-loop-at c =
@@ -33,7 +33,7 @@ pub loop-at-preserved : goal.loop-at-preserved
 loop-at-preserved c =
     let size = found c.args.body.now c.loop-at.at c.in-Some.ensures in
     let bytes = bytes_of_lem c.args.body.now (λ i. (c.type_inv.body i).fits) in
-    let room : c.loop-at.counts.count ≡ c.args.most → ⊥ = c.if-counts-most.false in
+    let room : c.loop-at.counts.count ≡ c.args.most → ⊥ = λ e. omega arith in
     elim c.if-counts.branch [
       | then-counts+then-size-ne0 w ↦
           passed_none_empty c.loop-at.invariant c.loop-at-test.true bytes size room (omega (arith, ap (λ (k : PartCounts). k.count) w.counts-is)) w.if-counts.true w.if-size-ne0.true

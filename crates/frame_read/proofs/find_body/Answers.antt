@@ -15,8 +15,8 @@ returns-then-size-gt-MOST_BODY c =
     let start = sym c.starts_right.ensures ∙ c.if-not-starts_right.false in
     record { early = omega arith; refuses = open_long c.args.bytes.now (omega arith) start _ c.number_at-size.ensures (omega arith) }
 
-pub returns-then-bytes-size : goal.returns-then-bytes-size
-returns-then-bytes-size c =
+pub returns-then-bytes-end : goal.returns-then-bytes-end
+returns-then-bytes-end c =
     let start = sym c.starts_right.ensures ∙ c.if-not-starts_right.false in
     record { early = omega arith; refuses = open_cut c.args.bytes.now (omega arith) start _ c.number_at-size.ensures (omega arith) (omega arith) }
 
