@@ -17,10 +17,12 @@ use Rattle.frame_forms.proofs.Routes as forms
 use Rattle.frame_parts.proofs.Passing.{part_has_size}
 use Rattle.frame_message.proofs.Lists.{Each}
 use Rattle.frame_message.proofs.Parts.{Sized, first_join}
-use Rattle.frame_part_size.specs.declared.Size.TheVariants.{Wrong, Data}
+use Rattle.std.specs.Prelude.{Some, None, Result, Ok, Err}
+use Rattle.refusal.specs.declared.Refusal.{Refusal}
+use Rattle.frame_message.specs.declared.Stretch.{Stretch}
+use native.Mathlib.Decide.{dec_lt}
 use Rattle.frame_part_size.specs.WorkingSizes.{size_at}
-use Rattle.mdp_command.specs.declared.CommandReading.{CommandReading}
-use Rattle.mdp_command.specs.declared.CommandReading.TheVariants.{Refused, Accepted}
+use Rattle.mdp_command.specs.declared.CommandPlaces.{CommandPlaces}
 use Rattle.mdp_command.specs.Command.{Command, has_name, has_address, has_body, is_command_name}
 use Rattle.mdp_command.specs.CommandBytes.{mark_of}
 use Rattle.mdp_command.specs.CommandWriting.{body_fits}
@@ -66,7 +68,7 @@ some_first [] h = absurd (omega arith)
 some_first (p ∷ ps) h = record { first = p; others = ps; is = refl }
 
 -- the size of a part tells where its data starts and how long it is
-size_of : (p rest : List ℕ) → Sized p → size_at (part_bytes p ++ rest) ≡ Data (length (size_bytes (length p))) (length p)
+size_of : (p rest : List ℕ) → Sized p → size_at (part_bytes p ++ rest) ≡ Some (stretch_of (length (size_bytes (length p))) (length p))
 size_of p rest h = let first = first_join p rest h in rw (first.same, first.read)
 
 no_route : (p : List ℕ) → (length p ≡ 37 → ⊥) → is_route p ≡ false
@@ -88,7 +90,7 @@ module _ {b : List ℕ} {count sender code : ℕ} (o : OpenedAs b count sender c
   f : Fore b count sender code
   f = fore o
 
-  abbrev Says : CommandReading → Type 0
+  abbrev Says : Result CommandPlaces Refusal → Type 0
   Says r = r ≡ command_read_as (command_as sender code (parts_there b))
 
   -- what is judged of the parts behind the first two
@@ -105,10 +107,10 @@ module _ {b : List ℕ} {count sender code : ℕ} (o : OpenedAs b count sender c
     k : Carries sender code true false (has_body sender code)
     k = carries_name f.kind named
 
-    pub named_few : count < 3 → Says (Refused PartCountWrong)
+    named_few : count < 3 → Says (Err PartCountWrong)
     named_few h = go f.rest refl (omega (arith, f.many))
       where
-        go : (rest : List (List ℕ)) → f.rest ≡ rest → length rest < 1 → Says (Refused PartCountWrong)
+        go : (rest : List (List ℕ)) → f.rest ≡ rest → length rest < 1 → Says (Err PartCountWrong)
         go [] e l = says (refused PartCountWrong) e (named_short sender code k (mark_of sender) (code ∷ []))
         go (p ∷ ps) e l = absurd (omega arith)
 
@@ -128,7 +130,7 @@ module _ {b : List ℕ} {count sender code : ℕ} (o : OpenedAs b count sender c
       abbrev judges : Answer Command → Type 0
       judges a = command_as sender code (mark_of sender ∷ (code ∷ []) ∷ name ∷ body) ≡ a
 
-      pub named_unfit : body_fits sender code (count - 3) ≡ false → Says (Refused PartCountWrong)
+      named_unfit : body_fits sender code (count - 3) ≡ false → Says (Err PartCountWrong)
       named_unfit h =
           let none : body_fits sender code (length body) ≡ false = rw counts at h in
           let j : judges (refused PartCountWrong) = named_judged sender code k (mark_of sender) (code ∷ []) name body ∙ rw none in
@@ -137,21 +139,27 @@ module _ {b : List ℕ} {count sender code : ℕ} (o : OpenedAs b count sender c
       third : drop 9 b ≡ part_bytes name ++ joined body
       third = f.behind ∙ ap joined t.is
 
-      size : size_at (drop 9 b) ≡ Data (length (size_bytes (length name))) (length name)
+      size : size_at (drop 9 b) ≡ Some (stretch_of (length (size_bytes (length name))) (length name))
       size =
           let sized = subst (λ (qs : List (List ℕ)). Each Sized qs) t.is f.sized in
           ap size_at third ∙ size_of name (joined body) sized.0
 
       -- its size was found right when the parts were counted
-      pub named_right : Wrong ≡ size_at (drop 9 b) → ⊥
+      pub named_right : None ≡ size_at (drop 9 b) → ⊥
       named_right e = let z : true ≡ false = cc (e ∙ size) in true_false z
 
-      module _ {start len : ℕ} (told : Data start len ≡ size_at (drop 9 b)) where
+      module _ {told : Stretch} (finds : Some told ≡ size_at (drop 9 b)) where
+        abbrev start : ℕ
+        start = told.start
+
+        abbrev len : ℕ
+        len = told.len
+
         starts : start ≡ length (size_bytes (length name))
-        starts = cc (told ∙ size)
+        starts = cc (finds ∙ size)
 
         long : len ≡ length name
-        long = cc (told ∙ size)
+        long = cc (finds ∙ size)
 
         ends : 9 + start + len + length (joined body) ≡ length b
         ends = omega (arith, f.long, ap (λ (qs : List (List ℕ)). length (joined qs)) t.is, length-append (part_bytes name) (joined body), length-append (size_bytes (length name)) name, starts, long)
@@ -166,30 +174,37 @@ module _ {b : List ℕ} {count sender code : ℕ} (o : OpenedAs b count sender c
             (take_at name (joined body) (length name) refl)
 
         module _ (fits : body_fits sender code (count - 3) ≡ true) where
-          pub named_bad : is_command_name (take (9 + start + len - (9 + start)) (drop (9 + start) b)) ≡ false → Says (Refused NameWrong)
+          pub named_bad : is_command_name (take (9 + start + len - (9 + start)) (drop (9 + start) b)) ≡ false → Says (Err NameWrong)
           named_bad h =
               let some : body_fits sender code (length body) ≡ true = rw counts at fits in
               let none : is_command_name name ≡ false = rw there at h in
               let j : judges (refused NameWrong) = named_judged sender code k (mark_of sender) (code ∷ []) name body ∙ rw (some, none) in
               says (refused NameWrong) t.is j
 
-          pub named_good : is_command_name (take (9 + start + len - (9 + start)) (drop (9 + start) b)) ≡ true → {has : Bool} → has ≡ has_body sender code → {at : ℕ} → at ≡ cond has (9 + start + len) 0 →
-              Says (Accepted (places_at sender code (stretch_of (9 + start) len) 0 (stretch_of at (length b - (9 + start + len))) (count - 3)))
-          named_good h {has} e {at} a =
+          pub named_good : is_command_name (take (9 + start + len - (9 + start)) (drop (9 + start) b)) ≡ true → {has : Bool} → has ≡ has_body sender code → {parts : ℕ} → parts ≡ count - 3 →
+              Says (Ok (places_at sender code (stretch_of (9 + start) len) 0 (stretch_of (cond has (9 + start + len) 0) (length b - (9 + start + len))) parts))
+          named_good h {has} e {parts} p =
               let some : body_fits sender code (length body) ≡ true = rw counts at fits in
               let good : is_command_name name ≡ true = rw there at h in
               let c = holding sender code name [] body in
               let j : judges (answered c) = named_judged sender code k (mark_of sender) (code ∷ []) name body ∙ rw (some, good) in
               let left : length b - (9 + start + len) ≡ length (joined body) = omega (arith, ends) in
-              let places : places_at sender code (stretch_of (9 + start) len) 0 (stretch_of at (length b - (9 + start + len))) (count - 3) ≡ places_of c =
-              rw (left, counts, a, e, starts, long) (sym (named_places sender code f.kind k name body)) in
-              ap Accepted places ∙ says (answered c) t.is j
+              let places : places_at sender code (stretch_of (9 + start) len) 0 (stretch_of (cond has (9 + start + len) 0) (length b - (9 + start + len))) parts ≡ places_of c =
+              rw (left, p, counts, e, starts, long) (sym (named_places sender code f.kind k name body)) in
+              ap Ok places ∙ says (answered c) t.is j
+
+    pub named_uncounted : (3 ≤ count → body_fits sender code (count - 3) ≡ false) → Says (Err PartCountWrong)
+    named_uncounted h = go (dec_lt count 3)
+      where
+        go : Dec (count < 3) → Says (Err PartCountWrong)
+        go (yes few) = named_few few
+        go (no n) = named_unfit (omega arith) (h (omega arith))
 
   module _ (unnamed : has_name sender code ≡ false) (addressed : has_address sender code ≡ true) where
     w : Carries sender code false true true
     w = carries_address f.kind unnamed addressed
 
-    pub addressed_few : count < 4 → Says (Refused PartCountWrong)
+    addressed_few : count < 4 → Says (Err PartCountWrong)
     addressed_few h = says (refused PartCountWrong) refl (addressed_short sender code w (mark_of sender) (code ∷ []) f.rest (omega (arith, f.many)))
 
     module _ (enough : 4 ≤ count) where
@@ -217,7 +232,7 @@ module _ {b : List ℕ} {count sender code : ℕ} (o : OpenedAs b count sender c
       abbrev rules : Answer Command → Type 0
       rules r = command_as sender code (mark_of sender ∷ (code ∷ []) ∷ address ∷ gap ∷ work) ≡ r
 
-      pub addressed_unfit : body_fits sender code (count - 4) ≡ false → Says (Refused PartCountWrong)
+      addressed_unfit : body_fits sender code (count - 4) ≡ false → Says (Err PartCountWrong)
       addressed_unfit h =
           let none : body_fits sender code (length work) ≡ false = rw works_count at h in
           let j : rules (refused PartCountWrong) = addressed_judged sender code w (mark_of sender) (code ∷ []) address gap work ∙ rw none in
@@ -239,12 +254,12 @@ module _ {b : List ℕ} {count sender code : ℕ} (o : OpenedAs b count sender c
         some_work : body_fits sender code (length work) ≡ true
         some_work = rw works_count at fits
 
-        address_bad : is_route address ≡ false → Says (Refused AddressWrong)
+        address_bad : is_route address ≡ false → Says (Err AddressWrong)
         address_bad none =
             let j : rules (refused AddressWrong) = addressed_judged sender code w (mark_of sender) (code ∷ []) address gap work ∙ rw (some_work, none) in
             says (refused AddressWrong) is j
 
-        pub address_size : (get_or b 9 0 ≡ 37 → ⊥) → Says (Refused AddressWrong)
+        pub address_size : (get_or b 9 0 ≡ 37 → ⊥) → Says (Err AddressWrong)
         address_size n = address_bad (no_route address (λ e. n (size_byte_lem ∙ ap (λ (xs : List ℕ). get_or xs 0 0) (fixed_part address behind 37 (omega arith) e))))
 
         module _ (sized : get_or b 9 0 ≡ 37) where
@@ -266,30 +281,41 @@ module _ {b : List ℕ} {count sender code : ℕ} (o : OpenedAs b count sender c
           gap_byte : get_or b 47 0 ≡ get_or (part_bytes gap ++ joined work) 0 0
           gap_byte = sym (get_or-drop 47 b 0 0) ∙ ap (λ (xs : List ℕ). get_or xs 0 0) gap_there
 
-          pub address_wrong : is_route (take 37 (drop 10 b)) ≡ false → Says (Refused AddressWrong)
+          pub address_wrong : is_route (take 37 (drop 10 b)) ≡ false → Says (Err AddressWrong)
           address_wrong h = address_bad (rw address_there at h)
 
           module _ (route : is_route (take 37 (drop 10 b)) ≡ true) where
             good : is_route address ≡ true
             good = rw address_there at route
 
-            pub gap_wrong : (get_or b 47 0 ≡ 0 → ⊥) → Says (Refused SeparatorWrong)
+            pub gap_wrong : (get_or b 47 0 ≡ 0 → ⊥) → Says (Err SeparatorWrong)
             gap_wrong n =
                 let some : is_empty gap ≡ false = not_empty gap (λ e. n (gap_byte ∙ ap (λ (xs : List ℕ). get_or xs 0 0) (fixed_part gap (joined work) 0 (omega arith) e))) in
                 let j : rules (refused SeparatorWrong) = addressed_judged sender code w (mark_of sender) (code ∷ []) address gap work ∙ rw (some_work, good, some) in
                 says (refused SeparatorWrong) is j
 
-            pub addressed_good : get_or b 47 0 ≡ 0 → Says (Accepted (places_at sender code (stretch_of 0 0) 10 (stretch_of 48 (length b - 48)) (count - 4)))
-            addressed_good z =
+            pub addressed_within : get_or b 47 0 ≡ 0 → 48 ≤ length b
+            addressed_within z = omega (arith, gap_within)
+
+            pub addressed_good : get_or b 47 0 ≡ 0 → {has : Bool} → has ≡ true → {parts : ℕ} → parts ≡ count - 4 →
+                Says (Ok (places_at sender code (stretch_of 0 0) 10 (stretch_of (cond has 48 0) (length b - 48)) parts))
+            addressed_good z {has} e {parts} p =
                 let short : length gap ≡ 0 = fixed_size gap (joined work) 0 (omega arith) (sym gap_byte ∙ z) in
                 let none : is_empty gap ≡ true = is_empty_lem gap short in
                 let c = holding sender code [] address work in
                 let j : rules (answered c) = addressed_judged sender code w (mark_of sender) (code ∷ []) address gap work ∙ rw (some_work, good, none) in
                 let front : behind ≡ 0 ∷ (gap ++ joined work) = fixed_part gap (joined work) 0 (omega arith) short in
                 let left : length b - 48 ≡ length (joined work) = omega (arith, ap length gap_there, ap length front, length-drop 47 b, length-append gap (joined work)) in
-                let places : places_at sender code (stretch_of 0 0) 10 (stretch_of 48 (length b - 48)) (count - 4) ≡ places_of c =
-                rw (left, works_count) (sym (addressed_places sender code f.kind w address work address_long)) in
-                ap Accepted places ∙ says (answered c) is j
+                let places : places_at sender code (stretch_of 0 0) 10 (stretch_of (cond has 48 0) (length b - 48)) parts ≡ places_of c =
+                rw (left, e, p, works_count) (sym (addressed_places sender code f.kind w address work address_long)) in
+                ap Ok places ∙ says (answered c) is j
+
+    pub addressed_uncounted : (4 ≤ count → body_fits sender code (count - 4) ≡ false) → Says (Err PartCountWrong)
+    addressed_uncounted h = go (dec_lt count 4)
+      where
+        go : Dec (count < 4) → Says (Err PartCountWrong)
+        go (yes few) = addressed_few few
+        go (no n) = addressed_unfit (omega arith) (h (omega arith))
 
   module _ (unnamed : has_name sender code ≡ false) (unaddressed : has_address sender code ≡ false) where
     n : Carries sender code false false false
@@ -298,19 +324,25 @@ module _ {b : List ℕ} {count sender code : ℕ} (o : OpenedAs b count sender c
     rest_count : count - 2 ≡ length f.rest
     rest_count = omega (arith, f.many)
 
-    pub bare_unfit : body_fits sender code (count - 2) ≡ false → Says (Refused PartCountWrong)
+    bare_unfit : body_fits sender code (count - 2) ≡ false → Says (Err PartCountWrong)
     bare_unfit h =
         let none : body_fits sender code (length f.rest) ≡ false = rw rest_count at h in
         says (refused PartCountWrong) refl (bare_judged sender code n (mark_of sender) (code ∷ []) f.rest ∙ rw none)
 
-    pub bare_good : body_fits sender code (count - 2) ≡ true → Says (Accepted (places_at sender code (stretch_of 0 0) 0 (stretch_of 0 0) 0))
+    pub bare_uncounted : (2 ≤ count → body_fits sender code (count - 2) ≡ false) → Says (Err PartCountWrong)
+    bare_uncounted h = bare_unfit (h two_at_least)
+
+    pub bare_good : body_fits sender code (count - 2) ≡ true → {has : Bool} → has ≡ has_body sender code → {parts : ℕ} → parts ≡ count - 2 →
+        Says (Ok (places_at sender code (stretch_of 0 0) 0 (stretch_of (cond has (length b) 0) (length b - length b)) parts))
     unfolding body_fits
-    bare_good h =
+    bare_good h {has} e {parts} p =
         let some : body_fits sender code (length f.rest) ≡ true = rw rest_count at h in
         let none : f.rest ≡ [] = no_parts f.rest (bare_parts some) in
         let c = holding sender code [] [] [] in
         let fit : body_fits sender code 0 ≡ true = subst (λ (qs : List (List ℕ)). body_fits sender code (length qs) ≡ true) none some in
-        ap Accepted (sym (bare_places sender code f.kind n [])) ∙ says (answered c) none (bare_judged sender code n (mark_of sender) (code ∷ []) [] ∙ rw fit)
+        let left : length b - length b ≡ 0 = omega arith in
+        let none_left : parts ≡ 0 = p ∙ rest_count ∙ ap length none in
+        rw (left, none_left, e, n.bodied) (ap Ok (sym (bare_places sender code f.kind n []))) ∙ says (answered c) none (bare_judged sender code n (mark_of sender) (code ∷ []) [] ∙ rw fit)
       where
         bare_parts : body_fits sender code (length f.rest) ≡ true → length f.rest ≡ 0
         bare_parts e = eqb-true (length f.rest) 0 (rw n.bodied at e)

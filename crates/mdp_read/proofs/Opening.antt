@@ -7,7 +7,7 @@ use native.Mathlib.Omega.{arith}
 use lib.Dec.{eqb, ltb}
 use lib.ListN.{length, get_or, take, drop, length-append}
 use lib.Seq.{get_or-append-add, take-append_seam}
-use borrow.Author.Tests.{eqb-true, eqb-false, eq-eqb, ne_eqb, lt-ltb, le-ltb}
+use borrow.Author.Tests.{eqb-true, eqb-false, ne_eqb, lt-ltb, le-ltb}
 use Rattle.bytes_number.specs.Number.{Bytes}
 use Rattle.refusal.specs.declared.Refusal.TheVariants.{CommandLong, CommandPartWrong, MarkWrong, CommandWrong}
 use Rattle.refusal.specs.Answer.{refused, answered}
@@ -15,10 +15,12 @@ use Rattle.frame_message.specs.Frame.{part_bytes, joined}
 use Rattle.frame_message.specs.Reading.{parts_in}
 use Rattle.frame_message.proofs.Lists.{Each}
 use Rattle.frame_message.proofs.Parts.{Sized, Split, split, part_short}
-use Rattle.table_records.specs.Bytes.{same_bytes}
 use Rattle.table_records.proofs.Bytes.{same_lengths}
 use Rattle.mdp_command.specs.Command.{client_mark, worker_mark, is_command}
-use Rattle.mdp_command.specs.declared.CommandReading.TheVariants.{Refused}
+use Rattle.std.specs.Prelude.{Err}
+use Rattle.mdp_command.specs.declared.Sender.{Sender}
+use Rattle.mdp_command.specs.declared.Sender.TheVariants.{Client, Worker}
+use Rattle.mdp_command.specs.WorkingSender.{sender_number}
 use Rattle.mdp_command.specs.CommandBytes.{mark_of, cut_parts}
 use Rattle.mdp_command.specs.Working.{command_read_as, parts_there}
 use Rattle.mdp_command.proofs.Cutting.{CutInto}
@@ -106,46 +108,6 @@ code_found m ps e =
     let long : length (6 ∷ (m ++ joined ps)) ≡ 7 + length (joined ps) = omega (arith, length-append m (joined ps)) in
     rw (front, long, behind_mark m (joined ps) 0 e, behind_mark m (joined ps) 1 e) (number_found ps)
 
--- ---- the same, by the tests of the code
-
-module _ (p : List ℕ) where
-  pub client_sends : same_bytes p client_mark ≡ true → sender_of p ≡ 1
-  unfolding sender_of
-  client_sends e = rw e
-
-  pub worker_sends : same_bytes p client_mark ≡ false → same_bytes p worker_mark ≡ true → sender_of p ≡ 2
-  unfolding sender_of
-  worker_sends e f = rw (e, f)
-
-  pub nobody_sends : same_bytes p client_mark ≡ false → same_bytes p worker_mark ≡ false → sender_of p ≡ 0
-  unfolding sender_of
-  nobody_sends e f = rw (e, f)
-
-module _ (b : List ℕ) where
-  pub mark_short : length b < 7 → sender_at b ≡ 0
-  unfolding sender_at
-  mark_short h = rw (lt-ltb (length b) 7 h)
-
-  pub mark_size : 7 ≤ length b → (get_or b 0 0 ≡ 6 → ⊥) → sender_at b ≡ 0
-  unfolding sender_at
-  mark_size h n = rw (le-ltb (length b) 7 h, ne_eqb (get_or b 0 0) 6 n)
-
-  pub mark_there : 7 ≤ length b → get_or b 0 0 ≡ 6 → sender_at b ≡ sender_of (take 6 (drop 1 b))
-  unfolding sender_at
-  mark_there h e = rw (le-ltb (length b) 7 h, eq-eqb (get_or b 0 0) 6 e)
-
-  pub code_short : length b < 9 → code_at b ≡ 0
-  unfolding code_at
-  code_short h = rw (lt-ltb (length b) 9 h)
-
-  pub code_size : 9 ≤ length b → (get_or b 7 0 ≡ 1 → ⊥) → code_at b ≡ 0
-  unfolding code_at
-  code_size h n = rw (le-ltb (length b) 9 h, ne_eqb (get_or b 7 0) 1 n)
-
-  pub code_there : 9 ≤ length b → get_or b 7 0 ≡ 1 → code_at b ≡ get_or b 8 0
-  unfolding code_at
-  code_there h e = rw (le-ltb (length b) 9 h, eq-eqb (get_or b 7 0) 1 e)
-
 -- ---- what stands behind the two
 
 pub record Fore (b : List ℕ) (count sender code : ℕ) : Type 0 where
@@ -180,6 +142,15 @@ fore {b} {count} {sender} {code} o =
 
 -- ---- 32 and 33
 
+pub some_number : (sender : Sender) → sender_number sender ≡ 0 → ⊥
+some_number Client e = omega arith
+some_number Worker e = omega arith
+
+pub no_zero : (sender : Sender) → is_command (sender_number sender) 0 ≡ false
+unfolding is_command
+no_zero Client = refl
+no_zero Worker = refl
+
 mark_six : (p : List ℕ) → (sender_of p ≡ 0 → ⊥) → length p ≡ 6
 mark_six p some = go (eqb (length p) 6) refl
   where
@@ -201,7 +172,7 @@ module _ {b : List ℕ} {count : ℕ} (o : CountOf b count) where
   sends : {sender : ℕ} → sender ≡ sender_at b → sender_of (get_or ps 0 []) ≡ sender
   sends s = sym (s ∙ ap sender_at same ∙ sender_found ps)
 
-  pub mark_wrong : {sender : ℕ} → sender ≡ sender_at b → sender ≡ 0 → Refused MarkWrong ≡ command_read_as (command_judged ps)
+  pub mark_wrong : {sender : ℕ} → sender ≡ sender_at b → sender ≡ 0 → Err MarkWrong ≡ command_read_as (command_judged ps)
   unfolding command_judged
   mark_wrong s z = rw (sends s, z)
 
@@ -209,7 +180,7 @@ module _ {b : List ℕ} {count : ℕ} (o : CountOf b count) where
     codes : code_of (get_or ps 1 []) ≡ code
     codes = sym (k ∙ ap code_at same ∙ behind_first ps (λ z. some (sym (sends s) ∙ z)))
 
-    pub command_wrong : is_command sender code ≡ false → Refused CommandWrong ≡ command_read_as (command_judged ps)
+    pub command_wrong : is_command sender code ≡ false → Err CommandWrong ≡ command_read_as (command_judged ps)
     unfolding command_judged
     command_wrong none = rw (sends s, codes, ne_eqb sender 0 some, none)
 
@@ -222,12 +193,12 @@ opened_judged {b} {count} {sender} {code} o = judged_as_lem (parts_there b) send
 -- ---- 31 and 30
 
 module _ (b : List ℕ) where
-  pub reads_long : 32768 < length b → Refused CommandLong ≡ command_read_as (command_read b)
+  pub reads_long : 32768 < length b → Err CommandLong ≡ command_read_as (command_read b)
   unfolding command_read
   reads_long h = rw (lt-ltb 32768 (length b) h)
 
   module _ (short : length b ≤ 32768) where
-    pub reads_wrong : cut_parts b ≡ refused CommandPartWrong → Refused CommandPartWrong ≡ command_read_as (command_read b)
+    pub reads_wrong : cut_parts b ≡ refused CommandPartWrong → Err CommandPartWrong ≡ command_read_as (command_read b)
     unfolding command_read
     reads_wrong e = rw (le-ltb 32768 (length b) short, e)
 

@@ -5,23 +5,23 @@ ghost use Rattle.std.specs.Prelude.{◌≡◌};
 ghost use Rattle.mdp_command.specs.CommandReading.{command_read};
 ghost use Rattle.mdp_command.specs.Working.{command_read_as};
 
-use frame_parts::{Counting, count_parts};
+use frame_parts::count_parts;
 use judge::judge;
-use mdp_command::CommandReading;
+use mdp_command::{CommandPlaces, MOST_BYTES};
 use refusal::Refusal;
 
 mod judge;
 mod open;
 
 // Reads a command, which is all of the bytes. There may be as many parts as bytes, so that only a part's size can stop the counting.
-pub fn read_command(bytes: &[u8]) -> CommandReading
+pub fn read_command(bytes: &[u8]) -> Result<CommandPlaces, Refusal>
     ensures { result ≡ command_read_as (command_read bytes.now) }
 {
-    if mdp_command::MOST_BYTES < bytes.len() {
-        return CommandReading::Refused(Refusal::CommandLong);
+    if MOST_BYTES < bytes.len() {
+        return Err(Refusal::CommandLong);
     }
     match count_parts(bytes, bytes.len()) {
-        Counting::Refused(_, _) => CommandReading::Refused(Refusal::CommandPartWrong),
-        Counting::Counted(counts) => judge(bytes, counts.count),
+        Ok(counts) => judge(bytes, counts.count),
+        Err(_) => Err(Refusal::CommandPartWrong),
     }
 }

@@ -11,10 +11,10 @@ returns-then-bytes-gt-MOST_BYTES c = reads_long c.args.bytes.now (omega arith)
 pub judge-requires : goal.judge-requires
 judge-requires c =
     let b = c.args.bytes.now in
-    reads_counted b (omega arith) (bytes_of_lem b (λ i. (c.type_inv.bytes i).fits)) (cut_counted b c.in-Counted.ensures)
+    reads_counted b (omega arith) (bytes_of_lem b (λ i. (c.type_inv.bytes i).fits)) (cut_counted b c.in-Ok.ensures)
 
-pub returns-in-Refused : goal.returns-in-Refused
-returns-in-Refused c = reads_wrong c.args.bytes.now (omega arith) (cut_refused c.args.bytes.now c.in-Refused.ensures)
+pub returns-in-Ok : goal.returns-in-Ok
+returns-in-Ok c = c.judge.ensures ∙ reads_judged c.args.bytes.now (omega arith) (cut_counted c.args.bytes.now c.in-Ok.ensures)
 
-pub returns-in-Counted : goal.returns-in-Counted
-returns-in-Counted c = c.judge.ensures ∙ reads_judged c.args.bytes.now (omega arith) (cut_counted c.args.bytes.now c.in-Counted.ensures)
+pub returns-in-Err : goal.returns-in-Err
+returns-in-Err c = reads_wrong c.args.bytes.now (omega arith) (cut_refused c.args.bytes.now c.in-Err.ensures)
