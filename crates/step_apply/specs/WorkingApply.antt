@@ -1,9 +1,10 @@
 -- What a broker makes in the buffer that holds a request, by where the frame's parts are said to lie: of any numbers and any bytes. Only for the
 -- proofs of the step: no promise of a call speaks of it, and that it is the paper's step is proved (step_pass/proofs/Lying.antt).
-use Rattle.std.specs.Prelude.{◌≡◌, ℕ, ◌+◌, cond, ◌||◌, List, leb, ltb, length}
+use Rattle.std.specs.Prelude.{◌≡◌, ℕ, Result, ◌+◌, cond, ◌||◌, List, leb, ltb, length}
 use Rattle.frame_message.specs.declared.Header.{Header}
+use Rattle.refusal.specs.declared.Refusal.{Refusal}
 use Rattle.refusal.specs.declared.Refusal.TheVariants.{OutputShort, ForwardLong}
-use Rattle.refusal.specs.Answer.{Answer, refused, answered, refuse_if}
+use Rattle.refusal.specs.Answer.{Answer, refused, answered, refuse_if, result_of}
 use Rattle.frame_message.specs.Header.{no_response}
 use Rattle.frame_message.specs.Frame.{most_body}
 use Rattle.frame_message.specs.Writing.{most_routes}
@@ -11,7 +12,7 @@ use Rattle.frame_rewrite.specs.WorkingRenewed.{with_part, with_header}
 use Rattle.step_routing.specs.declared.Broker.{Broker}
 use Rattle.step_routing.specs.Messages.{reply_header}
 use Rattle.step_routing.specs.declared.Stepped.{Stepped}
-use Rattle.step_routing.specs.declared.Stepped.TheVariants.{Refused, Forwarded, Replied, Silenced}
+use Rattle.step_routing.specs.declared.Stepped.TheVariants.{Forwarded, Replied, Silenced}
 
 -- ---- a route more
 
@@ -21,15 +22,14 @@ grown_to routes size part room =
     refuse_if (leb most_routes routes || ltb most_body (1 + part + size)) ForwardLong
     (refuse_if (ltb room (9 + part + size)) OutputShort (answered (1 + part + size)))
 
-abbrev pub forward_told : ℕ → Answer ℕ → Stepped
-forward_told next (refused r) = Refused r
-forward_told next (answered grown) = Forwarded next
+abbrev pub forward_told : ℕ → Answer ℕ → Result Stepped Refusal
+forward_told next = result_of (λ grown. Forwarded next)
 
 abbrev pub forward_left : List ℕ → ℕ → List ℕ → Answer ℕ → List ℕ
 forward_left identity size buffer (refused r) = buffer
 forward_left identity size buffer (answered grown) = with_part identity size buffer
 
-pub record AppliesForward (routes size : ℕ) (identity : List ℕ) (next : ℕ) (buffer : List ℕ) (r : Stepped) (left : List ℕ) : Type 0 where
+pub record AppliesForward (routes size : ℕ) (identity : List ℕ) (next : ℕ) (buffer : List ℕ) (r : Result Stepped Refusal) (left : List ℕ) : Type 0 where
   pub told : r ≡ forward_told next (grown_to routes size (length identity) (length buffer))
   pub leaves : left ≡ forward_left identity size buffer (grown_to routes size (length identity) (length buffer))
 

@@ -9,25 +9,25 @@ use refusal::Refusal;
 use step_routing::{Broker, Stepped};
 
 // Forwards a request with so many routes and a body of so many bytes: this broker's identity goes in front of the body.
-pub fn forward(buffer: &mut [u8], routes: usize, size: usize, identity: &[u8], next: u32) -> Stepped
+pub fn forward(buffer: &mut [u8], routes: usize, size: usize, identity: &[u8], next: u32) -> Result<Stepped, Refusal>
     ensures { AppliesForward routes size identity.now next buffer.old result buffer.new }
 {
     if routes >= frame_message::MOST_ROUTES {
-        return Stepped::Refused(Refusal::ForwardLong);
+        return Err(Refusal::ForwardLong);
     }
     // too long already, and the sum below has to stay in range
     if size > frame_message::MOST_BODY {
-        return Stepped::Refused(Refusal::ForwardLong);
+        return Err(Refusal::ForwardLong);
     }
     let grown = 1 + identity.len() + size;
     if grown > frame_message::MOST_BODY {
-        return Stepped::Refused(Refusal::ForwardLong);
+        return Err(Refusal::ForwardLong);
     }
     if FRONT + grown > buffer.len() {
-        return Stepped::Refused(Refusal::OutputShort);
+        return Err(Refusal::OutputShort);
     }
     frame_rewrite::put_part(buffer, size, identity);
-    Stepped::Forwarded(next)
+    Ok(Stepped::Forwarded(next))
 }
 
 // Answers a request with an error, or is silent where it wants no response: the reply keeps so many bytes of the request's body, its routes and its
