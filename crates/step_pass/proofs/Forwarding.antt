@@ -1,4 +1,5 @@
 -- What is known of a message that a step forwards.
+use Rattle.std.specs.Prelude.{None, Some, Ok, Err}
 use mathlib.Core.Path.{◌≡◌, refl, sym, ◌∙◌}
 use mathlib.Core.Bool.{true, false}
 use mathlib.Core.Logic.{◌⊎◌, inl, inr, ⊎_elim}
@@ -19,10 +20,8 @@ use Rattle.table_tree.specs.Tree.{ranks_in}
 use Rattle.step_routing.specs.declared.Broker.{Broker}
 use Rattle.step_routing.specs.declared.Way.{Way}
 use Rattle.step_routing.specs.declared.Way.TheVariants.{Deliver, Forward, Fail}
-use Rattle.step_routing.specs.declared.Back.{Back}
-use Rattle.step_routing.specs.declared.Back.TheVariants.{Home, To, Stray}
 use Rattle.step_routing.specs.Requests.{request_way}
-use Rattle.step_routing.specs.Responses.{response_way}
+use Rattle.step_routing.specs.Responses.{Back, response_way}
 use Rattle.step_routing.specs.Messages.{pushed, popped, too_large}
 use Rattle.step_routing.specs.Routed.{Tables, Outcome, delivered, forwarded, replied, silenced, home, requested, responded, routed}
 use Rattle.step_routing.proofs.Outcomes.{routed_request, routed_response, routed_neither}
@@ -80,9 +79,9 @@ module _ (t : Tables) (who : Broker) (m : Message) (next : ℕ) (n : Message) wh
   on_response (top ∷ rest) r k e = by_way (response_way t.tree t.identities who.rank (top ∷ rest)) e
     where
       by_way : (back : Back) → responded m back ≡ answered (forwarded next n) → PoppedOn m n
-      by_way Home e = absurd (home_never (no_other next n e))
-      by_way (To broker) e = record { type = k; same = same_message (no_other next n e); top = top; rest = rest; routes = r }
-      by_way Stray e = absurd (not_answered e)
+      by_way (Ok None) e = absurd (home_never (no_other next n e))
+      by_way (Ok (Some broker)) e = record { type = k; same = same_message (no_other next n e); top = top; rest = rest; routes = r }
+      by_way (Err r) e = absurd (not_answered e)
 
   pub goes_on : routed t who m ≡ answered (forwarded next n) → PushedOn t who m n ⊎ PoppedOn m n
   goes_on e = ⊎_elim (λ y. inl (request (eqb-true m.header.kind 1 y))) (λ no. ⊎_elim (λ y. inr (response (eqb-true m.header.kind 2 y))) (λ k. absurd (neither no k)) (outcome (eqb m.header.kind 2))) (outcome (eqb m.header.kind 1))

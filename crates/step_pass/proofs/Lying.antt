@@ -1,4 +1,5 @@
 -- What is known where a frame lies in the buffer, and what each way through a step comes to.
+use Rattle.std.specs.Prelude.{Option, None, Some, Result, Ok, Err}
 use mathlib.Core.Path.{◌≡◌, refl, sym, ap, ap₂, subst, ◌∙◌}
 use mathlib.Core.Bool.{Bool, true, false, cond}
 use mathlib.Core.Logic.{◌⊎◌, inl, inr, ⊎_elim}
@@ -30,13 +31,11 @@ use Rattle.frame_rewrite.specs.WorkingRenewed.{with_part, without_front, with_he
 use Rattle.step_routing.specs.declared.Broker.{Broker}
 use Rattle.step_routing.specs.declared.Way.{Way}
 use Rattle.step_routing.specs.Requests.{request_way}
-use Rattle.step_routing.specs.declared.Back.{Back}
-use Rattle.step_routing.specs.declared.Back.TheVariants.{To}
-use Rattle.step_routing.specs.Responses.{towards_broker, response_way}
+use Rattle.step_routing.specs.Responses.{Back, towards_broker, response_way}
 use Rattle.step_routing.specs.Messages.{pushed, popped, reply_header, error_reply, too_large}
 use Rattle.step_routing.specs.Routed.{Outcome, forwarded, replied, silenced, home, failed, forwarded_if, responded}
 use Rattle.step_routing.specs.declared.Stepped.{Stepped}
-use Rattle.step_routing.specs.declared.Stepped.TheVariants.{Refused, Replied, Silenced}
+use Rattle.step_routing.specs.declared.Stepped.TheVariants.{Replied, Silenced}
 use Rattle.step_apply.specs.WorkingApply.{grown_to, forward_told, forward_left, AppliesForward, reply_in, AppliesError}
 use Rattle.step_apply.proofs.Growing.{or_right_holds, grown_many, grown_long, grown_tight, grown_fits}
 use Rattle.step_pass.specs.Step.{room_for, left_by, told_as}
@@ -54,11 +53,11 @@ below a b = ⊎_elim (λ t. inl (ltb-true a b t)) (λ f. inr (ltb-false a b f)) 
 -- ---- how a step ends
 
 -- by any answer that is known
-pub makes : {answer a : Answer Outcome} {buffer left : List ℕ} {r : Stepped} → answer ≡ a → r ≡ told_as a → left ≡ left_by a buffer → Makes answer buffer r left
+pub makes : {answer a : Answer Outcome} {buffer left : List ℕ} {r : Result Stepped Refusal} → answer ≡ a → r ≡ told_as a → left ≡ left_by a buffer → Makes answer buffer r left
 makes {buffer = buffer} is told left = record { told = told ∙ sym (ap told_as is); leaves = left ∙ sym (ap (λ (x : Answer Outcome). left_by x buffer) is) }
 
 -- by a refusal, which changes no byte
-pub refuses : {answer : Answer Outcome} {buffer : List ℕ} {q : Refusal} → answer ≡ refused q → Makes answer buffer (Refused q) buffer
+pub refuses : {answer : Answer Outcome} {buffer : List ℕ} {q : Refusal} → answer ≡ refused q → Makes answer buffer (Err q) buffer
 refuses is = makes is refl refl
 
 -- ---- a message that lies in the buffer
@@ -160,7 +159,7 @@ module _ (b : List ℕ) (f : Layout) (l : Lies b f 1) (identity : List ℕ) (sho
         rw (small, le-ltb (length b) (length (frame_of (pushed identity (held_in b)))) (omega (arith, grown_told, frame_long (pushed identity (held_in b)))))
 
   -- what is said and left where the frame lies as f says
-  module _ {r : Stepped} {left : List ℕ} (made : AppliesForward f.routes (f.taken - 8) identity next b r left) where
+  module _ {r : Result Stepped Refusal} {left : List ℕ} (made : AppliesForward f.routes (f.taken - 8) identity next b r left) where
     ends : {a : Answer ℕ} {o : Answer Outcome} → grown_to f.routes (f.taken - 8) (length identity) (length b) ≡ a → forwarding ≡ o → forward_told next a ≡ told_as o → forward_left identity (f.taken - 8) b a ≡ left_by o b → Makes forwarding b r left
     ends is out told leaves = makes out (made.told ∙ ap (forward_told next) is ∙ told) (made.leaves ∙ ap (forward_left identity (f.taken - 8) b) is ∙ leaves)
 
@@ -226,12 +225,12 @@ module _ (b : List ℕ) (f : Layout) (l : Lies b f 1) (who : Broker) (errnum : �
     leaves : {t : Bool} → no_response (held_in b).header.flags ≡ t → left ≡ cond t b (reply_in who errnum f.header kept b)
     leaves e = made.leaves ∙ ap (λ (t : Bool). cond t b (reply_in who errnum f.header kept b)) (flags e)
 
-    pub fail_made : Makes (answered (failed who errnum (held_in b))) b r left
+    pub fail_made : Makes (answered (failed who errnum (held_in b))) b (Ok r) left
     fail_made =
-        ⊎_elim (λ t. makes (fails_silent who errnum (held_in b) t) (told t) (leaves t)) (λ n. makes (fails_reply who errnum (held_in b) n) (told n) (leaves n ∙ replies)) (outcome (no_response (held_in b).header.flags))
+        ⊎_elim (λ t. makes (fails_silent who errnum (held_in b) t) (ap Ok (told t)) (leaves t)) (λ n. makes (fails_reply who errnum (held_in b) n) (ap Ok (told n)) (leaves n ∙ replies)) (outcome (no_response (held_in b).header.flags))
 
 -- the same step by an answer that is equal
-pub makes_as : {answer a : Answer Outcome} {buffer left : List ℕ} {r : Stepped} → answer ≡ a → Makes a buffer r left → Makes answer buffer r left
+pub makes_as : {answer a : Answer Outcome} {buffer left : List ℕ} {r : Result Stepped Refusal} → answer ≡ a → Makes a buffer r left → Makes answer buffer r left
 makes_as is m = makes is m.told m.leaves
 
 -- ---- where a request goes, by what stands in its buffer
@@ -336,7 +335,7 @@ module _ (b : List ℕ) (f : Layout) (l : Lies b f 2) where
         ∙ ap (λ (back : Back). and_then (responded (held_in b) back) (room_for (length b))) (sym (e ∙ ap (λ (r : List ℕ). towards_broker tree rank (broker_of identities r)) top_shown) ∙ w)
 
     -- a shorter frame has room
-    pub back_room : (next : ℕ) → and_then (responded (held_in b) (To next)) (room_for (length b)) ≡ answered (forwarded next (popped (held_in b)))
+    pub back_room : (next : ℕ) → and_then (responded (held_in b) (Ok (Some next))) (room_for (length b)) ≡ answered (forwarded next (popped (held_in b)))
     back_room next =
         rw (le-ltb (length b) (length (frame_of (popped (held_in b)))) (omega (arith, frame_long (popped (held_in b)), shorter, body_within b (held_in b) (back_held b f 2 l))))
 

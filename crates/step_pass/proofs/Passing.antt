@@ -1,4 +1,5 @@
 -- The step: one law for each way through its order.
+use Rattle.std.specs.Prelude.{Result, Ok, Err}
 use mathlib.Core.Path.{◌≡◌, sym, ap, ◌∙◌}
 use mathlib.Core.Bool.{true, false, not}
 use Prim.Native.Nat.{ℕ, ◌<◌, ◌≤◌}
@@ -14,7 +15,6 @@ use Rattle.frame_message.specs.Frame.{frame_of}
 use Rattle.frame_message.specs.Reading.{reading_of}
 use Rattle.refusal.proofs.Answers.{answered_same, passed, both}
 use Rattle.frame_layout.specs.declared.Layout.{Layout}
-use Rattle.frame_layout.specs.declared.Reading.TheVariants.{Accepted}
 use Rattle.frame_layout.specs.Layout.{layout_of}
 use Rattle.frame_layout.specs.WorkingPlacing.{read_as}
 use Rattle.frame_body.proofs.Readings.{accepted_read}
@@ -37,7 +37,7 @@ held_read : (b : List ℕ) (m : Message) → reading_of b ≡ answered m → hel
 unfolding held_in
 held_read b m e = rw e
 
-pub read_accepted : (b : List ℕ) (f : Layout) → Accepted f ≡ read_as (reading_of b) → Held b f
+pub read_accepted : (b : List ℕ) (f : Layout) → Ok f ≡ read_as (reading_of b) → Held b f
 read_accepted b f e =
     let r = accepted_read (reading_of b) e in
     let held = held_read b r.message r.is in

@@ -1,8 +1,9 @@
 -- One broker's step on a buffer: "Given the tables, the broker's rank, .. and a buffer with the frame at its front." The step on the message itself is
 -- `routed` (step_routing/specs/Routed.antt).
-use Rattle.std.specs.Prelude.{ℕ, not, List, ltb, length}
+use Rattle.std.specs.Prelude.{ℕ, Result, not, List, ltb, length}
+use Rattle.refusal.specs.declared.Refusal.{Refusal}
 use Rattle.refusal.specs.declared.Refusal.TheVariants.{OutputShort, TreeWrong, ServicesWrong, IdentitiesWrong, RankWrong}
-use Rattle.refusal.specs.Answer.{Answer, refused, answered, refuse_if, and_then}
+use Rattle.refusal.specs.Answer.{Answer, refused, answered, refuse_if, and_then, result_of}
 use Rattle.frame_message.specs.Frame.{frame_of}
 use Rattle.frame_message.specs.Reading.{reading_of}
 use Rattle.table_tree.specs.Tree.{ranks_in}
@@ -13,7 +14,7 @@ use Rattle.frame_rewrite.specs.Renewed.{cleared}
 use Rattle.step_routing.specs.declared.Broker.{Broker}
 use Rattle.step_routing.specs.Routed.{Tables, Outcome, delivered, forwarded, replied, silenced, home, routed}
 use Rattle.step_routing.specs.declared.Stepped.{Stepped}
-use Rattle.step_routing.specs.declared.Stepped.TheVariants.{Refused, Delivered, Forwarded, Replied, Silenced, Home}
+use Rattle.step_routing.specs.declared.Stepped.TheVariants.{Delivered, Forwarded, Replied, Silenced, Home}
 
 -- ---- the order of refusals: "Step: 14, 15, 16, 17, reader's numbers, 18, 19, 12, 11"
 
@@ -58,11 +59,14 @@ left_by (answered o) buffer = left_after o buffer
 
 -- ---- the result
 
--- the code's answer, for each case of the paper's
-abbrev pub told_as : Answer Outcome → Stepped
-told_as (refused r) = Refused r
-told_as (answered (delivered number)) = Delivered number
-told_as (answered (forwarded next m)) = Forwarded next
-told_as (answered (replied errnum m)) = Replied errnum
-told_as (answered (silenced errnum)) = Silenced errnum
-told_as (answered home) = Home
+-- what the code says, for each case of the paper's
+abbrev pub stepped_of : Outcome → Stepped
+stepped_of (delivered number) = Delivered number
+stepped_of (forwarded next m) = Forwarded next
+stepped_of (replied errnum m) = Replied errnum
+stepped_of (silenced errnum) = Silenced errnum
+stepped_of home = Home
+
+-- the code's answer
+abbrev pub told_as : Answer Outcome → Result Stepped Refusal
+told_as = result_of stepped_of

@@ -1,6 +1,7 @@
 -- What only the code's own steps promise each other: no promise of a public call speaks of it, and no reader has to believe it.
-use Rattle.std.specs.Prelude.{◌≡◌, ℕ, List, [], length}
+use Rattle.std.specs.Prelude.{◌≡◌, ℕ, Result, List, [], length}
 use Rattle.bytes_number.specs.Number.{Bytes}
+use Rattle.refusal.specs.declared.Refusal.{Refusal}
 use Rattle.refusal.specs.Answer.{Answer, refused, answered, and_then}
 use Rattle.frame_message.specs.Message.{Message}
 use Rattle.frame_message.specs.Reading.{reading_of}
@@ -34,12 +35,12 @@ request_outcome t b buffer =
     let m = held_in buffer in
     and_then (requested t b m (request_way t.tree t.services b.rank m.header m.topic)) (room_for (length buffer))
 
-abbrev pub response_outcome : List ℕ → List ℕ → ℕ → List ℕ → Answer Outcome
-response_outcome tree identities rank buffer =
+abbrev pub response_outcome : Tables → ℕ → List ℕ → Answer Outcome
+response_outcome t rank buffer =
     let m = held_in buffer in
-    and_then (responded m (response_way tree identities rank m.routes)) (room_for (length buffer))
+    and_then (responded m (response_way t.tree t.identities rank m.routes)) (room_for (length buffer))
 
 -- a step that ends with this answer says r, and leaves its buffer so
-pub record Makes (answer : Answer Outcome) (buffer : List ℕ) (r : Stepped) (left : List ℕ) : Type 0 where
+pub record Makes (answer : Answer Outcome) (buffer : List ℕ) (r : Result Stepped Refusal) (left : List ℕ) : Type 0 where
   pub told : r ≡ told_as answer
   pub leaves : left ≡ left_by answer buffer

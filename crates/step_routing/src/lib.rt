@@ -4,7 +4,7 @@
 ghost use Rattle.std.specs.Prelude.{◌≡◌};
 ghost use Rattle.step_routing.specs.Messages.{reply_header};
 
-use frame_message::{Header, RESPONSE};
+use frame_message::{Header, Kind};
 
 // An error reply's flags: topic and route, and streaming where the request had it.
 const REPLY: u8 = 0x09;
@@ -51,7 +51,7 @@ pub fn reply_header(b: Broker, errnum: u32, request: Header) -> Header
     ensures { result ≡ reply_header b.userid b.rolemask errnum request }
 {
     Header {
-        kind: RESPONSE,
+        kind: u8::from(Kind::Response),
         flags: if frame_flags::is_streaming(request.flags) {
             STREAMING_REPLY
         } else {
