@@ -13,10 +13,10 @@ use Rattle.table_tree_check.specs.Checking.{depths_into}
 use Rattle.step_routing.specs.declared.Broker.{Broker}
 use Rattle.step_routing.specs.Messages.{Owner, owner_of}
 use Rattle.step_routing.specs.Routed.{Tables, Outcome}
-use Rattle.step_pass.specs.Step.{step_of, left_by, told_as}
+use Rattle.step_pass.specs.Step.{step_of, left_by, stepped_of, told_as}
 use Rattle.walk.specs.Walk.{Walk, walk_of}
 use Rattle.call_read_record.specs.Rows.{read_row}
-use Rattle.call_step_record.specs.Steps.{step_row, frame_length}
+use Rattle.call_step_record.specs.Steps.{step_row, last_row, frame_length}
 use Rattle.frame_stream.specs.Stream.{Stream, stream_of, list_row}
 use Rattle.frame_layout.specs.Layout.{layout_of}
 
@@ -108,7 +108,7 @@ step_call t b buffer rowRoom = refuse_if (ltb rowRoom step_record) OutputShort (
 
 -- the four numbers of an answer, where this is left in the buffer
 abbrev pub step_numbers : List ℕ → Answer Outcome → Answer (List ℕ)
-step_numbers left answer = and_then answer (λ o. answered (step_row (told_as (answered o)) (frame_length left)))
+step_numbers left answer = and_then answer (λ o. answered (step_row (stepped_of o) (frame_length left)))
 
 -- a step that ends with this answer: it returns r, and leaves the buffer and the record so
 pub record Tells (answer : Answer Outcome) (buffer row : List ℕ) (r : ℕ) (left listed : List ℕ) : Type 0 where
@@ -127,7 +127,7 @@ walk_record = 24
 
 -- a walk's record: the step's four numbers, then the rank at which it rests and the links crossed; where it is refused the four are 0
 abbrev pub walk_numbers : Walk → List ℕ
-walk_numbers w = step_row (told_as w.answer) (frame_length w.left) ++ (w.rank ∷ w.links ∷ [])
+walk_numbers w = last_row (told_as w.answer) (frame_length w.left) ++ (w.rank ∷ w.links ∷ [])
 
 -- a walk that comes to w: it returns r, and leaves the buffer and the record so
 pub record Reports (w : Walk) (row : List ℕ) (r : ℕ) (left listed : List ℕ) : Type 0 where

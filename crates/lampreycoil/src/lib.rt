@@ -13,6 +13,8 @@ ghost use Rattle.call_specs.specs.CommandCalls.{ReadsCommand, WritesCommand};
 ghost use Rattle.mdp_command.specs.CommandWriting.{given_of};
 ghost use Rattle.call_specs.specs.Calls.{returned, Reads, header_of, Writes, ReadsStream, ChecksTree, host_broker, Steps, Plays};
 
+use step_routing::Tables;
+
 // Reads the frame at the front of bytes, and lists where its parts lie.
 #[unsafe(no_mangle)]
 pub extern "C" fn lampreycoil_read(bytes: &[u8], row: &mut [u8]) -> u32
@@ -95,7 +97,12 @@ pub extern "C" fn lampreycoil_step(
 ) -> u32
     ensures { Steps (tables_of tree.now services.now identities.now) (host_broker rank) buffer.old row.old result buffer.new row.new }
 {
-    call_step::steps::step(tree, services, identities, rank, buffer, row)
+    let t = Tables {
+        tree,
+        services,
+        identities,
+    };
+    call_step::steps::step(t, rank, buffer, row)
 }
 
 // Plays a walk that begins at a rank with the frame at the front of buffer, and lists what it came to, a refusal too.
@@ -110,7 +117,12 @@ pub extern "C" fn lampreycoil_walk(
 ) -> u32
     ensures { Plays (tables_of tree.now services.now identities.now) (host_broker rank) buffer.old row.old result buffer.new row.new }
 {
-    call_step::walks::walk(tree, services, identities, rank, buffer, row)
+    let t = Tables {
+        tree,
+        services,
+        identities,
+    };
+    call_step::walks::walk(t, rank, buffer, row)
 }
 
 // Says whether a payload is JSON, and lists the answer and the byte that tells against it.

@@ -6,7 +6,7 @@ use Rattle.frame_message.specs.Reading.{reading_of}
 use Rattle.frame_layout.specs.declared.Layout.{Layout}
 use Rattle.frame_layout.specs.Layout.{layout_of}
 use Rattle.frame_body.proofs.Readings.{refused_read}
-use Rattle.step_routing.specs.Routed.{tables_of}
+use Rattle.step_routing.specs.Routed.{tables_in}
 use Rattle.step_routing.proofs.Outcomes.{routed_request, routed_response, routed_neither}
 use Rattle.step_pass.specs.Working.{held_in, Lies}
 use Rattle.step_pass.proofs.Lying.{refuses, makes_as}
@@ -25,7 +25,7 @@ lies_read b f kind bytes read e = record { bytes = bytes; read = read.read; plac
 pub returns-then-b-ranks_in : goal.returns-then-b-ranks_in
 returns-then-b-ranks_in c =
     refuses
-    (pass_outside (tables_of c.args.tree.now c.args.services.now c.args.identities.now) c.args.b c.args.buffer.now
+    (pass_outside (tables_in c.args.t) c.args.b c.args.buffer.now
     (omega (arith, c.if-b-ranks_in.true, c.ranks_in.ensures)))
 
 pub request-requires : goal.request-requires
@@ -40,7 +40,7 @@ response-requires c =
 
 pub returns-then-f-eq-REQUEST : goal.returns-then-f-eq-REQUEST
 returns-then-f-eq-REQUEST c =
-    let tables = tables_of c.args.tree.now c.args.services.now c.args.identities.now in
+    let tables = tables_in c.args.t in
     let read = read_accepted c.args.buffer.now c.in-Accepted.f c.in-Accepted.ensures in
     let kind = type_read c.args.buffer.now c.in-Accepted.f 1 read c.if-f-eq-REQUEST.true in
     makes_as
@@ -53,7 +53,7 @@ returns-then-f-eq-REQUEST c =
 
 pub returns-then-f-eq-RESPONSE : goal.returns-then-f-eq-RESPONSE
 returns-then-f-eq-RESPONSE c =
-    let tables = tables_of c.args.tree.now c.args.services.now c.args.identities.now in
+    let tables = tables_in c.args.t in
     let read = read_accepted c.args.buffer.now c.in-Accepted.f c.in-Accepted.ensures in
     let kind = type_read c.args.buffer.now c.in-Accepted.f 2 read c.if-f-eq-RESPONSE.true in
     makes_as
@@ -67,14 +67,14 @@ returns-then-f-eq-RESPONSE c =
 pub returns-in-Refused : goal.returns-in-Refused
 returns-in-Refused c =
     refuses
-    (pass_unread (tables_of c.args.tree.now c.args.services.now c.args.identities.now) c.args.b c.args.buffer.now
+    (pass_unread (tables_in c.args.t) c.args.b c.args.buffer.now
     (omega (arith, c.if-b-ranks_in.false, c.ranks_in.ensures))
     c.in-Refused.r
     (refused_read (reading_of c.args.buffer.now) c.in-Refused.ensures))
 
 pub returns-else-f-eq-RESPONSE : goal.returns-else-f-eq-RESPONSE
 returns-else-f-eq-RESPONSE c =
-    let tables = tables_of c.args.tree.now c.args.services.now c.args.identities.now in
+    let tables = tables_in c.args.t in
     let read = read_accepted c.args.buffer.now c.in-Accepted.f c.in-Accepted.ensures in
     let kind = type_read c.args.buffer.now c.in-Accepted.f c.in-Accepted.f.header.kind read refl in
     refuses

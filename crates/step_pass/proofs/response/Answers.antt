@@ -5,7 +5,7 @@ use Rattle.step_pass.proofs.response.Goals as goal
 
 pub returns-then-f-eq0 : goal.returns-then-f-eq0
 returns-then-f-eq0 c =
-    makes (home_bare c.args.buffer.now c.args.f c.requires c.args.tree.now c.args.identities.now c.args.rank (omega (arith, c.if-f-eq0.true))) refl refl
+    makes (home_bare c.args.buffer.now c.args.f c.requires c.args.t.tree.now c.args.t.identities.now c.args.rank (omega (arith, c.if-f-eq0.true))) refl refl
 
 pub overflow_add-end : goal.overflow_add-end
 overflow_add-end c = omega (arith, top_low c.args.buffer.now c.args.f c.requires (omega (arith, c.if-f-eq0.false)))
@@ -19,13 +19,13 @@ overflow_sub-f c = omega (arith, taken-told c.args.buffer.now c.args.f 2 c.requi
 pub returns-in-Home : goal.returns-in-Home
 returns-in-Home c =
     let some : 0 < c.args.f.routes = omega (arith, c.if-f-eq0.false) in
-    makes (back_told c.args.buffer.now c.args.f c.requires some c.args.tree.now c.args.identities.now c.args.rank c.response_way-back.ensures c.in-Home.is) refl refl
+    makes (back_told c.args.buffer.now c.args.f c.requires some c.args.t.tree.now c.args.t.identities.now c.args.rank c.response_way-back.ensures c.in-Home.is) refl refl
 
 pub returns-in-To : goal.returns-in-To
 returns-in-To c =
     let some : 0 < c.args.f.routes = omega (arith, c.if-f-eq0.false) in
     makes
-    (back_told c.args.buffer.now c.args.f c.requires some c.args.tree.now c.args.identities.now c.args.rank c.response_way-back.ensures c.in-To.is
+    (back_told c.args.buffer.now c.args.f c.requires some c.args.t.tree.now c.args.t.identities.now c.args.rank c.response_way-back.ensures c.in-To.is
     ∙ back_room c.args.buffer.now c.args.f c.requires some c.in-To.next)
     refl
     (c.take_front.ensures ∙ back_left c.args.buffer.now c.args.f c.requires some)
@@ -33,4 +33,4 @@ returns-in-To c =
 pub returns-in-Stray : goal.returns-in-Stray
 returns-in-Stray c =
     let some : 0 < c.args.f.routes = omega (arith, c.if-f-eq0.false) in
-    refuses (back_told c.args.buffer.now c.args.f c.requires some c.args.tree.now c.args.identities.now c.args.rank c.response_way-back.ensures c.in-Stray.is)
+    refuses (back_told c.args.buffer.now c.args.f c.requires some c.args.t.tree.now c.args.t.identities.now c.args.rank c.response_way-back.ensures c.in-Stray.is)

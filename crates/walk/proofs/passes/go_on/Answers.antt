@@ -1,7 +1,7 @@
 -- A turn of the passes: it goes on, or the walk rests.
 use Rattle.std.proofs.Common.{arith, ◌≡◌, refl, sym, ap, ◌∙◌, ℕ, ◌+◌, ◌-◌, ◌<◌, List}
 use Rattle.step_routing.specs.declared.Broker.{Broker}
-use Rattle.step_routing.specs.Routed.{Tables, tables_of}
+use Rattle.step_routing.specs.Routed.{Tables, tables_in}
 use Rattle.step_pass.specs.Step.{pass_of}
 use Rattle.walk.specs.Onward.{onward, after_step}
 use Rattle.walk.specs.WorkingPasses.{passes_from}
@@ -20,7 +20,7 @@ loop-links-init c = record { begun = omega arith; most = omega arith; same = ref
 
 pub loop-links-preserved : goal.loop-links-preserved
 loop-links-preserved c =
-    let t = tables_of c.args.tree.now c.args.services.now c.args.identities.now in
+    let t = tables_in c.args.t in
     let who = onward c.loop-links.rank c.args.b in
     let on =
     goes_on (passes_from (65 - (c.loop-links.links + 1)) t) who c.loop-links.links c.loop-links.buffer (pass_of t who c.loop-links.buffer) c.pass-stepped.ensures.told
@@ -34,7 +34,7 @@ loop-links-preserved c =
 
 pub returns-in_default : goal.returns-in_default
 returns-in_default c =
-    let t = tables_of c.args.tree.now c.args.services.now c.args.identities.now in
+    let t = tables_in c.args.t in
     let who = onward c.loop-links.rank c.args.b in
     walks_as (sym c.loop-links.invariant.same ∙ turns t who c.loop-links.links c.loop-links.buffer (omega arith))
     (rests_here (passes_from (65 - (c.loop-links.links + 1)) t) who c.loop-links.links c.loop-links.buffer (pass_of t who c.loop-links.buffer)
@@ -44,7 +44,7 @@ returns-in_default c =
 
 pub returns : goal.returns
 returns c =
-    let t = tables_of c.args.tree.now c.args.services.now c.args.identities.now in
+    let t = tables_in c.args.t in
     walks_as
     (sym c.loop-links.invariant.same
     ∙ pass_out t (onward c.loop-links.rank c.args.b) c.loop-links.links c.loop-links.buffer (65 - c.loop-links.links) (omega (arith, c.loop-links-test.false)))
