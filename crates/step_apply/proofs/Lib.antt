@@ -1,3 +1,2 @@
 -- The laws of what a broker makes of a request.
 pub mod Growing
-pub mod Failing

@@ -54,6 +54,7 @@ fn to_rank(t: Tables, rank: u32, nodeid: u32, topic: &[u8]) -> Way
 }
 
 // Where the broker of a rank sends a request with this header and topic.
+#[tactic(auto, unfolding(step_routing::specs::Requests::request_way))]
 pub fn request_way(t: Tables, rank: u32, header: Header, topic: &[u8]) -> Way
     ensures { result ≡ request_way t.entry.tree.now t.entry.services.now rank header topic.now }
 {
