@@ -5,3 +5,4 @@ pub mod Lying
 pub mod Passing
 pub mod Keeping
 pub mod Forwarding
+pub mod Types

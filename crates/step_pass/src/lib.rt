@@ -61,9 +61,11 @@ pub fn pass(t: Tables, b: Broker, buffer: &mut [u8]) -> Result<Stepped, Refusal>
         return Err(Refusal::RankWrong);
     }
     let f = frame_read::read(buffer)?;
-    match Kind::try_from(f.header.kind) {
-        Ok(Kind::Request) => request(t, b, f, buffer),
-        Ok(Kind::Response) => response(t, b.rank, f, buffer),
+    // never 22: what was read has a type
+    let kind = Kind::try_from(f.header.kind)?;
+    match kind {
+        Kind::Request => request(t, b, f, buffer),
+        Kind::Response => response(t, b.rank, f, buffer),
         _ => Err(Refusal::NotRouted),
     }
 }
