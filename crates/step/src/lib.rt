@@ -9,6 +9,7 @@ use refusal::Refusal;
 use step_routing::{Broker, Stepped, Tables};
 
 // The whole step: 14, 15 and 16 in front. Each table is checked once.
+#[tactic(auto, unfolding(step_pass::specs::Step::step_of))]
 pub fn step(t: Tables, b: Broker, buffer: &mut [u8]) -> Result<Stepped, Refusal>
     ensures { Makes (step_of (tables_in t.entry) b buffer.old) buffer.old result buffer.new }
 {
