@@ -1,19 +1,17 @@
 -- Laws on counting the bytes that pass a test.
-use mathlib.Core.Path.{◌≡◌, refl, sym, ◌∙◌}
-use mathlib.Core.Bool.{Bool, true, false, not, ◌&&◌}
+use mathlib.Core.Path.{◌≡◌, sym, ◌∙◌}
+use mathlib.Core.Bool.{Bool, true, false}
 use Prim.Native.Nat.{ℕ, ◌+◌, ◌<◌, ◌≤◌}
 use mathlib.Core.List.{List, [], ◌∷◌, ◌++◌}
 use native.Mathlib.Decide.{ℕ_discrete}
 use native.Mathlib.Omega.{arith}
-use native.Mathlib.Nat.{zero-add}
 use native.Mathlib.Numerals.{add-one}
 use lib.Dec.{eqb}
 use lib.ListN.{length, get_or, take, length-take}
 use lib.Seq.{take-suc}
 use borrow.Author.Tests.{eq-eqb, ne_eqb}
 use Rattle.frame_forms.specs.Count.{one}
-use Rattle.frame_forms.specs.Working.{is_zero, count}
-use Rattle.frame_forms.specs.Forms.{no_zero}
+use Rattle.frame_forms.specs.Working.{count}
 
 -- two tests that hold of the same numbers
 pub same_test : {a b c d : ℕ} → (a ≡ b → c ≡ d) → (c ≡ d → a ≡ b) → eqb a b ≡ eqb c d
@@ -42,12 +40,3 @@ count_more test xs i h = rw (add-one, take-suc xs i 0 h, count-append) (omega ar
 -- the bytes passed are at most as many as the turns
 pub count-take_le : (test : ℕ → Bool) (xs : List ℕ) (i : ℕ) → count test (take i xs) ≤ i
 count-take_le test xs i = omega (arith, count_le test (take i xs), length-take i xs)
-
--- no byte is zero exactly if none is counted
-pub none_zero : (xs : List ℕ) → no_zero xs ≡ eqb (count is_zero xs) 0
-none_zero [] = refl
-none_zero (x ∷ xs) = by_first (eqb x 0) (none_zero xs)
-  where
-    by_first : (t : Bool) → no_zero xs ≡ eqb (count is_zero xs) 0 → (not t && no_zero xs) ≡ eqb (one t + count is_zero xs) 0
-    by_first true e = sym (ne_eqb (1 + count is_zero xs) 0 (λ (h : 1 + count is_zero xs ≡ 0). omega arith))
-    by_first false e = rw (zero-add (count is_zero xs)) e

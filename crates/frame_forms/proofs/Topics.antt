@@ -1,24 +1,22 @@
--- A topic by counting its zero bytes.
-use mathlib.Core.Path.{◌≡◌}
-use mathlib.Core.Bool.{false}
+-- A topic: none of its bytes is found to be zero, and it is not too long.
+use mathlib.Core.Path.{◌≡◌, refl}
+use mathlib.Core.Bool.{Bool, true, false, not, ◌&&◌, ◌||◌}
 use Prim.Native.Nat.{ℕ, ◌<◌, ◌≤◌}
-use mathlib.Core.List.{List}
+use mathlib.Core.List.{List, [], ◌∷◌}
 use lib.Dec.{eqb}
 use lib.ListN.{length}
 use borrow.Author.Tests.{le-leb, lt-leb}
-use Rattle.frame_forms.specs.Working.{is_zero, count}
-use Rattle.frame_forms.specs.Forms.{is_topic}
-use Rattle.frame_forms.proofs.Counts.{none_zero}
+use Rattle.std.specs.List.{list_any}
+use Rattle.frame_forms.specs.Forms.{no_zero, is_topic}
 
-module _ (xs : List ℕ) where
-  pub topic_empty : length xs < 1 → is_topic xs ≡ false
-  unfolding is_topic
-  topic_empty h = rw (lt-leb 1 (length xs) h)
+pub no_zero_found : (xs : List ℕ) → no_zero xs ≡ not (list_any (λ y. eqb y 0) xs)
+no_zero_found [] = refl
+no_zero_found (x ∷ xs) = rw (no_zero_found xs) (by_first (eqb x 0) (list_any (λ y. eqb y 0) xs))
+  where
+    by_first : (a b : Bool) → (not a && not b) ≡ not (a || b)
+    by_first true b = refl
+    by_first false b = refl
 
-  pub topic_long : 1 ≤ length xs → 255 < length xs → is_topic xs ≡ false
-  unfolding is_topic
-  topic_long h k = rw (le-leb 1 (length xs) h, lt-leb (length xs) 255 k)
-
-  pub topic_counted : 1 ≤ length xs → length xs ≤ 255 → is_topic xs ≡ eqb (count is_zero xs) 0
-  unfolding is_topic
-  topic_counted h k = rw (le-leb 1 (length xs) h, le-leb (length xs) 255 k) (none_zero xs)
+pub topic_long : (xs : List ℕ) → 1 ≤ length xs → 255 < length xs → is_topic xs ≡ false
+unfolding is_topic
+topic_long xs h k = rw (le-leb 1 (length xs) h, lt-leb (length xs) 255 k)

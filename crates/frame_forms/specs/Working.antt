@@ -1,10 +1,7 @@
 -- The counting that the code does in place of looking at each byte: no promise of a public call speaks of it, and no reader has to believe it.
-use Rattle.std.specs.Prelude.{ℕ, ◌+◌, Bool, List, [], ◌∷◌, eqb, take, drop}
+use Rattle.std.specs.Prelude.{ℕ, ◌+◌, Bool, List, [], ◌∷◌, take, drop}
 use Rattle.frame_forms.specs.Count.{one}
 use Rattle.frame_forms.specs.Forms.{is_hex}
-
-abbrev pub is_zero : ℕ → Bool
-is_zero x = eqb x 0
 
 -- how many bytes pass a test
 abbrev pub count : (ℕ → Bool) → List ℕ → ℕ

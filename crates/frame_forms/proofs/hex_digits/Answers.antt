@@ -15,10 +15,10 @@ loop-i-preserved c =
     let s = c.args.s.now in
     let i = c.loop-i.i in
     let first = rw (zero-add i) at (hex_in_more s 0 i (omega arith)) in
-    (omega arith, omega arith, omega (arith, first, hex_in_more s 16 i (omega arith), hex_in_more s 20 i (omega arith)))
+    (omega arith, omega (arith, first, hex_in_more s 16 i (omega arith), hex_in_more s 20 i (omega arith)))
 
 pub returns : goal.returns
 returns c =
     let s = c.args.s.now in
     let all : c.loop-i.i ≡ 16 = omega arith in
-    c.loop-i.invariant.2 ∙ ap (λ (n : ℕ). hex_in 0 n s + hex_in 16 n s + hex_in 20 n s) all
+    c.loop-i.invariant.1 ∙ ap (λ (n : ℕ). hex_in 0 n s + hex_in 16 n s + hex_in 20 n s) all

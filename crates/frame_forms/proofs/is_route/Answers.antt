@@ -4,25 +4,22 @@ use Rattle.std.proofs.Math.Dec.{lit<}
 use borrow.Author.Tests.{ne_eqb}
 use Rattle.frame_forms.proofs.Routes.{route_length_lem, route_missed, route_counted}
 use Rattle.frame_forms.proofs.Stretches.{in_stretches}
+use Rattle.frame_forms.proofs.is_route.Goals.{then-s-ne45-via-then-s-ne45, then-s-ne45-via-else-s-ne45+then-s-ne45-2, then-s-ne45-via-else-s-ne45+else-s-ne45-2+then-s-ne45-3, then-s-ne45-via-else-s-ne45+else-s-ne45-2+else-s-ne45-3+then-s-ne45-4, then-s-ne45-via-else-s-ne45+else-s-ne45-2+else-s-ne45-3+else-s-ne45-4+then-s-ne0}
 use Rattle.frame_forms.proofs.is_route.Goals as goal
 
 pub returns-then-s-ne-ROUTE : goal.returns-then-s-ne-ROUTE
 returns-then-s-ne-ROUTE c = sym (route_length_lem c.args.s.now (λ e. omega arith))
 
 pub returns-then-s-ne45 : goal.returns-then-s-ne45
-returns-then-s-ne45 c = let s = c.args.s.now in sym (route_missed s 8 (lit< tt) (ne_eqb (get_or s 8 0) 45 (λ e. omega (arith, c.if-s-ne45.true))))
-
-pub returns-then-s-ne45-2 : goal.returns-then-s-ne45-2
-returns-then-s-ne45-2 c = let s = c.args.s.now in sym (route_missed s 13 (lit< tt) (ne_eqb (get_or s 13 0) 45 (λ e. omega (arith, c.if-s-ne45-2.true))))
-
-pub returns-then-s-ne45-3 : goal.returns-then-s-ne45-3
-returns-then-s-ne45-3 c = let s = c.args.s.now in sym (route_missed s 18 (lit< tt) (ne_eqb (get_or s 18 0) 45 (λ e. omega (arith, c.if-s-ne45-3.true))))
-
-pub returns-then-s-ne45-4 : goal.returns-then-s-ne45-4
-returns-then-s-ne45-4 c = let s = c.args.s.now in sym (route_missed s 23 (lit< tt) (ne_eqb (get_or s 23 0) 45 (λ e. omega (arith, c.if-s-ne45-4.true))))
-
-pub returns-then-s-ne0 : goal.returns-then-s-ne0
-returns-then-s-ne0 c = let s = c.args.s.now in sym (route_missed s 36 (lit< tt) (ne_eqb (get_or s 36 0) 0 (λ e. omega (arith, c.if-s-ne0.true))))
+returns-then-s-ne45 c =
+    let s = c.args.s.now in
+    elim c.then-s-ne45.branch [
+      | then-s-ne45-via-then-s-ne45 w ↦ sym (route_missed s 8 (lit< tt) (ne_eqb (get_or s 8 0) 45 (λ e. omega (arith, w.if-s-ne45.true))))
+      | then-s-ne45-via-else-s-ne45+then-s-ne45-2 w ↦ sym (route_missed s 13 (lit< tt) (ne_eqb (get_or s 13 0) 45 (λ e. omega (arith, w.if-s-ne45-2.true))))
+      | then-s-ne45-via-else-s-ne45+else-s-ne45-2+then-s-ne45-3 w ↦ sym (route_missed s 18 (lit< tt) (ne_eqb (get_or s 18 0) 45 (λ e. omega (arith, w.if-s-ne45-3.true))))
+      | then-s-ne45-via-else-s-ne45+else-s-ne45-2+else-s-ne45-3+then-s-ne45-4 w ↦ sym (route_missed s 23 (lit< tt) (ne_eqb (get_or s 23 0) 45 (λ e. omega (arith, w.if-s-ne45-4.true))))
+      | then-s-ne45-via-else-s-ne45+else-s-ne45-2+else-s-ne45-3+else-s-ne45-4+then-s-ne0 w ↦ sym (route_missed s 36 (lit< tt) (ne_eqb (get_or s 36 0) 0 (λ e. omega (arith, w.if-s-ne0.true))))
+    ]
 
 pub returns : goal.returns
 returns c =
