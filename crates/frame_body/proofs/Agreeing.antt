@@ -6,14 +6,14 @@ use mathlib.Core.List.{List, [], ◌∷◌, ◌++◌}
 use native.Mathlib.Omega.{arith}
 use native.Mathlib.Decide.{ℕ_discrete}
 use lib.Dec.{eqb}
-use borrow.Author.Tests.{eqb-true, le-leb, lt-leb}
+use borrow.Author.Tests.{eqb-true, lt-leb}
 use lib.ListN.{length, take, length-append}
 use lib.Seq.{take-append-le}
 use Rattle.frame_message.specs.declared.Header.{Header}
 use Rattle.frame_forms.specs.Count.{one}
 use Rattle.frame_message.specs.Header.{has_topic, has_payload, has_route, parts_fit}
 use Rattle.frame_message.specs.Frame.{joined, group_if}
-use Rattle.frame_message.specs.Writing.{all_routes, routes_good}
+use Rattle.frame_message.specs.Writing.{routes_good}
 use Rattle.frame_message.specs.Reading.{front, final, before_empty, routes_in, topic_place, payload_place, parts_agree}
 use Rattle.bytes_number.proofs.Truth.{and_right}
 use Rattle.frame_message.proofs.Lists.{front-final}
@@ -160,9 +160,8 @@ module _ (body : List ℕ) (counts : PartCounts) (h : Header) (d : Headed body c
       unfolding routes_good
       many_routes m = rw (lt-leb (length (routes_in h fr)) 64 (omega (arith, routes_is)))
 
-      pub routes_tested : routes ≤ 64 → routes_good (routes_in h fr) ≡ all_routes (take routes ps)
-      unfolding routes_good
-      routes_tested m = rw (le-leb (length (routes_in h fr)) 64 (omega (arith, routes_is)), routes_are)
+      pub routes_tested : routes_good (routes_in h fr) ≡ routes_good (take routes ps)
+      routes_tested = ap routes_good (sym routes_are)
 
-      pub sorted : routes ≤ 64 → all_routes (take routes ps) ≡ true → Sorted body counts h routes
-      sorted m a = record { head = d; agree = agree; count = routes_is; good = routes_tested m ∙ a }
+      pub sorted : routes_good (take routes ps) ≡ true → Sorted body counts h routes
+      sorted a = record { head = d; agree = agree; count = routes_is; good = routes_tested ∙ a }

@@ -1,34 +1,38 @@
 -- The routes at the front of a body: what is known after some of them, and what each way out of the loop shows.
 use mathlib.Core.Path.{◌≡◌, sym, ap, ◌∙◌}
-use mathlib.Core.Bool.{true, false, ◌&&◌}
-use Prim.Native.Nat.{ℕ, suc, ◌+◌, ◌-◌, ◌<◌, ◌≤◌}
+use borrow.Author.Tests.{le-leb, lt-leb}
+use mathlib.Core.Bool.{Bool, true, false, ◌&&◌}
+use Prim.Native.Nat.{ℕ, suc, ◌+◌, ◌-◌, ◌*◌, ◌<◌, ◌≤◌}
 use native.Mathlib.Nat.{add-zero}
 use native.Mathlib.Numerals.{add-one}
 use mathlib.Core.List.{List, [], ◌∷◌, ◌++◌}
 use native.Mathlib.Omega.{arith}
 use lib.ListN.{length, get_or, take, drop, length-append, length-drop}
-use lib.Seq.{get_or-drop, drop-cons, drop-drop, drop_at, take_at}
+use lib.Seq.{length-take-le, get_or-drop, drop-cons, drop-drop, drop_at, take_at}
 use Rattle.frame_message.specs.Frame.{part_bytes, joined}
 use Rattle.frame_forms.specs.Forms.{is_route}
-use Rattle.frame_message.specs.Writing.{all_routes}
+use Rattle.frame_message.specs.Writing.{all_routes, routes_good}
 use Rattle.frame_message.proofs.Parts.{part_short}
 use Rattle.frame_forms.proofs.Routes.{route_length_lem}
 use Rattle.frame_parts.proofs.Passing.{part_has_size}
 use Rattle.frame_body.proofs.Stretches.{first_byte}
 
--- i of the first so many parts ps are routes, and the next begins at a place of the body
-pub record Routed (body : List ℕ) (ps : List (List ℕ)) (routes i at : ℕ) : Type 0 where
-  pub left : drop at body ≡ joined (drop i ps)
+-- i of the first so many parts ps are routes, and the next begins behind the 38 bytes of each
+pub record Routed (body : List ℕ) (ps : List (List ℕ)) (routes i : ℕ) : Type 0 where
+  pub left : drop (i * 38) body ≡ joined (drop i ps)
   pub same : all_routes (take routes ps) ≡ all_routes (take (routes - i) (drop i ps))
   pub most : i ≤ routes
-  pub within : at ≤ length body
+  pub within : i * 38 ≤ length body
 
-pub routed-none : (body : List ℕ) (ps : List (List ℕ)) (routes : ℕ) → body ≡ joined ps → Routed body ps routes 0 0
+pub routed-none : (body : List ℕ) (ps : List (List ℕ)) (routes : ℕ) → body ≡ joined ps → Routed body ps routes 0
 routed-none body ps routes e =
     let all : routes - 0 ≡ routes = omega arith in
     record { left = e; same = rw all; most = omega arith; within = omega arith }
 
-module _ (body : List ℕ) (ps : List (List ℕ)) (routes i at : ℕ) (r : Routed body ps routes i at) where
+module _ (body : List ℕ) (ps : List (List ℕ)) (routes i : ℕ) (r : Routed body ps routes i) where
+  abbrev at : ℕ
+  at = i * 38
+
   pub routed_all : routes ≤ i → true ≡ all_routes (take routes ps)
   routed_all h =
       let none : routes - i ≡ 0 = omega arith in
@@ -85,14 +89,25 @@ module _ (body : List ℕ) (ps : List (List ℕ)) (routes i at : ℕ) (r : Route
       pub routed_wrong : is_route (take (at + 38 - (at + 1)) (drop (at + 1) body)) ≡ false → false ≡ all_routes (take routes ps)
       routed_wrong e = not_route (ap is_route (sym routed_part) ∙ e)
 
-      pub routed_more : is_route (take (at + 38 - (at + 1)) (drop (at + 1) body)) ≡ true → Routed body ps routes (i + 1) (at + 38)
+      pub routed_more : is_route (take (at + 38 - (at + 1)) (drop (at + 1) body)) ≡ true → Routed body ps routes (i + 1)
       unfolding others
       routed_more e =
-          let there : at + 38 ≡ at + 1 + 37 = omega arith in
+          let there : (i + 1) * 38 ≡ at + 1 + 37 = omega arith in
           let good : is_route q ≡ true = ap is_route (sym routed_part) ∙ e in
           record {
             left = rw (there, ← drop-drop 37 (at + 1) body, behind, add-one) (drop_at q (joined others) 37 long);
             same = tested ∙ rw (good, add-one);
             most = omega arith;
-            within = routed_fits;
+            within = omega (arith, routed_fits);
           }
+
+-- ---- 8, of the first so many parts
+
+module _ (ps : List (List ℕ)) (routes : ℕ) (few : routes ≤ length ps) where
+  pub good_many : 64 < routes → false ≡ routes_good (take routes ps)
+  unfolding routes_good
+  good_many h = rw (length-take-le routes ps few, lt-leb routes 64 h)
+
+  pub good_few : routes ≤ 64 → {t : Bool} → t ≡ all_routes (take routes ps) → t ≡ routes_good (take routes ps)
+  unfolding routes_good
+  good_few h e = rw (length-take-le routes ps few, le-leb routes 64 h) e

@@ -4,7 +4,7 @@ use mathlib.Core.Bool.{Bool, true, false}
 use Prim.Native.Nat.{ℕ, ◌+◌, ◌-◌, ◌<◌, ◌≤◌}
 use mathlib.Core.List.{List, [], ◌∷◌, ◌++◌, append_assoc}
 use native.Mathlib.Omega.{arith}
-use borrow.Author.Tests.{lt-ltb, le-ltb, ltb-true, ltb-false}
+use borrow.Author.Tests.{ltb-true, ltb-false}
 use lib.Dec.{ltb}
 use lib.ListN.{length, get_or, take, drop, length-append, length-drop}
 use Rattle.bytes_number.specs.Number.{number, four, Bytes}
@@ -14,8 +14,12 @@ use Rattle.frame_message.proofs.Lists.{Each}
 use Rattle.frame_message.proofs.Parts.{Sized, split, part_short, part_long}
 use Rattle.frame_message.specs.declared.Stretch.{Stretch}
 use Rattle.frame_layout.specs.declared.Piece.{Piece}
+use lib.Seq.{take_at}
+use Rattle.std.specs.Prelude.{Some}
+use Rattle.frame_part_size.specs.WorkingSizes.{size_at}
+use Rattle.frame_part_size.proofs.Sizes.{short_cut, long_cut}
 use Rattle.frame_parts.proofs.Passing.{part_from}
-use Rattle.frame_body.specs.WorkingJudging.{parts_found, Found, stretch_at, piece_at}
+use Rattle.frame_body.specs.WorkingJudging.{parts_found, Found, piece_at}
 
 -- ---- a part at the front of bytes
 
@@ -34,21 +38,20 @@ module _ (q rest : List ℕ) where
       go true t = rw (front_short (ltb-true _ _ t)) ((λ e. e), (λ e. e))
       go false t = rw (front_long (ltb-false _ _ t)) ((λ (e : ◌≡◌ {A = ℕ} 255 37). absurd (omega arith)), (λ (e : length q ≡ 37). absurd (omega (arith, ltb-false (length q) 255 t))))
 
-  pub stretch_part : Sized q → stretch_at (part_bytes q ++ rest) ≡ record { start = length (size_bytes (length q)); len = length q }
-  stretch_part sized = go (ltb (length q) 255) refl
+  -- its size is found in front
+  pub size_part : Sized q → size_at (part_bytes q ++ rest) ≡ Some (record { start = length (size_bytes (length q)); len = length q })
+  size_part sized = go (ltb (length q) 255) refl
     where
-      go : (t : Bool) → ltb (length q) 255 ≡ t → stretch_at (part_bytes q ++ rest) ≡ record { start = length (size_bytes (length q)); len = length q }
-      go true t = rw (front_short (ltb-true _ _ t), t)
-      go false t = rw (front_long (ltb-false _ _ t), t, number-four (length q) (q ++ rest) sized)
-
--- ---- by the bytes of the size
-
-module _ (s : List ℕ) where
-  pub stretch_short : get_or s 0 0 < 255 → stretch_at s ≡ record { start = 1; len = get_or s 0 0 }
-  stretch_short h = rw (lt-ltb (get_or s 0 0) 255 h)
-
-  pub stretch_long : 255 ≤ get_or s 0 0 → stretch_at s ≡ record { start = 5; len = number (drop 1 s) }
-  stretch_long h = rw (le-ltb (get_or s 0 0) 255 h)
+      go : (t : Bool) → ltb (length q) 255 ≡ t → size_at (part_bytes q ++ rest) ≡ Some (record { start = length (size_bytes (length q)); len = length q })
+      go true t =
+          let small = ltb-true (length q) 255 t in
+          rw (front_short small, short_cut (length q) (q ++ rest) small (omega (arith, length-append q rest)), take_at q rest (length q) refl)
+      go false t =
+          let big = ltb-false (length q) 255 t in
+          let behind = four (length q) ++ (q ++ rest) in
+          let is : number behind ≡ length q = number-four (length q) (q ++ rest) sized in
+          let left : drop 4 behind ≡ q ++ rest = refl in
+          rw (front_long big, long_cut 255 behind (omega arith) (omega (arith, length-append (four (length q)) (q ++ rest))) (omega (arith, is)) (omega (arith, is, ap length left, length-append q rest)), is, left, take_at q rest (length q) refl)
 
 -- ---- bytes whose parts were found
 
@@ -76,9 +79,12 @@ module _ (body : List ℕ) (at : ℕ) (b : Bytes body) (f : Found (drop at body)
   lent : take (length body - at) (drop at body) ≡ part_bytes here.part ++ joined here.others
   lent = part_from body at ∙ here.same
 
-  module _ (s : Stretch) (e : s ≡ stretch_at (take (length body - at) (drop at body))) where
+  pub found_there : size_at (take (length body - at) (drop at body)) ≡ Some (record { start = length (size_bytes (length here.part)); len = length here.part })
+  found_there = ap size_at lent ∙ size_part here.part (joined here.others) here.sized
+
+  module _ (s : Stretch) (e : Some s ≡ size_at (take (length body - at) (drop at body))) where
     found_at : s ≡ record { start = length (size_bytes (length here.part)); len = length here.part }
-    found_at = e ∙ ap stretch_at lent ∙ stretch_part here.part (joined here.others) here.sized
+    found_at = let same = e ∙ found_there in cc
 
     pub piece_fits : at + s.start + s.len ≤ length body
     piece_fits =

@@ -1,6 +1,5 @@
 -- What is known of a body while its parts are judged: the clauses of the functions inside the reader.
-use Rattle.std.specs.Prelude.{◌≡◌, ℕ, ◌+◌, ◌-◌, ◌≤◌, Bool, true, cond, not, ◌&&◌, List, [], ltb, length, get_or, take, drop}
-use Rattle.bytes_number.specs.Number.{number}
+use Rattle.std.specs.Prelude.{◌≡◌, ℕ, ◌+◌, ◌-◌, ◌≤◌, Bool, true, cond, not, ◌&&◌, List, [], length, get_or, take, drop}
 use Rattle.frame_message.specs.declared.Header.{Header}
 use Rattle.refusal.specs.Answer.{answered}
 use Rattle.frame_forms.specs.Count.{one}
@@ -9,7 +8,6 @@ use Rattle.frame_message.specs.Working.{is_header}
 use Rattle.frame_message.specs.Frame.{size_bytes, part_bytes, joined, group_if}
 use Rattle.frame_message.specs.Writing.{routes_good}
 use Rattle.frame_message.specs.Reading.{parts_in, front, final, before_empty, routes_in, parts_agree, is_topic_part}
-use Rattle.frame_message.specs.declared.Stretch.{Stretch}
 use Rattle.frame_layout.specs.declared.Layout.{Layout}
 use Rattle.frame_layout.specs.Layout.{stretch_if}
 use Rattle.frame_parts.specs.declared.PartCounts.{PartCounts}
@@ -25,10 +23,6 @@ abbrev pub Found : List ℕ → Type 0
 Found b = parts_in 68 b ≡ answered (parts_found b)
 
 -- ---- a part whose size is right
-
--- its data, by the bytes of its size
-abbrev pub stretch_at : List ℕ → Stretch
-stretch_at s = cond (ltb (get_or s 0 0) 255) (record { start = 1; len = get_or s 0 0 }) (record { start = 5; len = number (drop 1 s) })
 
 -- the part p at a place of the body
 abbrev pub piece_at : ℕ → List ℕ → Piece

@@ -1,35 +1,18 @@
 // What the parts of a body are: the header first, then 7 to 10 in the paper's order.
 ghost use Rattle.std.specs.Prelude.{◌≡◌, true, ◌<◌, ◌≤◌, length, take, drop};
 ghost use Rattle.refusal.specs.Answer.{and_then};
-ghost use Rattle.frame_message.specs.Writing.{all_routes};
+ghost use Rattle.frame_message.specs.Writing.{routes_good};
 ghost use Rattle.frame_message.specs.Reading.{parts_in, front, judged, judged_as};
 ghost use Rattle.frame_layout.specs.WorkingPlacing.{read_as};
-ghost use Rattle.frame_body.specs.WorkingJudging.{parts_found, Found, stretch_at, piece_if, Within, topic_wrong, CountsOf, Headed, Sorted};
+ghost use Rattle.frame_body.specs.WorkingJudging.{parts_found, Found, piece_if, Within, topic_wrong, CountsOf, Headed, Sorted};
 
-use crate::agree::{if_set, parts_agree};
+use crate::agree::{if_routed, parts_agree};
 use frame_header::read_header;
 use frame_layout::{Layout, Piece, placed};
-use frame_message::{Header, Stretch};
+use frame_message::{Header, ROUTE_PART, ROUTE_SIZE};
+use frame_part_size::size_at;
 use frame_parts::{PartCounts, count_parts};
 use refusal::Refusal;
-
-// The data of the part that begins s, whose size is known to be right.
-fn stretch_at(s: &[u8]) -> Stretch
-    requires { 0 < length s.now }
-    ensures { result ≡ stretch_at s.now }
-{
-    let short = bytes_number::wide(s[0]) as usize;
-    if short < 255 {
-        return Stretch {
-            start: 1,
-            len: short,
-        };
-    }
-    Stretch {
-        start: 5,
-        len: bytes_number::number_at(s, 1) as usize,
-    }
-}
 
 // Where the part that begins at a place of the body lies, if its flag is set.
 fn piece_if(body: &[u8], flag: bool, at: usize) -> Piece
@@ -38,40 +21,39 @@ fn piece_if(body: &[u8], flag: bool, at: usize) -> Piece
     requires nonzero { flag ≡ true → 0 < length (drop at body.now) }
     ensures { result ≡ piece_if flag at (parts_found (drop at body.now)) }
 {
-    if flag {
-        let part = stretch_at(&body[at..]);
-        let data = at + part.start;
-        Piece {
-            at: data,
-            len: part.len,
-            next: data + part.len,
-        }
-    } else {
-        Piece {
+    if !flag {
+        return Piece {
             at: 0,
             len: 0,
             next: at,
-        }
+        };
+    }
+    let part = size_at(&body[at..]).unwrap();
+    let data = at + part.start;
+    Piece {
+        at: data,
+        len: part.len,
+        next: data + part.len,
     }
 }
 
-// Whether the first so many parts are routes. Those in front of a part that is looked at have 38 bytes each.
-fn are_routes(body: &[u8], routes: usize) -> bool
+// 8: whether the first so many parts are at most 64 routes. Those in front of a part that is looked at have 38 bytes each.
+fn routes_good(body: &[u8], routes: usize) -> bool
     requires found { Found body.now }
     requires body_len_bound { (length body.now ≤ 32768) × (routes ≤ length (parts_found body.now)) }
-    ensures { result ≡ all_routes (take routes (parts_found body.now)) }
+    ensures { result ≡ routes_good (take routes (parts_found body.now)) }
 {
-    let mut i = 0;
-    let mut at = 0;
-    while i < routes {
-        if body[at] != frame_message::ROUTE_SIZE {
+    if frame_message::MOST_ROUTES < routes {
+        return false;
+    }
+    for i in 0..routes {
+        let at = i * ROUTE_PART;
+        if body[at] != ROUTE_SIZE {
             return false;
         }
-        if !frame_forms::is_route(&body[at + 1..at + frame_message::ROUTE_PART]) {
+        if !frame_forms::is_route(&body[at + 1..at + ROUTE_PART]) {
             return false;
         }
-        at += frame_message::ROUTE_PART;
-        i += 1;
     }
     true
 }
@@ -81,13 +63,7 @@ fn topic_wrong(body: &[u8], flags: u8, topic: Piece) -> bool
     requires { Within flags topic (length body.now) }
     ensures { result ≡ topic_wrong flags topic body.now }
 {
-    let from = topic.at;
-    let to = topic.next;
-    if frame_flags::has_topic(flags) {
-        !frame_topic_part::is_topic_part(&body[from..to])
-    } else {
-        false
-    }
+    frame_flags::has_topic(flags) && !frame_topic_part::is_topic_part(&body[topic.at..topic.next])
 }
 
 // 9 and 10, and then the message: the parts are as many as they should be, and the routes are right. The topic begins behind the
@@ -96,14 +72,12 @@ fn judge_rest(body: &[u8], counts: PartCounts, h: Header, routes: usize) -> Resu
     requires { Sorted body.now counts h routes }
     ensures { result ≡ read_as (judged_as h (front (parts_found body.now))) }
 {
-    let at = if_set(frame_flags::has_route(h.flags), counts.group + 1);
+    let at = if_routed(h.flags, counts.group + 1);
     let topic = piece_if(body, frame_flags::has_topic(h.flags), at);
-    let wrong = topic_wrong(body, h.flags, topic);
-    let good = frame_header_rules::fields_good(h);
-    if wrong {
+    if topic_wrong(body, h.flags, topic) {
         return Err(Refusal::TopicWrong);
     }
-    if !good {
+    if !frame_header_rules::fields_good(h) {
         return Err(Refusal::FieldWrong);
     }
     let payload = piece_if(body, frame_flags::has_payload(h.flags), topic.next);
@@ -115,15 +89,11 @@ fn judge_parts(body: &[u8], counts: PartCounts, h: Header) -> Result<Layout, Ref
     requires { Headed body.now counts h }
     ensures { result ≡ read_as (judged_as h (front (parts_found body.now))) }
 {
-    let routes = if_set(frame_flags::has_route(h.flags), counts.empty);
-    let agree = parts_agree(h, counts.count, routes);
-    if !agree {
+    let routes = if_routed(h.flags, counts.empty);
+    if !parts_agree(h, counts.count, routes) {
         return Err(Refusal::PartsDisagree);
     }
-    if frame_message::MOST_ROUTES < routes {
-        return Err(Refusal::RouteWrong);
-    }
-    if !are_routes(body, routes) {
+    if !routes_good(body, routes) {
         return Err(Refusal::RouteWrong);
     }
     judge_rest(body, counts, h, routes)

@@ -19,7 +19,7 @@ use Rattle.frame_part_size.specs.WorkingSizes.{data_at, sized_as, size_at}
 -- ---- the part itself
 
 module _ (x : ℕ) (xs : List ℕ) where
-  short_cut : x < 255 → x ≤ length xs → first_part x xs ≡ answered (take x xs, drop x xs)
+  pub short_cut : x < 255 → x ≤ length xs → first_part x xs ≡ answered (take x xs, drop x xs)
   unfolding first_part
   short_cut h k = rw (lt-ltb x 255 h, le-ltb (length xs) x k)
 
@@ -39,7 +39,7 @@ module _ (x : ℕ) (xs : List ℕ) where
   unfolding first_part
   long_passes h k l m = rw (le-ltb x 255 h, le-ltb (length xs) 4 k, le-ltb (number xs) 255 l, lt-ltb (length (drop 4 xs)) (number xs) m)
 
-  long_cut : 255 ≤ x → 4 ≤ length xs → 255 ≤ number xs → number xs ≤ length (drop 4 xs) → first_part x xs ≡ answered (take (number xs) (drop 4 xs), drop (number xs) (drop 4 xs))
+  pub long_cut : 255 ≤ x → 4 ≤ length xs → 255 ≤ number xs → number xs ≤ length (drop 4 xs) → first_part x xs ≡ answered (take (number xs) (drop 4 xs), drop (number xs) (drop 4 xs))
   unfolding first_part
   long_cut h k l m = rw (le-ltb x 255 h, le-ltb (length xs) 4 k, le-ltb (number xs) 255 l, le-ltb (length (drop 4 xs)) (number xs) m)
 

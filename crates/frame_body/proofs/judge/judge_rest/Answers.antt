@@ -16,8 +16,8 @@ use Rattle.frame_body.proofs.Sorting.{judged_topic, judged_field}
 use Rattle.frame_body.proofs.judge.judge_rest.Goals as goal
 
 -- where the topic is to begin: behind the delimiter, or at the front where there is none
-place : (body : List ℕ) (counts : PartCounts) (h : Header) (routes : ℕ) (t : Bool) (at : ℕ) → Sorted body counts h routes → t ≡ has_route h.flags → at ≡ cond t (counts.group + 1) 0 → at ≡ length (joined (group_in h (front (parts_found body))))
-place body counts h routes t at s e k = k ∙ ap (λ (u : Bool). cond u (counts.group + 1) 0) e ∙ sym (group_long _ _ _ s.head s.agree)
+place : (body : List ℕ) (counts : PartCounts) (h : Header) (routes : ℕ) (at : ℕ) → Sorted body counts h routes → at ≡ cond (has_route h.flags) (counts.group + 1) 0 → at ≡ length (joined (group_in h (front (parts_found body))))
+place body counts h routes at s k = k ∙ sym (group_long _ _ _ s.head s.agree)
 
 -- a piece by its flag
 piece : (body : List ℕ) (at : ℕ) (t u : Bool) (p : Piece) → t ≡ u → p ≡ piece_if t at (parts_found (drop at body)) → p ≡ piece_if u at (parts_found (drop at body))
@@ -29,73 +29,73 @@ overflow_add-counts c = omega (arith, c.requires.head.short, group_within _ (byt
 pub piece_if-topic-requires-clause-at_in_bounds : goal.piece_if-topic-requires-clause-at_in_bounds
 piece_if-topic-requires-clause-at_in_bounds c =
     let b = bytes_of_lem c.args.body.now (λ i. (c.type_inv.body i).fits) in
-    let at = place _ _ _ _ _ _ c.requires c.has_route.ensures c.if_set-at.ensures in
+    let at = place _ _ _ _ _ c.requires c.if_routed-at.ensures in
     (topic_in _ _ _ _ c.requires b _ at, c.requires.head.short)
 
 pub piece_if-topic-requires-clause-found : goal.piece_if-topic-requires-clause-found
 piece_if-topic-requires-clause-found c =
     let b = bytes_of_lem c.args.body.now (λ i. (c.type_inv.body i).fits) in
-    let at = place _ _ _ _ _ _ c.requires c.has_route.ensures c.if_set-at.ensures in
+    let at = place _ _ _ _ _ c.requires c.if_routed-at.ensures in
     topic_found _ _ _ _ c.requires b _ at
 
 pub piece_if-topic-requires-clause-nonzero : goal.piece_if-topic-requires-clause-nonzero
 piece_if-topic-requires-clause-nonzero c =
     let b = bytes_of_lem c.args.body.now (λ i. (c.type_inv.body i).fits) in
-    let at = place _ _ _ _ _ _ c.requires c.has_route.ensures c.if_set-at.ensures in
+    let at = place _ _ _ _ _ c.requires c.if_routed-at.ensures in
     λ _. topic_some _ _ _ _ c.requires b _ at
 
-pub topic_wrong-wrong-requires : goal.topic_wrong-wrong-requires
-topic_wrong-wrong-requires c =
+pub topic_wrong-requires : goal.topic_wrong-requires
+topic_wrong-requires c =
     let b = bytes_of_lem c.args.body.now (λ i. (c.type_inv.body i).fits) in
-    let at = place _ _ _ _ _ _ c.requires c.has_route.ensures c.if_set-at.ensures in
+    let at = place _ _ _ _ _ c.requires c.if_routed-at.ensures in
     let topic = piece _ _ _ _ _ c.has_topic.ensures c.piece_if-topic.ensures in
     topic_within _ _ _ _ c.requires b _ at _ topic
 
-pub returns-then-wrong : goal.returns-then-wrong
-returns-then-wrong c =
+pub returns-then-topic_wrong : goal.returns-then-topic_wrong
+returns-then-topic_wrong c =
     let b = bytes_of_lem c.args.body.now (λ i. (c.type_inv.body i).fits) in
-    let at = place _ _ _ _ _ _ c.requires c.has_route.ensures c.if_set-at.ensures in
+    let at = place _ _ _ _ _ c.requires c.if_routed-at.ensures in
     let topic = piece _ _ _ _ _ c.has_topic.ensures c.piece_if-topic.ensures in
-    let tested = sym (topic_tested _ _ _ _ c.requires b _ at _ topic) ∙ sym c.topic_wrong-wrong.ensures in
-    sym (ap read_as (judged_topic _ _ c.requires.agree c.requires.good (tested ∙ c.if-wrong.true)))
+    let tested = sym (topic_tested _ _ _ _ c.requires b _ at _ topic) ∙ sym c.topic_wrong.ensures in
+    sym (ap read_as (judged_topic _ _ c.requires.agree c.requires.good (tested ∙ c.if-topic_wrong.true)))
 
 pub piece_if-payload-requires-clause-at_in_bounds : goal.piece_if-payload-requires-clause-at_in_bounds
 piece_if-payload-requires-clause-at_in_bounds c =
     let b = bytes_of_lem c.args.body.now (λ i. (c.type_inv.body i).fits) in
-    let at = place _ _ _ _ _ _ c.requires c.has_route.ensures c.if_set-at.ensures in
+    let at = place _ _ _ _ _ c.requires c.if_routed-at.ensures in
     let topic = piece _ _ _ _ _ c.has_topic.ensures c.piece_if-topic.ensures in
     (payload_in _ _ _ _ c.requires b _ at _ topic, c.requires.head.short)
 
 pub piece_if-payload-requires-clause-found : goal.piece_if-payload-requires-clause-found
 piece_if-payload-requires-clause-found c =
     let b = bytes_of_lem c.args.body.now (λ i. (c.type_inv.body i).fits) in
-    let at = place _ _ _ _ _ _ c.requires c.has_route.ensures c.if_set-at.ensures in
+    let at = place _ _ _ _ _ c.requires c.if_routed-at.ensures in
     let topic = piece _ _ _ _ _ c.has_topic.ensures c.piece_if-topic.ensures in
     payload_found _ _ _ _ c.requires b _ at _ topic
 
 pub piece_if-payload-requires-clause-nonzero : goal.piece_if-payload-requires-clause-nonzero
 piece_if-payload-requires-clause-nonzero c =
     let b = bytes_of_lem c.args.body.now (λ i. (c.type_inv.body i).fits) in
-    let at = place _ _ _ _ _ _ c.requires c.has_route.ensures c.if_set-at.ensures in
+    let at = place _ _ _ _ _ c.requires c.if_routed-at.ensures in
     let topic = piece _ _ _ _ _ c.has_topic.ensures c.piece_if-topic.ensures in
     λ _. payload_some _ _ _ _ c.requires b _ at _ topic
 
-pub returns-then-not-good : goal.returns-then-not-good
-returns-then-not-good c =
+pub returns-then-not-fields_good : goal.returns-then-not-fields_good
+returns-then-not-fields_good c =
     let b = bytes_of_lem c.args.body.now (λ i. (c.type_inv.body i).fits) in
-    let at = place _ _ _ _ _ _ c.requires c.has_route.ensures c.if_set-at.ensures in
+    let at = place _ _ _ _ _ c.requires c.if_routed-at.ensures in
     let topic = piece _ _ _ _ _ c.has_topic.ensures c.piece_if-topic.ensures in
-    let right = sym (topic_tested _ _ _ _ c.requires b _ at _ topic) ∙ sym c.topic_wrong-wrong.ensures ∙ c.if-wrong.false in
-    sym (ap read_as (judged_field _ _ c.requires.agree c.requires.good right (sym c.fields_good-good.ensures ∙ c.if-not-good.true)))
+    let right = sym (topic_tested _ _ _ _ c.requires b _ at _ topic) ∙ sym c.topic_wrong.ensures ∙ c.if-topic_wrong.false in
+    sym (ap read_as (judged_field _ _ c.requires.agree c.requires.good right (sym c.fields_good.ensures ∙ c.if-not-fields_good.true)))
 
 pub returns : goal.returns
 returns c =
     let b = bytes_of_lem c.args.body.now (λ i. (c.type_inv.body i).fits) in
-    let at = place _ _ _ _ _ _ c.requires c.has_route.ensures c.if_set-at.ensures in
+    let at = place _ _ _ _ _ c.requires c.if_routed-at.ensures in
     let topic = piece _ _ _ _ _ c.has_topic.ensures c.piece_if-topic.ensures in
     let payload = piece _ _ _ _ _ c.has_payload.ensures c.piece_if-payload.ensures in
-    let good = sym (topic_tested _ _ _ _ c.requires b _ at _ topic) ∙ sym c.topic_wrong-wrong.ensures ∙ c.if-wrong.false in
-    let fields = sym c.fields_good-good.ensures ∙ c.if-not-good.false in
+    let good = sym (topic_tested _ _ _ _ c.requires b _ at _ topic) ∙ sym c.topic_wrong.ensures ∙ c.if-topic_wrong.false in
+    let fields = sym c.fields_good.ensures ∙ c.if-not-fields_good.false in
     let answer = answer_is _ _ _ _ c.requires b _ at _ topic _ payload good fields in
     let fits = placeable _ _ _ _ c.requires b _ at _ topic _ payload good in
     ap Ok (c.placed.ensures ∙ placed_in_lem _ _ _ _ _ fits ∙ placed_is _ _ _ _ c.requires b _ at _ topic _ payload good fields) ∙ sym (ap read_as answer)
