@@ -1,17 +1,17 @@
 -- How long a command is that will be written.
 use mathlib.Core.Path.{◌≡◌, refl, sym}
 use mathlib.Core.Bool.{Bool, true, false, cond, ◌&&◌}
-use Prim.Native.Nat.{ℕ, ◌+◌, ◌<◌, ◌≤◌}
+use Prim.Native.Nat.{ℕ, ◌≤◌}
 use mathlib.Core.List.{List, [], ◌∷◌}
 use native.Mathlib.Omega.{arith}
 use lib.Dec.{ltb, leb}
 use lib.ListN.{length}
-use borrow.Author.Tests.{lt-ltb, le-ltb, leb-true}
+use borrow.Author.Tests.{leb-true}
 use Rattle.bytes_number.proofs.Truth.{and_left, and_right, true_false}
 use Rattle.refusal.specs.declared.Refusal.TheVariants.{CommandLong, OutputShort}
 use Rattle.bytes_number.specs.Number.{four}
-use Rattle.refusal.specs.Answer.{answered, refuse_if, and_then}
-use Rattle.frame_message.specs.declared.Written.TheVariants.{Refused, Frame}
+use Rattle.refusal.specs.Answer.{answered, refuse_if, and_then, result_of}
+use Rattle.frame_write_check.specs.Working.{fitted}
 use Rattle.frame_message.specs.Frame.{size_bytes, joined}
 use Rattle.frame_message.specs.Working.{written_as}
 use Rattle.frame_message.specs.Writing.{is_empty}
@@ -22,7 +22,7 @@ use Rattle.mdp_command.specs.CommandWriting.{name_fits, address_fits}
 use Rattle.mdp_command.proofs.Carrying.{Carries, Kind, asks, ready, works, bare}
 use Rattle.mdp_command.proofs.Commands.{fits_address}
 use Rattle.mdp_command.proofs.Placing.{two_long, three_long, four_long}
-use Rattle.mdp_write_check.specs.WorkingChecks.{front_length, measured_as}
+use Rattle.mdp_write_check.specs.WorkingChecks.{front_length}
 
 -- ---- the bytes in front of the body
 
@@ -69,46 +69,17 @@ front_most true address n h = omega (arith, size_most n)
 front_most false true n h = omega arith
 front_most false false n h = omega arith
 
--- by the tests of the code
-module _ {name : Bool} (address : Bool) (n : ℕ) where
-  pub front_short_name : name ≡ true → n < 255 → 9 + 1 + n ≡ front_length name address n
-  front_short_name e h = rw (e, lt-ltb n 255 h) (omega arith)
+-- ---- 31 and 11, of a command's bytes
 
-  pub front_long_name : name ≡ true → 255 ≤ n → 9 + 5 + n ≡ front_length name address n
-  front_long_name e h = rw (e, le-ltb n 255 h) (omega arith)
-
-  pub front_address : name ≡ false → address ≡ true → 48 ≡ front_length name address n
-  front_address e f = rw (e, f)
-
-  pub front_bare : name ≡ false → address ≡ false → 9 ≡ front_length name address n
-  front_bare e f = rw (e, f)
-
--- ---- 31 and 11
-
-module _ (room n : ℕ) where
-  pub measured_long : 32768 < n → Refused CommandLong ≡ measured_as room n
-  unfolding measured_as
-  measured_long h = rw (lt-ltb 32768 n h)
-
-  pub measured_room : n ≤ 32768 → room < n → Refused OutputShort ≡ measured_as room n
-  unfolding measured_as
-  measured_room h k = rw (le-ltb 32768 n h, lt-ltb room n k)
-
-  pub measured_fits : n ≤ 32768 → n ≤ room → Frame n ≡ measured_as room n
-  unfolding measured_as
-  measured_fits h k = rw (le-ltb 32768 n h, le-ltb room n k)
-
--- what is told of a command's bytes
-pub measured_as_lem : (room : ℕ) (xs : List ℕ) →
-    measured_as room (length xs) ≡ written_as (and_then (refuse_if (ltb 32768 (length xs)) CommandLong (answered xs)) (λ bytes. refuse_if (ltb room (length bytes)) OutputShort (answered bytes)))
-unfolding measured_as
-measured_as_lem room xs = go (ltb 32768 (length xs))
+pub fitted_lem : (room : ℕ) (xs : List ℕ) →
+    fitted (length xs) 32768 CommandLong room ≡ written_as (and_then (refuse_if (ltb 32768 (length xs)) CommandLong (answered xs)) (λ bytes. refuse_if (ltb room (length bytes)) OutputShort (answered bytes)))
+fitted_lem room xs = go (ltb 32768 (length xs))
   where
-    fits : (q : Bool) → cond q (Refused OutputShort) (Frame (length xs)) ≡ written_as (refuse_if q OutputShort (answered xs))
+    fits : (q : Bool) → result_of (λ (m : ℕ). m) (refuse_if q OutputShort (answered (length xs))) ≡ written_as (refuse_if q OutputShort (answered xs))
     fits true = refl
     fits false = refl
 
-    go : (p : Bool) → cond p (Refused CommandLong) (cond (ltb room (length xs)) (Refused OutputShort) (Frame (length xs))) ≡
+    go : (p : Bool) → result_of (λ (m : ℕ). m) (refuse_if p CommandLong (refuse_if (ltb room (length xs)) OutputShort (answered (length xs)))) ≡
         written_as (and_then (refuse_if p CommandLong (answered xs)) (λ bytes. refuse_if (ltb room (length bytes)) OutputShort (answered bytes)))
     go true = refl
     go false = fits (ltb room (length xs))
