@@ -17,20 +17,13 @@ pub fn identity_of(identities: &[u8], rank: u32) -> &[u8]
 pub fn is_same(a: &[u8], b: &[u8]) -> bool
     ensures { result ≡ same_identity a.now b.now }
 {
-    table_records::same(a, b)
+    a == b
 }
 
 // The rank whose identity a route is, if there is one.
 pub fn find_broker(identities: &[u8], route: &[u8]) -> Option<usize>
     ensures { result ≡ broker_of identities.now route.now }
 {
-    let n = identities.len() / ROUTE;
-    let mut broker = 0;
-    while broker < n {
-        if is_same(table_records::record_at(identities, ROUTE, broker), route) {
-            return Some(broker);
-        }
-        broker += 1;
-    }
-    None
+    let (brokers, _) = identities.as_chunks::<ROUTE>();
+    brokers.iter().position(|identity| is_same(identity, route))
 }

@@ -1,16 +1,17 @@
 -- Laws on bytes compared.
-use mathlib.Core.Path.{◌≡◌, refl, ap}
+use mathlib.Core.Path.{◌≡◌, refl, sym, ap, ◌∙◌}
 use mathlib.Core.Bool.{Bool, true, false, ◌&&◌}
 use mathlib.Core.List.{List, [], ◌∷◌}
+use mathlib.Core.Logic.{⊎_elim}
 use Prim.Native.Nat.{ℕ, suc, ◌+◌, ◌<◌}
 use native.Mathlib.Numerals.{add-one}
 use native.Mathlib.Omega.{arith}
-use borrow.Author.Tests.{eqb-true, eq-eqb, ne_eqb}
+use borrow.Author.Tests.{eqb-true, eqb-false, eq-eqb, ne_eqb}
 use lib.Dec.{eqb}
 use lib.ListN.{length, get_or, drop}
 use lib.Seq.{drop-cons, drop-length}
 use Rattle.table_records.specs.Bytes.{same_bytes}
-use Rattle.bytes_number.proofs.Truth.{and_left as left, and_right as right}
+use Rattle.bytes_number.proofs.Truth.{outcome, and_left as left, and_right as right}
 
 pub same_cons : (x y : ℕ) (xs ys : List ℕ) → same_bytes (x ∷ xs) (y ∷ ys) ≡ (eqb x y && same_bytes xs ys)
 unfolding same_bytes
@@ -20,6 +21,16 @@ pub same_refl : (xs : List ℕ) → same_bytes xs xs ≡ true
 unfolding same_bytes
 same_refl [] = refl
 same_refl (x ∷ xs) = rw (eq-eqb x x refl, same_refl xs) refl
+
+pub same_turned : (xs ys : List ℕ) → same_bytes xs ys ≡ same_bytes ys xs
+unfolding same_bytes
+same_turned [] [] = refl
+same_turned [] (y ∷ ys) = refl
+same_turned (x ∷ xs) [] = refl
+same_turned (x ∷ xs) (y ∷ ys) = rw (eqb_turned x y, same_turned xs ys) refl
+  where
+    eqb_turned : (x y : ℕ) → eqb x y ≡ eqb y x
+    eqb_turned x y = ⊎_elim (λ t. t ∙ sym (eq-eqb y x (sym (eqb-true x y t)))) (λ f. f ∙ sym (ne_eqb y x (λ e. eqb-false x y f (sym e)))) (outcome (eqb x y))
 
 pub same_equal : (xs ys : List ℕ) → same_bytes xs ys ≡ true → xs ≡ ys
 unfolding same_bytes

@@ -4,3 +4,4 @@ pub mod Bytes
 pub mod Records
 pub mod Front
 pub mod Search
+pub mod Rows

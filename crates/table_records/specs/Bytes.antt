@@ -1,8 +1,6 @@
--- Bytes compared, one by one and to the end of both.
-use Rattle.std.specs.Prelude.{ℕ, Bool, true, false, ◌&&◌, List, [], ◌∷◌, eqb}
+-- Bytes compared, one by one and to the end of both: what `==` says of two slices.
+use Rattle.std.specs.Prelude.{ℕ, Bool, List, eqb}
+use Rattle.std.specs.Cmp.Lexicographic.{pointwise}
 
 unfoldable pub same_bytes : List ℕ → List ℕ → Bool
-same_bytes [] [] = true
-same_bytes [] (y ∷ ys) = false
-same_bytes (x ∷ xs) [] = false
-same_bytes (x ∷ xs) (y ∷ ys) = eqb x y && same_bytes xs ys
+same_bytes xs ys = pointwise eqb xs ys

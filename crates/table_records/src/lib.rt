@@ -46,18 +46,9 @@ pub fn equal_front(a: &[u8], b: &[u8]) -> usize
 }
 
 // Whether two slices hold the same bytes, to the end of both.
+#[tactic(auto, unfolding(crate::specs::Bytes::same_bytes))]
 pub fn same(a: &[u8], b: &[u8]) -> bool
     ensures { result ≡ same_bytes a.now b.now }
 {
-    if a.len() != b.len() {
-        return false;
-    }
-    let mut i = equal_front(a, b);
-    while i < a.len() {
-        if a[i] != b[i] {
-            return false;
-        }
-        i += 1;
-    }
-    true
+    a == b
 }

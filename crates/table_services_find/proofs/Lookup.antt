@@ -1,29 +1,27 @@
 -- Laws on the look-up of a service.
 use mathlib.Core.Path.{◌≡◌, refl, sym, ◌∙◌}
 use mathlib.Core.Bool.{true, false, ◌&&◌}
-use mathlib.Core.List.{List, []}
+use mathlib.Core.List.{List}
 use Rattle.std.specs.Prelude.{Some, None}
-use Prim.Native.Nat.{ℕ, ◌-◌, ◌/◌, ◌<◌, ◌≤◌}
-use native.Mathlib.Nat.{sub-zero}
+use Prim.Native.Nat.{ℕ, ◌/◌, ◌<◌, ◌≤◌}
 use native.Mathlib.Omega.{arith}
-use borrow.Author.Tests.{eq-eqb, ne_eqb, eqb-true, le-leb, lt-leb, leb-true, leb-false}
+use borrow.Author.Tests.{eq-eqb, ne_eqb, eqb-true, le-leb, lt-leb}
 use lib.Dec.{eqb, leb}
-use lib.ListN.{length, take, drop, length-take, length-drop}
+use lib.ListN.{length, take, drop}
 use Rattle.table_records.specs.Bytes.{same_bytes}
 use Rattle.table_records.specs.Search.{first_from}
-use mathlib.Core.Logic.{⊎_elim}
-use Rattle.bytes_number.proofs.Truth.{outcome, and_left as left, and_right as right, and_both as both, and_right_fails as right-fails}
+use Rattle.bytes_number.proofs.Truth.{and_left as left, and_right as right, and_both as both, and_right_fails as right-fails}
 use Rattle.table_records.proofs.Below.{once}
 use Rattle.table_records.proofs.Records.{length_record}
-use Rattle.table_records.proofs.Search.{first_passes, none_passes, first_only, first_agree}
+use Rattle.table_records.proofs.Search.{first_passes, none_passes, first_only}
 use Rattle.table_tree.specs.Tree.{ranks_in}
 use Rattle.table_services.proofs.Services.{Form, length_name, GoodServices, same_service_lem}
-use Rattle.table_records.proofs.Bytes.{same_lengths, same_refl, same_equal}
+use Rattle.table_records.proofs.Bytes.{same_turned, same_refl, same_equal}
+use Rattle.std.specs.List.{starts_with}
 use Rattle.table_services.specs.Services.{services_in, service_at, rank_in, name_length, name_in, same_service}
 use Rattle.table_services_find.specs.Lookup.{registers, registered_as}
-use Rattle.table_services_find.specs.Working.{whole_or_none}
 
-registered_is : (services : List ℕ) (rank : ℕ) (service : List ℕ) → registered_as services rank service ≡ first_from (λ i. registers (service_at services i) rank service) (length services / 32) 0
+pub registered_is : (services : List ℕ) (rank : ℕ) (service : List ℕ) → registered_as services rank service ≡ first_from (λ i. registers (service_at services i) rank service) (length services / 32) 0
 unfolding registered_as services_in
 registered_is services rank service = refl
 
@@ -43,54 +41,10 @@ module _ (row : List ℕ) (rank : ℕ) (service : List ℕ) where
   unfolding registers
   other_length h = rw (ne_eqb _ _ h) (right-fails (leb 1 (length service)) (right-fails (eqb (rank_in row) rank) refl))
 
-  -- a service of more than 27 bytes matches nothing: no name is cut
-  pub long_never : length row ≡ 32 → 27 < length service → registers row rank service ≡ false
-  unfolding registers
-  long_never e h =
-      rw (same_lengths (name_in row) service (λ q. absurd (omega (arith, simp (length-take, length-drop) at q))))
-      (right-fails (leb 1 (length service)) (right-fails (eqb (rank_in row) rank) (right-fails (eqb (name_length row) (length service)) refl)))
-
-  pub rest_same : 1 ≤ length service → rank_in row ≡ rank → name_length row ≡ length service → registers row rank service ≡ same_bytes (take (length service) (drop 5 row)) service
-  unfolding registers
-  rest_same h1 hr hl = rw (le-leb _ _ h1, eq-eqb _ _ hr, hl, eq-eqb _ _ refl) refl
-
--- ---- the service that is compared
-
-pub none_of_long : (service : List ℕ) → 27 < length service → [] ≡ whole_or_none service
-unfolding whole_or_none
-none_of_long service h = rw (lt-leb (length service) 27 h) refl
-
-pub whole_of_short : (service : List ℕ) → length service ≤ 27 → service ≡ whole_or_none service
-unfolding whole_or_none
-whole_of_short service h = rw (le-leb (length service) 27 h) refl
-
-pub length_whole : (service : List ℕ) → length (whole_or_none service) ≤ 27
-length_whole service =
-    ⊎_elim
-    (λ t. rw (← whole_of_short service (leb-true (length service) 27 t)) (leb-true (length service) 27 t))
-    (λ f. rw (← none_of_long service (leb-false (length service) 27 f)) (omega arith))
-    (outcome (leb (length service) 27))
-
--- a longer service matches nothing, as an empty one does
-registers_whole : (row : List ℕ) (rank : ℕ) (service : List ℕ) → length row ≡ 32 → registers row rank (whole_or_none service) ≡ registers row rank service
-registers_whole row rank service e =
-    ⊎_elim
-    (λ t. rw (← whole_of_short service (leb-true (length service) 27 t)) refl)
-    (λ f.
-    let long = leb-false (length service) 27 f in
-    rw (← none_of_long service long) (empty_never row rank [] (omega arith) ∙ sym (long_never row rank service e long)))
-    (outcome (leb (length service) 27))
-
-registered_whole : (services : List ℕ) (rank : ℕ) (service : List ℕ) → registered_as services rank (whole_or_none service) ≡ registered_as services rank service
-unfolding registered_as services_in
-registered_whole services rank service =
-    first_agree (λ i. registers (service_at services i) rank (whole_or_none service)) (λ i. registers (service_at services i) rank service) (length services / 32) 0
-    (λ k h. registers_whole (service_at services k) rank service (length_record 32 k services (omega arith)))
-
--- where the look-up begins
-pub search_start : (services : List ℕ) (rank : ℕ) (service name : List ℕ) → name ≡ whole_or_none service
-    → first_from (λ i. registers (service_at services i) rank name) (length services / 32 - 0) 0 ≡ registered_as services rank service
-search_start services rank service name e = rw (e, sub-zero) (sym (registered_is services rank (whole_or_none service)) ∙ registered_whole services rank service)
+  -- the bytes behind the length begin with the service
+  pub begins : 1 ≤ length service → rank_in row ≡ rank → name_length row ≡ length service → starts_with eqb (drop 5 row) service ≡ registers row rank service
+  unfolding registers same_bytes
+  begins h1 hr hl = rw (le-leb _ _ h1, eq-eqb _ _ hr, hl, eq-eqb _ _ refl) (same_turned service (take (length service) (drop 5 row)))
 
 -- ---- what is found, for the crates above
 

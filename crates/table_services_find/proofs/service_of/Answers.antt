@@ -1,13 +1,17 @@
--- No period stands in front of i.
-use Rattle.std.proofs.Common.{arith, sym, ◌∙◌}
-use Rattle.table_services_find.proofs.Topics.{service_stop, service_more, service_end}
+-- A service ends at the first period, or with the topic.
+use Rattle.std.proofs.Common.{rules, ◌∙◌, ◌==◌, sym}
+use borrow.Author.Tests.{tests}
+use Rattle.std.proofs.lemmas.Iterator.{YieldsList-from_slice}
+use Rattle.std.proofs.lemmas.Iterator.Search.{position_from_yields_List}
+use Rattle.table_services_find.proofs.Topics.{service_before, service_whole}
 use Rattle.table_services_find.proofs.service_of.Goals as goal
 
-pub returns-then-topic-i-eq46 : goal.returns-then-topic-i-eq46
-returns-then-topic-i-eq46 c = sym (service_stop c.args.topic.now c.loop-i.i (omega arith) (omega arith)) ∙ c.loop-i.invariant.1
+pub returns-in-Some : goal.returns-in-Some
+returns-in-Some c =
+    service_before c.args.topic.now c.in-Some.end
+    (sym c.in-Some.is ∙ position_from_yields_List (λ x. x == 46) _ _ c.position.result c.position.ensures.ran (YieldsList-from_slice c.args.topic.now c.iter.ensures.rest) (λ x b q k. search (rules, tests)))
 
-pub loop-i-preserved : goal.loop-i-preserved
-loop-i-preserved c = (omega arith, sym (service_more c.args.topic.now c.loop-i.i (omega arith) (λ e. omega arith)) ∙ c.loop-i.invariant.1)
-
-pub returns : goal.returns
-returns c = sym (service_end c.args.topic.now c.loop-i.i (omega arith)) ∙ c.loop-i.invariant.1
+pub returns-in-None : goal.returns-in-None
+returns-in-None c =
+    service_whole c.args.topic.now
+    (sym c.in-None.is ∙ position_from_yields_List (λ x. x == 46) _ _ c.position.result c.position.ensures.ran (YieldsList-from_slice c.args.topic.now c.iter.ensures.rest) (λ x b q k. search (rules, tests)))
