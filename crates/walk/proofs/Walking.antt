@@ -1,10 +1,12 @@
 -- A turn of the walk, and that a walk on valid tables is a step and passes behind it.
+use Rattle.std.specs.Prelude.{Result, Ok, Err}
 use mathlib.Core.Path.{◌≡◌, refl, ap, ◌∙◌}
 use Prim.Native.Nat.{ℕ, zero, suc, ◌+◌, ◌-◌, ◌<◌, ◌≤◌}
 use mathlib.Core.List.{List}
 use native.Mathlib.Omega.{arith}
 use borrow.Author.Tests.{lt-ltb, le-ltb}
 use lib.ListN.{length}
+use Rattle.refusal.specs.declared.Refusal.{Refusal}
 use Rattle.refusal.specs.declared.Refusal.TheVariants.{OutputShort}
 use Rattle.refusal.specs.Answer.{Answer, refused, answered}
 use Rattle.step_routing.specs.declared.Broker.{Broker}
@@ -43,7 +45,7 @@ module _ (t : Tables) (who : Broker) (buffer : List ℕ) where
 
 -- ---- a step that forwards has found the tables right
 
-pub forwards_right : (t : Tables) (who : Broker) (buffer : List ℕ) {s : Stepped} {next : ℕ} → s ≡ told_as (step_of t who buffer) → s ≡ Forwarded next → ValidTables t
+pub forwards_right : (t : Tables) (who : Broker) (buffer : List ℕ) {s : Result Stepped Refusal} {next : ℕ} → s ≡ told_as (step_of t who buffer) → s ≡ Ok (Forwarded next) → ValidTables t
 forwards_right t who buffer {next = next} says is =
     let on = told_on (step_of t who buffer) says is in
     let took = step_took t who buffer (forwarded next on.message) on.is in

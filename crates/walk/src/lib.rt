@@ -32,12 +32,17 @@ pub fn walk(t: Tables, b: Broker, buffer: &mut [u8]) -> Walked
             links: 0,
         };
     }
-    match step::step(t, b, buffer) {
-        Ok(Stepped::Forwarded(next)) => passes::go_on(t, Broker { rank: next, ..b }, buffer),
-        step => Walked {
-            step,
-            rank: b.rank,
-            links: 0,
-        },
-    }
+    let step = step::step(t, b, buffer);
+    let rests = Walked {
+        step,
+        rank: b.rank,
+        links: 0,
+    };
+    let Ok(stepped) = step else {
+        return rests;
+    };
+    let Stepped::Forwarded(next) = stepped else {
+        return rests;
+    };
+    passes::go_on(t, Broker { rank: next, ..b }, buffer)
 }

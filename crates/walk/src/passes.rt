@@ -16,16 +16,19 @@ pub(crate) fn go_on(t: Tables, first: Broker, buffer: &mut [u8]) -> Walked
 {
     let mut b = first;
     for links in 1..MOST_STEPS {
-        match step_pass::pass(t, b, buffer) {
-            Ok(Stepped::Forwarded(next)) => b.rank = next,
-            step => {
-                return Walked {
-                    step,
-                    rank: b.rank,
-                    links,
-                };
-            }
-        }
+        let step = step_pass::pass(t, b, buffer);
+        let rests = Walked {
+            step,
+            rank: b.rank,
+            links,
+        };
+        let Ok(stepped) = step else {
+            return rests;
+        };
+        let Stepped::Forwarded(next) = stepped else {
+            return rests;
+        };
+        b.rank = next;
     }
     Walked {
         step: Err(Refusal::ForwardLong),
