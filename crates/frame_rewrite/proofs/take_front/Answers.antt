@@ -5,4 +5,4 @@ use Rattle.frame_rewrite.proofs.take_front.Goals as goal
 
 pub returns-then-size-buffer : goal.returns-then-size-buffer
 returns-then-size-buffer c =
-    front-taken c.args.buffer.now c.args.n c.args.size (omega (arith, c.if-size-le-MOST_BODY.true)) (omega (arith, c.if-n-size.true)) (omega (arith, c.if-size-buffer.true)) c.move_within.ensures c.renew.ensures
+    front-taken c.args.buffer.now c.args.n c.args.size (omega arith) (omega arith) (omega arith) c.move_within.ensures c.renew.ensures
