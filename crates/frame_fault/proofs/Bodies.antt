@@ -11,31 +11,25 @@ use Rattle.bytes_number.specs.Number.{Bytes}
 use Rattle.refusal.specs.declared.Refusal.{Refusal}
 use Rattle.refusal.specs.declared.Refusal.TheVariants.{InputShort, StartWrong, BodyLong}
 use Rattle.refusal.specs.Refusals.{number_of}
-use Rattle.refusal.specs.Answer.{Answer, refused, answered, refuse_if, and_then}
-use Rattle.refusal.proofs.Answers.{Refuses, here, later, refuses, refused_same}
+use Rattle.refusal.specs.Answer.{Answer, refused, answered, refuse_if, and_then, result_of}
+use Rattle.refusal.proofs.Answers.{Refuses, here, later, refuses, not_answered}
 use Rattle.frame_message.specs.Message.{Message}
 use Rattle.frame_message.specs.Frame.{joined}
 use Rattle.frame_message.specs.Reading.{parts_in, judged, starts_right, body_length, reading_of}
+use Rattle.std.specs.Prelude.{Result, Ok, Err}
 use Rattle.frame_parts.specs.declared.PartCounts.{PartCounts}
-use Rattle.frame_parts.specs.declared.Counting.TheVariants.{Refused}
+use Rattle.frame_parts.specs.declared.Stop.{Stop}
+use Rattle.frame_read.specs.WorkingFront.{Opens}
 use Rattle.frame_parts.specs.WorkingCounting.{stop_byte, counted_as, counting_of}
-use Rattle.frame_layout.specs.declared.Layout.{Layout}
-use Rattle.frame_layout.specs.declared.Reading.TheVariants as readings
-use Rattle.frame_layout.specs.WorkingPlacing.{read_as}
 use Rattle.frame_body.specs.WorkingJudging.{parts_found, CountsOf}
 use Rattle.frame_body.proofs.Heading.{counting_refused}
 use Rattle.frame_fault.specs.declared.Fault.{Fault}
 use Rattle.frame_fault.specs.Fault.{body_in, whole_parts, size_byte, fault_bytes, byte_for, fault_number, fault_of}
-use Rattle.frame_fault.specs.WorkingFaults.{Why, BodyWhy}
+use Rattle.frame_fault.specs.WorkingFaults.{Why, IsRefused, verdict_of}
 use Rattle.frame_fault.proofs.Whole.{Stops, size_wrong, too_many, stops, stop_whole, whole_found}
 use Rattle.frame_fault.proofs.Whys.{judged_why}
 
 -- ---- a body
-
--- where the counting stopped
-told_stop : (stop : ℕ) (a : Answer (List (List ℕ))) {r : Refusal} {at : ℕ} → Refused r at ≡ counted_as stop a → at ≡ stop
-told_stop stop (refused q) e = cc
-told_stop stop (answered ps) e = let z : ◌≡◌ {A = ℕ} 0 1 = cc in absurd (omega arith)
 
 -- 4 and 5 are told at the same byte
 stop_byte_lem : {most : ℕ} {body : List ℕ} {ps : List (List ℕ)} {n : ℕ} → Stops most body ps n → size_byte ps ≡ byte_for n (fault_bytes ps)
@@ -47,28 +41,33 @@ stop_within : {most : ℕ} {body : List ℕ} {ps : List (List ℕ)} {n : ℕ} �
 stop_within {ps = ps} (size_wrong rest same few none) = omega (arith, ap length same, length-append (joined ps) rest)
 stop_within {ps = ps} (too_many rest same few some) = omega (arith, ap length same, length-append (joined ps) rest)
 
-pub stop_low : (body : List ℕ) → Bytes body → {r : Refusal} {at : ℕ} → Refused r at ≡ counting_of 68 body → at ≤ length body
-stop_low body b {r} e =
-    let is = counting_refused (stop_byte 68 body) (parts_in 68 body) e in
-    omega (arith, told_stop (stop_byte 68 body) (parts_in 68 body) e, stop_whole 68 body, stop_within (stops 68 body r b is))
+module _ (body : List ℕ) (b : Bytes body) {stop : Stop} (e : Err stop ≡ counting_of 68 body) where
+  is : parts_in 68 body ≡ refused stop.why
+  is = counting_refused (stop_byte 68 body) (parts_in 68 body) e
 
-module _ (body : List ℕ) {n : ℕ} (w : BodyWhy body n) where
-  pub stopped_byte : Bytes body → {r : Refusal} {at : ℕ} → Refused r at ≡ counting_of 68 body → 8 + at ≡ byte_for n (fault_bytes (whole_parts 68 body))
-  stopped_byte b {r} {at} e =
-      let is = counting_refused (stop_byte 68 body) (parts_in 68 body) e in
-      let refusal : and_then (parts_in 68 body) judged ≡ refused r = rw is in
-      let why : r ≡ w.why = refused_same (sym refusal ∙ w.refuses) in
-      let number : number_of r ≡ n = ap number_of why ∙ sym w.same in
-      let there : at ≡ length (joined (whole_parts 68 body)) = told_stop (stop_byte 68 body) (parts_in 68 body) e ∙ stop_whole 68 body in
-      ap (λ (k : ℕ). 8 + k) there ∙ stop_byte_lem (stops 68 body r b is) ∙ ap (λ (k : ℕ). byte_for k (fault_bytes (whole_parts 68 body))) number
+  -- where the counting stopped
+  there : stop.at ≡ length (joined (whole_parts 68 body))
+  there = go (parts_in 68 body) is e ∙ stop_whole 68 body
+    where
+      go : (a : Answer (List (List ℕ))) → a ≡ refused stop.why → Err stop ≡ counted_as (stop_byte 68 body) a → stop.at ≡ stop_byte 68 body
+      go (refused q) k f = let same : stop ≡ record { why = q; at = stop_byte 68 body } = cc in ap (λ (s : Stop). s.at) same
+      go (answered ps) k f = absurd (not_answered (sym k))
 
-  pub counted_why : {counts : PartCounts} → CountsOf body counts → Why (parts_found body) n
-  counted_why o =
-      let refusal : judged (parts_found body) ≡ refused w.why = sym (ap (λ (a : Answer (List (List ℕ))). and_then a judged) o.found) ∙ w.refuses in
-      subst (Why (parts_found body)) (sym w.same) (judged_why (parts_found body) w.why refusal)
+  pub stop_low : stop.at ≤ length body
+  stop_low = omega (arith, there, stop_within (stops 68 body stop.why b is))
 
-  pub counted_byte : {counts : PartCounts} → CountsOf body counts → byte_for n (fault_bytes (parts_found body)) ≡ byte_for n (fault_bytes (whole_parts 68 body))
-  counted_byte o = ap (λ (ps : List (List ℕ)). byte_for n (fault_bytes ps)) (sym (whole_found 68 body (parts_found body) o.found))
+  pub stop_refuses : IsRefused body stop.why
+  stop_refuses = rw is
+
+  pub stopped_byte : 8 + stop.at ≡ byte_for (number_of stop.why) (fault_bytes (whole_parts 68 body))
+  stopped_byte = ap (λ (k : ℕ). 8 + k) there ∙ stop_byte_lem (stops 68 body stop.why b is)
+
+module _ (body : List ℕ) {counts : PartCounts} (o : CountsOf body counts) where
+  pub counted_why : {why : Refusal} → IsRefused body why → Why (parts_found body) why
+  counted_why {why} e = judged_why (parts_found body) why (sym (ap (λ (a : Answer (List (List ℕ))). and_then a judged) o.found) ∙ e)
+
+  pub counted_byte : (n : ℕ) → byte_for n (fault_bytes (parts_found body)) ≡ byte_for n (fault_bytes (whole_parts 68 body))
+  counted_byte n = ap (λ (ps : List (List ℕ)). byte_for n (fault_bytes ps)) (sym (whole_found 68 body (parts_found body) o.found))
 
 -- ---- a frame
 
@@ -121,18 +120,21 @@ no_byte ps n l =
 -- ---- what the reader said
 
 module _ (b : List ℕ) where
-  pub read_refused : {r : Refusal} → readings.Refused r ≡ read_as (reading_of b) → reading_of b ≡ refused r
-  read_refused {r} e = go (reading_of b) e
+  pub verdict_refused : {r : Refusal} → reading_of b ≡ refused r → Err r ≡ verdict_of b
+  verdict_refused e = rw e
+
+  pub refused_verdict : {r : Refusal} → Err r ≡ verdict_of b → reading_of b ≡ refused r
+  refused_verdict {r} e = go (reading_of b) e
     where
-      go : (a : Answer Message) → readings.Refused r ≡ read_as a → a ≡ refused r
+      go : (a : Answer Message) → Err r ≡ result_of (λ m. tt {0}) a → a ≡ refused r
       go (refused q) e = cc
       go (answered m) e = let z : ◌≡◌ {A = ℕ} 0 1 = cc in absurd (omega arith)
 
-  pub fault_none : {l : Layout} → readings.Accepted l ≡ read_as (reading_of b) → ◌≡◌ {A = Fault} (record { number = 0; byte = 0 }) (fault_of b)
+  pub fault_none : Ok (tt {0}) ≡ verdict_of b → ◌≡◌ {A = Fault} (record { number = 0; byte = 0 }) (fault_of b)
   unfolding fault_of
-  fault_none {l} e = go (reading_of b) e
+  fault_none e = go (reading_of b) e
     where
-      go : (a : Answer Message) → readings.Accepted l ≡ read_as a → ◌≡◌ {A = Fault} (record { number = 0; byte = 0 }) (record { number = fault_number a; byte = byte_for (fault_number a) (fault_bytes (whole_parts 68 (body_in b))) })
+      go : (a : Answer Message) → Ok (tt {0}) ≡ result_of (λ m. tt {0}) a → ◌≡◌ {A = Fault} (record { number = 0; byte = 0 }) (record { number = fault_number a; byte = byte_for (fault_number a) (fault_bytes (whole_parts 68 (body_in b))) })
       go (refused q) e = let z : ◌≡◌ {A = ℕ} 0 1 = cc in absurd (omega arith)
       go (answered m) e = refl
 
@@ -140,7 +142,13 @@ module _ (b : List ℕ) where
   unfolding fault_of
   fault_at e number byte = rw (e, number, byte)
 
-  -- of a frame whose body was counted
-  pub fault_counted : {body : List ℕ} {n at : ℕ} → body ≡ body_in b → n ≡ fault_number (reading_of b) → at ≡ byte_for n (fault_bytes (whole_parts 68 body)) → ◌≡◌ {A = Fault} (record { number = n; byte = at }) (fault_of b)
-  unfolding fault_of
-  fault_counted same number byte = rw (byte, same, number)
+  -- of a frame whose body is all there
+  module _ {body : List ℕ} (o : Opens b body) {r : Refusal} where
+    pub body_refuses : reading_of b ≡ refused r → IsRefused body r
+    body_refuses e = sym o.reading ∙ e
+
+    pub refuses_body : IsRefused body r → reading_of b ≡ refused r
+    refuses_body e = o.reading ∙ e
+
+    pub fault_in_body : {n at : ℕ} → reading_of b ≡ refused r → n ≡ number_of r → at ≡ byte_for (number_of r) (fault_bytes (whole_parts 68 body)) → ◌≡◌ {A = Fault} (record { number = n; byte = at }) (fault_of b)
+    fault_in_body e number byte = fault_at e number (byte ∙ ap (λ (xs : List ℕ). byte_for (number_of r) (fault_bytes (whole_parts 68 xs))) o.is)

@@ -163,39 +163,21 @@ module _ {body : List ℕ} {ps : List (List ℕ)} {i at : ℕ} (l : Leads body p
             most = omega arith;
           })
 
--- ---- the same by the place alone: so many routes of 38 bytes are passed
+-- ---- of the loop: so many routes of 38 bytes are passed
 
-pub record Passes (body : List ℕ) (ps : List (List ℕ)) (at : ℕ) : Type 0 where
-  pub count : ℕ
-  pub is : at ≡ 38 * count
-  pub leads : Leads body ps count at
+abbrev pub Passes : List ℕ → List (List ℕ) → ℕ → Type 0
+Passes body ps n = Leads body ps n (38 * n)
 
-pub passes_none : (body : List ℕ) (ps : List (List ℕ)) → body ≡ joined ps → Passes body ps 0
-passes_none body ps e = record { count = 0; is = refl; leads = leads_none body ps e }
-
-module _ {body : List ℕ} {ps : List (List ℕ)} {at : ℕ} (p : Passes body ps at) (short : length body ≤ 32768) (few : length ps ≤ 68) where
-  pub passes_found : Found (drop at body)
-  passes_found = leads_found p.leads short few
-
-  pub passes_out : is_route (get_or (parts_found (drop at body)) 0 []) ≡ false → at ≡ length (joined (take (first_malformed 64 ps) ps))
-  passes_out e = leads_out p.leads short few e
-
-  pub passes_all : 2432 ≤ at → at ≡ length (joined (take (first_malformed 64 ps) ps))
-  passes_all h = leads_all p.leads short few (omega (arith, p.is))
-
-  module _ (route : is_route (get_or (parts_found (drop at body)) 0 []) ≡ true) where
-    pub passes_within : at + 38 ≤ length body
-    passes_within = leads_within p.leads short few route
-
-    pub passes_more : at < 2432 → Passes body ps (at + 38)
-    passes_more h = record { count = p.count + 1; is = omega (arith, p.is); leads = leads_more p.leads short few route (omega (arith, p.is)) }
+module _ {body : List ℕ} {ps : List (List ℕ)} {i : ℕ} (p : Passes body ps i) (short : length body ≤ 32768) (few : length ps ≤ 68) where
+  pub passes_more : is_route (get_or (parts_found (drop (38 * i) body)) 0 []) ≡ true → i < 64 → Passes body ps (i + 1)
+  passes_more route h =
+      let there : 38 * i + 38 ≡ 38 * (i + 1) = omega arith in
+      subst (Leads body ps (i + 1)) there (leads_more p short few route h)
 
   -- a part whose size is known
-  module _ (b : Bytes body) {n : ℕ} (a : Alike body n) (more : at < 38 * n) where
-    pub known_fits : at + 38 < length body
-    known_fits = omega (arith, p.is, a.behind (omega arith))
+  module _ (b : Bytes body) {n : ℕ} (a : Alike body n) (more : i < n) where
+    pub known_fits : 38 * i + 38 < length body
+    known_fits = omega (arith, a.behind (omega arith))
 
-    pub known_route : is_route (take (at + 38 - (at + 1)) (drop (at + 1) body)) ≡ is_route (get_or (parts_found (drop at body)) 0 [])
-    known_route =
-        let size : get_or body at 0 ≡ 37 = ap (λ (k : ℕ). get_or body k 0) p.is ∙ a.sizes p.count (omega (arith, p.is)) in
-        at_route body at b passes_found (omega (arith, known_fits)) size
+    pub known_route : is_route (take (38 * i + 38 - (38 * i + 1)) (drop (38 * i + 1) body)) ≡ is_route (get_or (parts_found (drop (38 * i) body)) 0 [])
+    known_route = at_route body (38 * i) b (leads_found p short few) (omega (arith, known_fits)) (a.sizes i more)

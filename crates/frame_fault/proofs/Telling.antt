@@ -1,4 +1,4 @@
--- The number of a body whose parts were counted: what the tests of the code tell.
+-- Why a body is refused whose parts were counted: what the tests of the code tell.
 use mathlib.Core.Path.{◌≡◌, refl, sym, ap, ◌∙◌}
 use Prim.Native.Nat.{ℕ, ◌+◌, ◌<◌, ◌≤◌}
 use mathlib.Core.Bool.{Bool, true, false, cond, ◌&&◌}
@@ -8,52 +8,21 @@ use borrow.Author.Tests.{le-leb}
 use lib.Dec.{eqb, leb}
 use lib.ListN.{length, get_or}
 use Rattle.bytes_number.specs.Number.{Bytes}
-use Rattle.refusal.specs.declared.Refusal.{Refusal}
 use Rattle.refusal.specs.declared.Refusal.TheVariants.{PartsDisagree, RouteWrong}
-use Rattle.refusal.specs.Refusals.{number_of}
-use Rattle.refusal.specs.Answer.{Answer, refused, answered, and_then}
+use Rattle.refusal.specs.Answer.{Answer, and_then}
 use Rattle.frame_message.specs.declared.Header.{Header}
 use Rattle.frame_message.specs.Header.{has_route, parts_fit, header_in}
-use Rattle.frame_message.specs.Message.{Message}
 use Rattle.frame_message.specs.Working.{is_header}
-use Rattle.frame_message.specs.Reading.{parts_in, front, final, parts_agree, judged_as, judged, reading_of}
+use Rattle.frame_message.specs.Reading.{parts_in, front, final, parts_agree, judged_as, judged}
 use Rattle.frame_message.proofs.Headers.{header_tested, header_answers}
 use Rattle.frame_message.proofs.Parts.{split}
 use Rattle.frame_parts.specs.declared.PartCounts.{PartCounts}
-use Rattle.frame_layout.specs.declared.Layout.{Layout}
-use Rattle.frame_layout.specs.declared.Reading.TheVariants.{Accepted}
-use Rattle.frame_layout.specs.WorkingPlacing.{read_as}
 use Rattle.frame_body.specs.WorkingJudging.{parts_found, parts_wanted, CountsOf, Headed}
 use Rattle.frame_body.proofs.Agreeing.{empty_low, agree_tested, many_routes}
 use Rattle.frame_body.proofs.Sorting.{judged_parts, judged_routes}
-use Rattle.frame_body.proofs.Readings.{accepted_read}
-use Rattle.frame_fault.specs.Fault.{header_of_parts, fault_number}
-use Rattle.frame_fault.specs.WorkingFaults.{BodyWhy, Early, BodyOf}
+use Rattle.frame_fault.specs.Fault.{header_of_parts}
+use Rattle.frame_fault.specs.WorkingFaults.{IsRefused}
 use Rattle.frame_fault.proofs.Parts.{header-byte}
-
--- ---- a refusal, and its number
-
-pub early_told : {body : List ℕ} {r : Refusal} {n : ℕ} → n ≡ number_of r → and_then (parts_in 68 body) judged ≡ refused r → Early body n
-early_told {body} {r} e k = record { told = λ z. record { why = r; same = e; refuses = k } }
-
-pub early_none : {body : List ℕ} → Early body 0
-early_none = record { told = λ n. absurd (n refl) }
-
--- the number of what is read from a body tells why it is refused
-pub number_why : (body : List ℕ) {n : ℕ} → n ≡ fault_number (and_then (parts_in 68 body) judged) → (n ≡ 0 → ⊥) → BodyWhy body n
-number_why body {n} e some = go (and_then (parts_in 68 body) judged) refl e
-  where
-    go : (a : Answer Message) → and_then (parts_in 68 body) judged ≡ a → n ≡ fault_number a → BodyWhy body n
-    go (refused r) k e = record { why = r; same = e; refuses = k }
-    go (answered m) k e = absurd (some e)
-
-pub accepted_number : (a : Answer Message) {l : Layout} → Accepted l ≡ read_as a → 0 ≡ fault_number a
-accepted_number a e = sym (ap fault_number (accepted_read a e).is)
-
--- of a frame with this body
-pub early_number : {b body : List ℕ} {n : ℕ} → BodyOf b body → Early body n → (n ≡ 0 → ⊥) → n ≡ fault_number (reading_of b)
-early_number o early some = let w = early.told some in
-    w.same ∙ sym (ap fault_number (o.reading ∙ w.refuses))
 
 -- ---- 7 and 8, by the header's type and flags
 
@@ -110,10 +79,10 @@ module _ (body : List ℕ) (b : Bytes body) (counts : PartCounts) (o : CountsOf 
         ∙ ap (λ (t : Bool). t && (parts_fit (record { kind = kind; flags = flags; userid = 0; rolemask = 0; first = 0; second = 0 }) && eqb counts.count (parts_wanted flags routes))) (sym few)
         ∙ sym e
 
-    pub early_parts : {t : Bool} → t ≡ asked → t ≡ false → and_then (parts_in 68 body) judged ≡ refused PartsDisagree
+    pub early_parts : {t : Bool} → t ≡ asked → t ≡ false → IsRefused body PartsDisagree
     early_parts e wrong = rest ∙ judged_parts _ _ (agree_told e ∙ wrong)
 
-    pub early_routes : {t : Bool} → t ≡ asked → t ≡ true → 64 < routes → and_then (parts_in 68 body) judged ≡ refused RouteWrong
+    pub early_routes : {t : Bool} → t ≡ asked → t ≡ true → 64 < routes → IsRefused body RouteWrong
     early_routes e right many =
         let agree = agree_told e ∙ right in
         rest ∙ judged_routes _ _ agree (many_routes body counts h headed routes routes_are agree many)

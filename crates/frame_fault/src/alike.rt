@@ -4,7 +4,7 @@ ghost use Rattle.frame_parts.specs.WorkingCounting.{counting_of};
 ghost use Rattle.frame_fault.specs.WorkingAlike.{Alike};
 
 use frame_message::{MOST_PARTS, MOST_ROUTES, ROUTE_PART, ROUTE_SIZE};
-use frame_parts::{Counting, PartCounts, count_parts};
+use frame_parts::{PartCounts, Stop, count_parts};
 
 // Parts that are looked at together.
 const FOUR: usize = 4;
@@ -13,60 +13,50 @@ const FOUR: usize = 4;
 fn leading_fours(body: &[u8]) -> usize
     ensures { Alike body.now result }
 {
-    let mut n = 0;
-    while n <= MOST_ROUTES - FOUR {
+    for fours in 0..MOST_ROUTES / FOUR {
+        let n = FOUR * fours;
         let at = ROUTE_PART * n;
-        if body.len() <= at + FOUR * ROUTE_PART {
+        if body.len() <= at + FOUR * ROUTE_PART
+            || body[at] != ROUTE_SIZE
+            || body[at + ROUTE_PART] != ROUTE_SIZE
+            || body[at + 2 * ROUTE_PART] != ROUTE_SIZE
+            || body[at + 3 * ROUTE_PART] != ROUTE_SIZE
+        {
             return n;
         }
-        if body[at] != ROUTE_SIZE {
-            return n;
-        }
-        if body[at + ROUTE_PART] != ROUTE_SIZE {
-            return n;
-        }
-        if body[at + 2 * ROUTE_PART] != ROUTE_SIZE {
-            return n;
-        }
-        if body[at + 3 * ROUTE_PART] != ROUTE_SIZE {
-            return n;
-        }
-        n += FOUR;
     }
-    n
+    MOST_ROUTES
 }
 
 // The same, and those that follow them one at a time.
 pub(crate) fn leading_alike(body: &[u8]) -> usize
     ensures { Alike body.now result }
 {
-    let mut n = leading_fours(body);
-    while n < MOST_ROUTES {
+    for n in leading_fours(body)..MOST_ROUTES {
         let at = ROUTE_PART * n;
-        if body.len() <= at + ROUTE_PART {
+        if body.len() <= at + ROUTE_PART || body[at] != ROUTE_SIZE {
             return n;
         }
-        if body[at] != ROUTE_SIZE {
-            return n;
-        }
-        n += 1;
     }
-    n
+    MOST_ROUTES
 }
 
 // The parts of a body, counted: behind the leading ones, and then these with them.
-pub(crate) fn count_alike(body: &[u8], alike: usize) -> Counting
+pub(crate) fn count_alike(body: &[u8], alike: usize) -> Result<PartCounts, Stop>
     requires { (length body.now ≤ 32768) × Alike body.now alike }
     ensures { result ≡ counting_of 68 body.now }
 {
     let at = ROUTE_PART * alike;
     match count_parts(&body[at..], MOST_PARTS - alike) {
-        Counting::Refused(why, stop) => Counting::Refused(why, at + stop),
-        Counting::Counted(rest) => Counting::Counted(PartCounts {
+        Ok(rest) => Ok(PartCounts {
             count: alike + rest.count,
             empty: alike + rest.empty,
             group: at + rest.group,
             last: at + rest.last,
+        }),
+        Err(stop) => Err(Stop {
+            why: stop.why,
+            at: at + stop.at,
         }),
     }
 }

@@ -13,10 +13,7 @@ fn is_route_at(body: &[u8], at: usize) -> bool
     requires { (at ≤ length body.now) × Found (drop at body.now) }
     ensures { result ≡ is_route (get_or (parts_found (drop at body.now)) 0 []) }
 {
-    if body.len() - at < ROUTE_PART {
-        return false;
-    }
-    if body[at] != ROUTE_SIZE {
+    if body.len() - at < ROUTE_PART || body[at] != ROUTE_SIZE {
         return false;
     }
     frame_forms::is_route(&body[at + 1..at + ROUTE_PART])
@@ -28,20 +25,17 @@ pub(crate) fn first_malformed(body: &[u8], alike: usize) -> usize
     requires alike { Alike body.now alike }
     ensures { result ≡ length (joined (take (first_malformed 64 (parts_found body.now)) (parts_found body.now))) }
 {
-    let known = ROUTE_PART * alike;
-    let mut place = 0;
-    while place < known {
+    for known in 0..alike {
+        let place = ROUTE_PART * known;
         if !frame_forms::is_route(&body[place + 1..place + ROUTE_PART]) {
             return place;
         }
-        place += ROUTE_PART;
     }
-    let mut at = place;
-    while at < ROUTE_PART * MOST_ROUTES {
+    for n in alike..MOST_ROUTES {
+        let at = ROUTE_PART * n;
         if !is_route_at(body, at) {
             return at;
         }
-        at += ROUTE_PART;
     }
-    at
+    ROUTE_PART * MOST_ROUTES
 }

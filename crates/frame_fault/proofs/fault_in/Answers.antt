@@ -1,39 +1,44 @@
--- The fault of a body that is all there: by the counting of its parts, and else by its number.
-use Rattle.std.proofs.Common.{◌≡◌, ℕ, List, sym, ap, ◌∙◌, arith}
+-- The fault of a body that is all there: by the counting of its parts, and else by why it is refused.
+use Rattle.std.proofs.Common.{◌∙◌, arith}
 use Rattle.bytes_number.proofs.Numbers.{bytes_of_lem}
-use Rattle.refusal.specs.declared.Refusal.{Refusal}
-use Rattle.refusal.specs.Answer.{Answer, refused, and_then}
-use Rattle.frame_message.specs.Reading.{parts_in, judged}
-use Rattle.frame_parts.specs.declared.Counting.TheVariants.{Refused}
-use Rattle.frame_parts.specs.WorkingCounting.{stop_byte, counting_of}
-use Rattle.frame_body.proofs.Heading.{counting_refused, counting_done}
-use Rattle.frame_fault.specs.Fault.{fault_number}
-use Rattle.frame_fault.specs.WorkingFaults.{BodyWhy}
-use Rattle.frame_fault.proofs.Bodies.{stop_low, stopped_byte, fault_counted}
+use Rattle.refusal.specs.Refusals.{number_of}
+use Rattle.frame_body.proofs.Heading.{counting_done}
+use Rattle.frame_fault.proofs.Bodies.{stop_low, stop_refuses, stopped_byte, counted_why, counted_byte, refused_verdict, fault_none, body_refuses, refuses_body, fault_in_body}
+use Rattle.frame_fault.proofs.Places.{last_low, group_low}
 use Rattle.frame_fault.proofs.fault_in.Goals as goal
-
--- a part is refused
-refusal : (body : List ℕ) {r : Refusal} {at : ℕ} → Refused r at ≡ counting_of 68 body → and_then (parts_in 68 body) judged ≡ refused r
-refusal body e = ap (λ (a : Answer (List (List ℕ))). and_then a judged) (counting_refused (stop_byte 68 body) (parts_in 68 body) e)
 
 pub overflow_add-result : goal.overflow_add-result
 overflow_add-result c =
     let b = bytes_of_lem c.args.body.now (λ i. (c.type_inv.body i).fits) in
-    omega (arith, c.requires.short, stop_low c.args.body.now b c.in-Refused.ensures)
+    omega (arith, c.requires.short, stop_low c.args.body.now b c.in-Err.ensures)
 
-pub number_counted-number-requires : goal.number_counted-number-requires
-number_counted-number-requires c = (c.requires, counting_done c.args.body.now c.in-Counted.ensures)
+pub returns-in-Err : goal.returns-in-Err
+returns-in-Err c =
+    let b = bytes_of_lem c.args.body.now (λ i. (c.type_inv.body i).fits) in
+    let e = c.in-Err.ensures in
+    fault_in_body c.args.bytes.now c.requires (refuses_body c.args.bytes.now c.requires (stop_refuses c.args.body.now b e)) c.from.ensures (stopped_byte c.args.body.now b e)
 
-pub byte_counted-requires-clause-body_len_bound : goal.byte_counted-requires-clause-body_len_bound
-byte_counted-requires-clause-body_len_bound c = (c.requires.short, counting_done c.args.body.now c.in-Counted.ensures)
+pub why_counted-requires : goal.why_counted-requires
+why_counted-requires c = (c.requires, counting_done c.args.body.now c.in-Ok.ensures)
 
-pub returns-in-Refused : goal.returns-in-Refused
-returns-in-Refused c =
-    let body = c.args.body.now in
-    let b = bytes_of_lem body (λ i. (c.type_inv.body i).fits) in
-    let none = refusal body c.in-Refused.ensures in
-    let why : BodyWhy body c.number.result = record { why = c.in-Refused.why; same = c.number.ensures; refuses = none } in
-    fault_counted _ c.requires.same (c.number.ensures ∙ sym (ap fault_number (c.requires.reading ∙ none))) (stopped_byte body why b c.in-Refused.ensures)
+pub byte_in_parts-requires-clause-body_len_bound : goal.byte_in_parts-requires-clause-body_len_bound
+byte_in_parts-requires-clause-body_len_bound c = (c.requires.short, counting_done c.args.body.now c.in-Ok.ensures)
 
-pub returns-in-Counted : goal.returns-in-Counted
-returns-in-Counted c = fault_counted _ c.requires.same c.number_counted-number.ensures c.byte_counted.ensures
+pub byte_in_parts-requires-clause-low : goal.byte_in_parts-requires-clause-low
+byte_in_parts-requires-clause-low c =
+    let b = bytes_of_lem c.args.body.now (λ i. (c.type_inv.body i).fits) in
+    let o = counting_done c.args.body.now c.in-Ok.ensures in
+    (last_low c.args.body.now b _ o c.requires.short, group_low c.args.body.now b _ o c.requires.short)
+
+pub byte_in_parts-requires-clause-alike : goal.byte_in_parts-requires-clause-alike
+byte_in_parts-requires-clause-alike c =
+    let refused = body_refuses c.args.bytes.now c.requires (refused_verdict c.args.bytes.now c.in-Err-why_counted.ensures) in
+    (c.leading_alike-alike.ensures, counted_why c.args.body.now (counting_done c.args.body.now c.in-Ok.ensures) refused)
+
+pub returns-in-Ok-why_counted : goal.returns-in-Ok-why_counted
+returns-in-Ok-why_counted c = fault_none c.args.bytes.now c.in-Ok-why_counted.ensures
+
+pub returns-in-Err-why_counted : goal.returns-in-Err-why_counted
+returns-in-Err-why_counted c =
+    fault_in_body c.args.bytes.now c.requires (refused_verdict c.args.bytes.now c.in-Err-why_counted.ensures) c.from-in-Err-why_counted.ensures
+    (c.byte_in_parts.ensures ∙ counted_byte c.args.body.now (counting_done c.args.body.now c.in-Ok.ensures) (number_of c.in-Err-why_counted.why))

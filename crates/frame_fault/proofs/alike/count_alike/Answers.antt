@@ -2,11 +2,10 @@
 use Rattle.std.proofs.Common.{◌≡◌, ◌≤◌, ℕ, ◌+◌, ◌-◌, ◌*◌, List, length, take, drop, ap, ◌∙◌, arith}
 use Rattle.bytes_number.specs.Number.{Bytes}
 use Rattle.bytes_number.proofs.Numbers.{bytes_of_lem}
-use Rattle.refusal.specs.declared.Refusal.{Refusal}
+use Rattle.std.specs.Prelude.{Result, Ok, Err}
 use Rattle.frame_message.proofs.Parts.{split}
 use Rattle.frame_parts.specs.declared.PartCounts.{PartCounts}
-use Rattle.frame_parts.specs.declared.Counting.{Counting}
-use Rattle.frame_parts.specs.declared.Counting.TheVariants.{Refused, Counted}
+use Rattle.frame_parts.specs.declared.Stop.{Stop}
 use Rattle.frame_parts.specs.WorkingCounting.{counting_of}
 use Rattle.frame_parts.proofs.Passing.{part_from, before_few}
 use Rattle.frame_body.specs.WorkingJudging.{parts_found, CountsOf}
@@ -18,19 +17,19 @@ use Rattle.frame_fault.proofs.alike.count_alike.Goals as goal
 
 module _ (body : List ℕ) (b : Bytes body) (n : ℕ) (a : Alike body n) (short : length body ≤ 32768) where
   -- the parts behind them were counted of the bytes that are left
-  behind : {r : Counting} → r ≡ counting_of (68 - n) (take (length body - 38 * n) (drop (38 * n) body)) → r ≡ counting_of (68 - n) (drop (38 * n) body)
+  behind : {r : Result PartCounts Stop} → r ≡ counting_of (68 - n) (take (length body - 38 * n) (drop (38 * n) body)) → r ≡ counting_of (68 - n) (drop (38 * n) body)
   behind e = e ∙ ap (counting_of (68 - n)) (part_from body (38 * n))
 
   -- one of them was refused
-  stopped : {r : Refusal} {stop : ℕ} → Refused r stop ≡ counting_of (68 - n) (take (length body - 38 * n) (drop (38 * n) body)) → Refused r (38 * n + stop) ≡ counting_of 68 body
+  stopped : {stop : Stop} → Err stop ≡ counting_of (68 - n) (take (length body - 38 * n) (drop (38 * n) body)) → Err (record { why = stop.why; at = 38 * n + stop.at }) ≡ counting_of 68 body
   stopped e = alike_refused body b n a (behind e)
 
-  stopped_low : {r : Refusal} {stop : ℕ} → Refused r stop ≡ counting_of (68 - n) (take (length body - 38 * n) (drop (38 * n) body)) → 38 * n + stop ≤ 32768
+  stopped_low : {stop : Stop} → Err stop ≡ counting_of (68 - n) (take (length body - 38 * n) (drop (38 * n) body)) → 38 * n + stop.at ≤ 32768
   stopped_low e = omega (arith, short, stop_low body b (stopped e))
 
   -- none was
-  module _ {rest : PartCounts} (e : Counted rest ≡ counting_of (68 - n) (take (length body - 38 * n) (drop (38 * n) body))) where
-    all : Counted (added n rest) ≡ counting_of 68 body
+  module _ {rest : PartCounts} (e : Ok rest ≡ counting_of (68 - n) (take (length body - 38 * n) (drop (38 * n) body))) where
+    all : Ok (added n rest) ≡ counting_of 68 body
     all = alike_counted body b n a (behind e)
 
     over : CountsOf body (added n rest)
@@ -51,37 +50,37 @@ module _ (body : List ℕ) (b : Bytes body) (n : ℕ) (a : Alike body n) (short 
     last_low : 38 * n + rest.last ≤ 32768
     last_low = omega (arith, short, last_within body b _ over)
 
+pub overflow_add-result-in-Err : goal.overflow_add-result-in-Err
+overflow_add-result-in-Err c =
+    let b = bytes_of_lem c.args.body.now (λ i. (c.type_inv.body i).fits) in
+    omega (arith, stopped_low c.args.body.now b c.args.alike c.requires.1 c.requires.0 c.in-Err.ensures)
+
+pub returns-in-Err : goal.returns-in-Err
+returns-in-Err c =
+    let b = bytes_of_lem c.args.body.now (λ i. (c.type_inv.body i).fits) in
+    stopped c.args.body.now b c.args.alike c.requires.1 c.requires.0 c.in-Err.ensures
+
 pub overflow_add-result : goal.overflow_add-result
 overflow_add-result c =
     let b = bytes_of_lem c.args.body.now (λ i. (c.type_inv.body i).fits) in
-    omega (arith, stopped_low c.args.body.now b c.args.alike c.requires.1 c.requires.0 c.in-Refused.ensures)
+    omega (arith, count_low c.args.body.now b c.args.alike c.requires.1 c.requires.0 c.in-Ok.ensures)
 
-pub returns-in-Refused : goal.returns-in-Refused
-returns-in-Refused c =
+pub overflow_add-result-in-Ok : goal.overflow_add-result-in-Ok
+overflow_add-result-in-Ok c =
     let b = bytes_of_lem c.args.body.now (λ i. (c.type_inv.body i).fits) in
-    stopped c.args.body.now b c.args.alike c.requires.1 c.requires.0 c.in-Refused.ensures
+    omega (arith, empty_low c.args.body.now b c.args.alike c.requires.1 c.requires.0 c.in-Ok.ensures)
 
-pub overflow_add-result-in-Counted : goal.overflow_add-result-in-Counted
-overflow_add-result-in-Counted c =
+pub overflow_add-result-in-Ok-2 : goal.overflow_add-result-in-Ok-2
+overflow_add-result-in-Ok-2 c =
     let b = bytes_of_lem c.args.body.now (λ i. (c.type_inv.body i).fits) in
-    omega (arith, count_low c.args.body.now b c.args.alike c.requires.1 c.requires.0 c.in-Counted.ensures)
+    omega (arith, group_low c.args.body.now b c.args.alike c.requires.1 c.requires.0 c.in-Ok.ensures)
 
-pub overflow_add-result-in-Counted-2 : goal.overflow_add-result-in-Counted-2
-overflow_add-result-in-Counted-2 c =
+pub overflow_add-result-in-Ok-3 : goal.overflow_add-result-in-Ok-3
+overflow_add-result-in-Ok-3 c =
     let b = bytes_of_lem c.args.body.now (λ i. (c.type_inv.body i).fits) in
-    omega (arith, empty_low c.args.body.now b c.args.alike c.requires.1 c.requires.0 c.in-Counted.ensures)
+    omega (arith, last_low c.args.body.now b c.args.alike c.requires.1 c.requires.0 c.in-Ok.ensures)
 
-pub overflow_add-result-in-Counted-3 : goal.overflow_add-result-in-Counted-3
-overflow_add-result-in-Counted-3 c =
+pub returns-in-Ok : goal.returns-in-Ok
+returns-in-Ok c =
     let b = bytes_of_lem c.args.body.now (λ i. (c.type_inv.body i).fits) in
-    omega (arith, group_low c.args.body.now b c.args.alike c.requires.1 c.requires.0 c.in-Counted.ensures)
-
-pub overflow_add-result-in-Counted-4 : goal.overflow_add-result-in-Counted-4
-overflow_add-result-in-Counted-4 c =
-    let b = bytes_of_lem c.args.body.now (λ i. (c.type_inv.body i).fits) in
-    omega (arith, last_low c.args.body.now b c.args.alike c.requires.1 c.requires.0 c.in-Counted.ensures)
-
-pub returns-in-Counted : goal.returns-in-Counted
-returns-in-Counted c =
-    let b = bytes_of_lem c.args.body.now (λ i. (c.type_inv.body i).fits) in
-    added_as c.args.alike c.in-Counted.rest (omega arith) (omega arith) (omega arith) (omega arith) (all c.args.body.now b c.args.alike c.requires.1 c.requires.0 c.in-Counted.ensures)
+    added_as c.args.alike c.in-Ok.rest (omega arith) (omega arith) (omega arith) (omega arith) (all c.args.body.now b c.args.alike c.requires.1 c.requires.0 c.in-Ok.ensures)

@@ -5,8 +5,7 @@ use Rattle.frame_message.specs.Reading.{header_or_why}
 use Rattle.frame_header.specs.WorkingHead.{head_as}
 use Rattle.frame_header.proofs.Heads.{told_wrong, told_right}
 use Rattle.frame_body.proofs.Heading.{last_within, last_wrong, head_wrong, headed}
-use Rattle.frame_fault.proofs.Telling.{early_told}
-use Rattle.frame_fault.proofs.number.early_number.Goals as goal
+use Rattle.frame_fault.proofs.why.test_last.Goals as goal
 
 -- the last part, as it was lent
 abbrev lent : List ℕ → ℕ → List ℕ
@@ -20,16 +19,16 @@ overflow_sub-body c =
 pub returns-then-body-last-ne-HEADER_PART : goal.returns-then-body-last-ne-HEADER_PART
 returns-then-body-last-ne-HEADER_PART c =
     let b = bytes_of_lem c.args.body.now (λ i. (c.type_inv.body i).fits) in
-    early_told c.number.ensures (last_wrong _ b _ c.requires.1 (λ e. omega (arith, c.if-body-last-ne-HEADER_PART.true)))
+    last_wrong _ b _ c.requires.1 (λ e. omega (arith, c.if-body-last-ne-HEADER_PART.true))
 
-pub parts_number-requires-clause-body_value : goal.parts_number-requires-clause-body_value
-parts_number-requires-clause-body_value c =
+pub test_parts-requires-clause-body_value : goal.test_parts-requires-clause-body_value
+test_parts-requires-clause-body_value c =
     let b = bytes_of_lem c.args.body.now (λ i. (c.type_inv.body i).fits) in
-    let right = told_right (lent c.args.body.now c.args.counts.last) c.in-Right.ensures in
+    let right = told_right (lent c.args.body.now c.args.counts.last) c.in_ok-test_header.ensures in
     (headed _ b _ c.requires.1 (omega arith) _ (sym (ap head_as right)) c.requires.0).headed
 
-pub returns-in-Wrong : goal.returns-in-Wrong
-returns-in-Wrong c =
+pub returns-in_err-test_header : goal.returns-in_err-test_header
+returns-in_err-test_header c =
     let b = bytes_of_lem c.args.body.now (λ i. (c.type_inv.body i).fits) in
-    let wrong = told_wrong (header_or_why (lent c.args.body.now c.args.counts.last)) c.in-Wrong.ensures in
-    early_told c.number-in-Wrong.ensures (head_wrong _ b _ c.requires.1 (omega arith) wrong)
+    let wrong = told_wrong (header_or_why (lent c.args.body.now c.args.counts.last)) c.in_err-test_header.ensures in
+    head_wrong _ b _ c.requires.1 (omega arith) wrong
