@@ -3,6 +3,8 @@ use mathlib.Core.Path.{◌≡◌, sym, ap, ◌∙◌}
 use Prim.Native.Nat.{ℕ, ◌+◌, ◌≤◌}
 use mathlib.Core.List.{List, []}
 use lib.ListN.{length}
+use Rattle.refusal.specs.declared.Refusal.{Refusal}
+use Rattle.refusal.specs.Refusals.{number_of}
 use Rattle.frame_message.specs.Frame.{joined}
 use Rattle.frame_message.specs.Reading.{front, final, body_length}
 use Rattle.frame_message.proofs.Headers.{header_tested}
@@ -20,7 +22,7 @@ module _ (b : List ℕ) (fits : 8 + body_length b ≤ length b) (ps : List (List
   abbrev p : List ℕ
   p = final [] ps
 
-  pub part_row : {n : ℕ} → Why ps n → FaultAt b n (byte_for n (fault_bytes ps))
+  pub part_row : {r : Refusal} → Why ps r → FaultAt b (number_of r) (byte_for (number_of r) (fault_bytes ps))
   part_row (why.length_wrong n) = last_part b ps whole n
   part_row (why.magic_wrong long m) =
       told_at (header_is_at b fits ps whole long) (magic_wrong fore p (in_frame b fits ps whole long) (λ e. m (sym (magic_is b fits ps whole long) ∙ e)))

@@ -1,22 +1,19 @@
 -- The leading parts of a route's size: what they add to the counting of the others.
 use mathlib.Core.Path.{◌≡◌, refl, sym, ap, subst, ◌∙◌}
-use Prim.Native.Nat.{ℕ, zero, suc, ◌+◌, ◌-◌, ◌*◌, ◌<◌, ◌≤◌}
+use Prim.Native.Nat.{ℕ, zero, suc, ◌+◌, ◌-◌, ◌*◌, ◌<◌}
 use native.Mathlib.Numerals.{add-one}
 use mathlib.Core.List.{List, [], ◌∷◌, ◌++◌, append_assoc}
 use native.Mathlib.Omega.{arith}
-use native.Mathlib.Decide.{dec_lt}
 use borrow.Author.Tests.{le-ltb}
 use lib.ListN.{length, get_or, drop, length-append, length-drop}
 use Rattle.bytes_number.specs.Number.{Bytes}
 use Rattle.bytes_number.proofs.Numbers.{bytes_drop}
-use Rattle.refusal.specs.declared.Refusal.{Refusal}
 use Rattle.refusal.specs.Answer.{Answer, refused, answered}
 use Rattle.frame_message.specs.Frame.{joined}
 use Rattle.frame_message.specs.Reading.{parts_in, front, final, before_empty}
 use Rattle.frame_message.proofs.Lists.{front_snoc, front-final}
 use Rattle.frame_message.proofs.Parts.{split, joined-append}
-use Rattle.std.specs.Prelude.{Result, Ok, Err, Option, Some}
-use Rattle.frame_message.specs.declared.Stretch.{Stretch}
+use Rattle.std.specs.Prelude.{Result, Ok, Err, Some}
 use Rattle.frame_part_size.specs.WorkingSizes.{size_at}
 use Rattle.frame_part_size.proofs.Sizes.{size_short}
 use Rattle.frame_parts.specs.declared.PartCounts.{PartCounts}

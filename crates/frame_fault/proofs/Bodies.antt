@@ -1,5 +1,5 @@
 -- The byte of a body and of a frame that are refused: by the counting of the parts, and by the tests in front.
-use mathlib.Core.Path.{◌≡◌, refl, sym, ap, subst, ◌∙◌}
+use mathlib.Core.Path.{◌≡◌, refl, sym, ap, ◌∙◌}
 use Prim.Native.Nat.{ℕ, ◌+◌, ◌<◌, ◌≤◌}
 use mathlib.Core.Bool.{not}
 use mathlib.Core.List.{List}
@@ -16,7 +16,7 @@ use Rattle.refusal.proofs.Answers.{Refuses, here, later, refuses, not_answered}
 use Rattle.frame_message.specs.Message.{Message}
 use Rattle.frame_message.specs.Frame.{joined}
 use Rattle.frame_message.specs.Reading.{parts_in, judged, starts_right, body_length, reading_of}
-use Rattle.std.specs.Prelude.{Result, Ok, Err}
+use Rattle.std.specs.Prelude.{Ok, Err}
 use Rattle.frame_parts.specs.declared.PartCounts.{PartCounts}
 use Rattle.frame_parts.specs.declared.Stop.{Stop}
 use Rattle.frame_read.specs.WorkingFront.{Opens}
@@ -122,6 +122,9 @@ no_byte ps n l =
 module _ (b : List ℕ) where
   pub verdict_refused : {r : Refusal} → reading_of b ≡ refused r → Err r ≡ verdict_of b
   verdict_refused e = rw e
+
+  pub read_verdict : {m : Message} → reading_of b ≡ answered m → Ok (tt {0}) ≡ verdict_of b
+  read_verdict e = rw e
 
   pub refused_verdict : {r : Refusal} → Err r ≡ verdict_of b → reading_of b ≡ refused r
   refused_verdict {r} e = go (reading_of b) e

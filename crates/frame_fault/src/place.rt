@@ -7,7 +7,7 @@ ghost use Rattle.frame_fault.specs.WorkingAlike.{Alike};
 ghost use Rattle.frame_fault.specs.WorkingFaults.{size_length, Why};
 
 use crate::route::first_malformed;
-use frame_body::if_set;
+use frame_body::if_routed;
 use frame_message::{FRONT, Kind};
 use frame_parts::PartCounts;
 use refusal::Refusal;
@@ -56,7 +56,7 @@ pub(crate) fn byte_in_parts(body: &[u8], counts: PartCounts, alike: usize, why: 
         Refusal::TopicWrong => {
             let flags = bytes_number::byte_at(body, last + 4);
             // The topic's part begins behind the routes and their delimiter, or at the front where there are none.
-            data_at(body, if_set(frame_flags::has_route(flags), counts.group + 1))
+            data_at(body, if_routed(flags, counts.group + 1))
         }
         Refusal::FieldWrong => header + field_byte(bytes_number::byte_at(body, last + 3)),
         Refusal::VersionWrong => header + 1,

@@ -6,7 +6,7 @@ ghost use Rattle.frame_read.specs.WorkingFront.{Opens};
 ghost use Rattle.frame_body.specs.WorkingJudging.{parts_found, CountsOf};
 ghost use Rattle.frame_fault.specs.WorkingFaults.{IsRefused, verdict_of};
 
-use frame_body::if_set;
+use frame_body::if_routed;
 use frame_header::test_header;
 use frame_message::{HEADER_PART, Header, MOST_ROUTES};
 use frame_parts::PartCounts;
@@ -28,7 +28,7 @@ fn test_parts(body: &[u8], counts: PartCounts) -> Result<(), Refusal>
         first: 0,
         second: 0,
     };
-    let routes = if_set(frame_flags::has_route(flags), counts.empty);
+    let routes = if_routed(flags, counts.empty);
     if !frame_body::parts_agree(h, counts.count, routes) {
         return Err(Refusal::PartsDisagree);
     }

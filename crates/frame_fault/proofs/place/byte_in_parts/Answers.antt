@@ -17,7 +17,7 @@ data_at-requires c =
 pub data_at-requires-in-TopicWrong : goal.data_at-requires-in-TopicWrong
 data_at-requires-in-TopicWrong c =
     let b = bytes_of_lem c.args.body.now (λ i. (c.type_inv.body i).fits) in
-    topic_low c.args.body.now b c.args.counts c.requires.body_len_bound.1 c.requires.body_len_bound.0 c.requires.alike.1 c.in-TopicWrong.is c.byte_at-flags.ensures (rw c.has_route.ensures at c.if_set.ensures)
+    topic_low c.args.body.now b c.args.counts c.requires.body_len_bound.1 c.requires.body_len_bound.0 c.requires.alike.1 c.in-TopicWrong.is c.byte_at-flags.ensures c.if_routed.ensures
 
 pub returns-in-PartsDisagree : goal.returns-in-PartsDisagree
 returns-in-PartsDisagree c =
@@ -32,7 +32,7 @@ returns-in-RouteWrong c =
 pub returns-in-TopicWrong : goal.returns-in-TopicWrong
 returns-in-TopicWrong c =
     let b = bytes_of_lem c.args.body.now (λ i. (c.type_inv.body i).fits) in
-    place_9 c.args.body.now b c.args.counts c.requires.body_len_bound.1 c.requires.body_len_bound.0 c.requires.alike.1 c.in-TopicWrong.is c.byte_at-flags.ensures (rw c.has_route.ensures at c.if_set.ensures) c.data_at-in-TopicWrong.ensures
+    place_9 c.args.body.now b c.args.counts c.requires.body_len_bound.1 c.requires.body_len_bound.0 c.requires.alike.1 c.in-TopicWrong.is c.byte_at-flags.ensures c.if_routed.ensures c.data_at-in-TopicWrong.ensures
 
 pub returns-in-FieldWrong : goal.returns-in-FieldWrong
 returns-in-FieldWrong c =

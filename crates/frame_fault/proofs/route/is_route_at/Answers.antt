@@ -9,9 +9,9 @@ pub returns-then-body-at-lt-ROUTE_PART : goal.returns-then-body-at-lt-ROUTE_PART
 returns-then-body-at-lt-ROUTE_PART c =
     let b = bytes_of_lem c.args.body.now (λ i. (c.type_inv.body i).fits) in
     elim c.then-body-at-lt-ROUTE_PART.branch [
-      then-body-at-lt-ROUTE_PART-via-then-body-at-lt-ROUTE_PART w ↦ at_short c.args.body.now c.args.at b c.requires.1 (omega arith)
-    | then-body-at-lt-ROUTE_PART-via-else-body-at-lt-ROUTE_PART+then-body-at-ne-ROUTE_SIZE w ↦
-        at_other c.args.body.now c.args.at b c.requires.1 (omega arith) (λ z. omega (arith, w.if-body-at-ne-ROUTE_SIZE.true))
+      | then-body-at-lt-ROUTE_PART-via-then-body-at-lt-ROUTE_PART w ↦ at_short c.args.body.now c.args.at b c.requires.1 (omega arith)
+      | then-body-at-lt-ROUTE_PART-via-else-body-at-lt-ROUTE_PART+then-body-at-ne-ROUTE_SIZE w ↦
+          at_other c.args.body.now c.args.at b c.requires.1 (omega arith) (λ z. omega (arith, w.if-body-at-ne-ROUTE_SIZE.true))
     ]
 
 pub returns : goal.returns

@@ -1,5 +1,5 @@
 -- The last part is a header, or is refused as one.
-use Rattle.std.proofs.Common.{ℕ, List, length, take, drop, ◌+◌, ◌-◌, sym, ap, arith}
+use Rattle.std.proofs.Common.{rules, ℕ, List, length, take, drop, ◌+◌, ◌-◌, sym, ap, arith}
 use Rattle.bytes_number.proofs.Numbers.{bytes_of_lem}
 use Rattle.frame_message.specs.Reading.{header_or_why}
 use Rattle.frame_header.specs.WorkingHead.{head_as}
@@ -30,5 +30,5 @@ test_parts-requires-clause-body_value c =
 pub returns-in_err-test_header : goal.returns-in_err-test_header
 returns-in_err-test_header c =
     let b = bytes_of_lem c.args.body.now (λ i. (c.type_inv.body i).fits) in
-    let wrong = told_wrong (header_or_why (lent c.args.body.now c.args.counts.last)) c.in_err-test_header.ensures in
-    head_wrong _ b _ c.requires.1 (omega arith) wrong
+    let wrong = head_wrong _ b _ c.requires.1 (omega arith) (told_wrong (header_or_why (lent c.args.body.now c.args.counts.last)) c.in_err-test_header.ensures) in
+    search rules

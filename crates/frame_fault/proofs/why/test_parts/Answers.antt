@@ -18,9 +18,9 @@ overflow_add-last-2 c =
 pub returns-then-not-parts_agree : goal.returns-then-not-parts_agree
 returns-then-not-parts_agree c =
     let b = bytes_of_lem c.args.body.now (λ i. (c.type_inv.body i).fits) in
-    early_parts c.args.body.now b c.args.counts c.requires.body_len_bound.1 c.requires.body_len_bound.0 c.requires.body_value c.byte_at.ensures (omega arith) c.byte_at-flags.ensures (omega arith) (rw c.has_route.ensures at c.if_set-routes.ensures) c.parts_agree.ensures c.if-not-parts_agree.true
+    early_parts c.args.body.now b c.args.counts c.requires.body_len_bound.1 c.requires.body_len_bound.0 c.requires.body_value c.byte_at.ensures (omega arith) c.byte_at-flags.ensures (omega arith) c.if_routed-routes.ensures c.parts_agree.ensures c.if-not-parts_agree.true
 
 pub returns-then-routes-gt-MOST_ROUTES : goal.returns-then-routes-gt-MOST_ROUTES
 returns-then-routes-gt-MOST_ROUTES c =
     let b = bytes_of_lem c.args.body.now (λ i. (c.type_inv.body i).fits) in
-    early_routes c.args.body.now b c.args.counts c.requires.body_len_bound.1 c.requires.body_len_bound.0 c.requires.body_value c.byte_at.ensures (omega arith) c.byte_at-flags.ensures (omega arith) (rw c.has_route.ensures at c.if_set-routes.ensures) c.parts_agree.ensures c.if-not-parts_agree.false (omega arith)
+    early_routes c.args.body.now b c.args.counts c.requires.body_len_bound.1 c.requires.body_len_bound.0 c.requires.body_value c.byte_at.ensures (omega arith) c.byte_at-flags.ensures (omega arith) c.if_routed-routes.ensures c.parts_agree.ensures c.if-not-parts_agree.false (omega arith)
