@@ -1,4 +1,4 @@
-// What the writer of commands refuses, in the paper's order, before it writes anything.
+// What the writer of commands refuses, in the paper's order, before it writes anything; 33 comes before all of it.
 #![tactic(auto)]
 
 ghost use Rattle.std.specs.Prelude.{◌≡◌, ◌≤◌};
@@ -9,14 +9,14 @@ ghost use Rattle.frame_message.specs.Working.{written_as};
 ghost use Rattle.mdp_command.specs.CommandBytes.{cut_parts};
 ghost use Rattle.mdp_command.specs.CommandWriting.{command_into};
 ghost use Rattle.mdp_command.specs.WorkingGiven.{given_in};
-ghost use Rattle.mdp_rules.specs.WorkingCarried.{named, addressed};
+ghost use Rattle.mdp_rules.specs.WorkingCarried.{named, addressed, CarriedBy};
 ghost use Rattle.mdp_write_check.specs.WorkingChecks.{cut_as, front_length};
 
 use frame_forms::is_route;
 use frame_parts::count_parts;
 use frame_write_check::fit;
 use frame_write_check::length::length_with_size;
-use mdp_command::{Command, MOST_BYTES, START, Sender};
+use mdp_command::{Command, MOST_BYTES, START};
 use mdp_name::is_name;
 use mdp_rules::Carried;
 use refusal::Refusal;
@@ -59,12 +59,12 @@ fn front_length(carried: Carried, n: usize) -> usize
     }
 }
 
-// The refusal, or the length of the command to be written into so much room: 33, 30, 34, 35, 36, then 31 and 11.
-pub fn check_command(command: &Command, room: usize) -> Result<usize, Refusal>
-    ensures { result ≡ written_as (command_into room (given_in command.now)) }
+// The refusal, or the length of the command to be written into so much room, where there is such a command: 30, 34, 35, 36, then 31 and 11.
+pub fn check_command(command: &Command, carried: Carried, room: usize) -> Result<usize, Refusal>
+    requires { CarriedBy command.now.sender command.now.code carried }
+    ensures value { result ≡ written_as (command_into room (given_in command.now)) }
+    ensures body_value { Bytes command.now.body.now }
 {
-    let sender = Sender::try_from(command.sender)?;
-    let carried = mdp_rules::carries(sender, command.code)?;
     let parts = cut_body(command.body)?;
     if !carried.body_fits(parts) {
         return Err(Refusal::PartCountWrong);

@@ -9,42 +9,31 @@ use Rattle.mdp_write_check.proofs.Measuring.{name_short, front_most}
 use Rattle.mdp_write_check.proofs.Checking.{carried_of, unknown_of, no_sender, cut-none, cut_whole, named_as, addressed_as, check_unknown, check_malformed, check_count, check_name, check_address, check_measured}
 use Rattle.mdp_write_check.proofs.check_command.Goals as goal
 
-pub returns-in_err-sender : goal.returns-in_err-sender
-returns-in_err-sender c =
-    let told : c.from_residual.result ≡ Err CommandWrong = search rules in
-    let none = c.in_err-sender.ensures in
-    told ∙ check_unknown c.args.room (given_in c.args.command.now) (no_sender _ _ none.1 none.2)
-
-pub returns-in_err-carried : goal.returns-in_err-carried
-returns-in_err-carried c =
-    let told : c.from_residual-in_err-carried.result ≡ Err CommandWrong = search rules in
-    told ∙ check_unknown c.args.room (given_in c.args.command.now) (unknown_of c.args.command.now.code c.in_ok-sender.ensures c.in_err-carried.ensures.1)
-
-pub returns-in_err-parts : goal.returns-in_err-parts
-returns-in_err-parts c =
-    let k = carried_of c.args.command.now.code c.in_ok-carried.carried c.in_ok-sender.ensures c.in_ok-carried.ensures in
+pub returns-in_err-parts-clause-value : goal.returns-in_err-parts-clause-value
+returns-in_err-parts-clause-value c =
+    let k = c.requires in
     let cut = cut-none c.args.command.now.body.now c.in_err-parts.ensures.value in
-    let told : c.from_residual-in_err-parts.result ≡ Err CommandPartWrong = search rules in
+    let told : c.from_residual.result ≡ Err CommandPartWrong = search rules in
     told ∙ check_malformed c.args.room (given_in c.args.command.now) k.0 cut.1
 
-pub returns-then-not-body_fits : goal.returns-then-not-body_fits
-returns-then-not-body_fits c =
-    let k = carried_of c.args.command.now.code c.in_ok-carried.carried c.in_ok-sender.ensures c.in_ok-carried.ensures in
+pub returns-then-not-body_fits-clause-value : goal.returns-then-not-body_fits-clause-value
+returns-then-not-body_fits-clause-value c =
+    let k = c.requires in
     let cut = cut_whole c.args.command.now.body.now c.in_ok-parts.ensures.value in
     let fits = fits_as _ _ c.in_ok-parts.parts k.3 c.body_fits.ensures in
     check_count c.args.room (given_in c.args.command.now) k.0 cut (fits ∙ c.if-not-body_fits.true)
 
-pub returns-then-not-fits : goal.returns-then-not-fits
-returns-then-not-fits c =
-    let k = carried_of c.args.command.now.code c.in_ok-carried.carried c.in_ok-sender.ensures c.in_ok-carried.ensures in
+pub returns-then-not-fits-clause-value : goal.returns-then-not-fits-clause-value
+returns-then-not-fits-clause-value c =
+    let k = c.requires in
     let cut = cut_whole c.args.command.now.body.now c.in_ok-parts.ensures.value in
     let fits = fits_as _ _ c.in_ok-parts.parts k.3 c.body_fits.ensures in
     let name = named_as _ _ c.args.command.now.name.now (k.1 ∙ sym c.has_name.ensures) c.fits.ensures in
     check_name c.args.room (given_in c.args.command.now) k.0 cut (fits ∙ c.if-not-body_fits.false) (name ∙ c.if-not-fits.true)
 
-pub returns-then-not-fits-2 : goal.returns-then-not-fits-2
-returns-then-not-fits-2 c =
-    let k = carried_of c.args.command.now.code c.in_ok-carried.carried c.in_ok-sender.ensures c.in_ok-carried.ensures in
+pub returns-then-not-fits-2-clause-value : goal.returns-then-not-fits-2-clause-value
+returns-then-not-fits-2-clause-value c =
+    let k = c.requires in
     let cut = cut_whole c.args.command.now.body.now c.in_ok-parts.ensures.value in
     let fits = fits_as _ _ c.in_ok-parts.parts k.3 c.body_fits.ensures in
     let name = named_as _ _ c.args.command.now.name.now (k.1 ∙ sym c.has_name.ensures) c.fits.ensures in
@@ -53,20 +42,20 @@ returns-then-not-fits-2 c =
 
 pub front_length-requires : goal.front_length-requires
 front_length-requires c =
-    let k = carried_of c.args.command.now.code c.in_ok-carried.carried c.in_ok-sender.ensures c.in_ok-carried.ensures in
+    let k = c.requires in
     let name = named_as _ _ c.args.command.now.name.now (k.1 ∙ sym c.has_name.ensures) c.fits.ensures in
     name_short _ _ c.args.command.now.name.now (name ∙ c.if-not-fits.false)
 
 pub overflow_add-whole : goal.overflow_add-whole
 overflow_add-whole c =
-    let k = carried_of c.args.command.now.code c.in_ok-carried.carried c.in_ok-sender.ensures c.in_ok-carried.ensures in
+    let k = c.requires in
     let name = named_as _ _ c.args.command.now.name.now (k.1 ∙ sym c.has_name.ensures) c.fits.ensures in
     let short = name_short _ _ c.args.command.now.name.now (name ∙ c.if-not-fits.false) in
-    omega (arith, c.front_length.ensures, front_most (named c.in_ok-carried.carried) (addressed c.in_ok-carried.carried) (length c.args.command.now.name.now) short)
+    omega (arith, c.front_length.ensures, front_most (named c.args.carried) (addressed c.args.carried) (length c.args.command.now.name.now) short)
 
-pub returns : goal.returns
-returns c =
-    let k = carried_of c.args.command.now.code c.in_ok-carried.carried c.in_ok-sender.ensures c.in_ok-carried.ensures in
+pub returns-clause-value : goal.returns-clause-value
+returns-clause-value c =
+    let k = c.requires in
     let cut = cut_whole c.args.command.now.body.now c.in_ok-parts.ensures.value in
     let fits = fits_as _ _ c.in_ok-parts.parts k.3 c.body_fits.ensures in
     let name = named_as _ _ c.args.command.now.name.now (k.1 ∙ sym c.has_name.ensures) c.fits.ensures in

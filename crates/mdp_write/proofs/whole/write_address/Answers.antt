@@ -4,7 +4,7 @@ use Rattle.bytes_number.proofs.Laying.{lays_more, lays_rest}
 use Rattle.frame_message.specs.Frame.{part_bytes}
 use Rattle.frame_part_write.proofs.Writing.{part_laid}
 use Rattle.mdp_write.proofs.Fronts.{address_part, fore_fits}
-use Rattle.mdp_write.proofs.part.write_address.Goals as goal
+use Rattle.mdp_write.proofs.whole.write_address.Goals as goal
 
 -- the data that the code gives the separator
 abbrev separator : List ℕ
