@@ -1,11 +1,10 @@
 // Many frames in one read: the single reader, called again on what remains. It lists where each whole frame lies, and copies nothing of them.
 #![tactic(auto)]
 
-ghost use Rattle.std.specs.Prelude.{◌≡◌, min, ◌/◌, length};
-ghost use Rattle.frame_stream.specs.Stream.{most_input, entry_size, stream_from, stream_of};
+ghost use Rattle.std.specs.Prelude.{◌≡◌, ◌/◌, length};
+ghost use Rattle.frame_stream.specs.Stream.{entry_size, stream_from, stream_of};
 ghost use Rattle.frame_stream.specs.WorkingStream.{Streams};
 
-use frame_layout::Reading;
 use refusal::Refusal;
 
 // Bytes past these count as absent.
@@ -31,14 +30,14 @@ fn frames_in(bytes: &[u8], list: &mut [u8]) -> Stopped
     let mut used = 0;
     loop {
         match frame_read::read(&bytes[start..]) {
-            Reading::Refused(refusal) => {
+            Err(refusal) => {
                 break Stopped {
                     entries,
                     refusal,
                     start,
                 };
             }
-            Reading::Accepted(f) => {
+            Ok(f) => {
                 if list.len() - used < ENTRY {
                     break Stopped {
                         entries,
@@ -55,17 +54,10 @@ fn frames_in(bytes: &[u8], list: &mut [u8]) -> Stopped
     }
 }
 
-// Where an input of so many bytes ends: what lies behind counts as absent.
-fn end_of_input(size: usize) -> usize
-    ensures { result ≡ min most_input size }
-{
-    if MOST_INPUT < size { MOST_INPUT } else { size }
-}
-
 // Lists start and length of each whole frame in bytes, one behind another, until the first refusal; the input's end is one too.
 pub fn list_frames(bytes: &[u8], list: &mut [u8]) -> Stopped
     ensures { Streams (stream_of (length list.old) bytes.now) list.old result list.new }
 {
-    let end = end_of_input(bytes.len());
+    let end = bytes.len().min(MOST_INPUT);
     frames_in(&bytes[..end], list)
 }
