@@ -13,14 +13,14 @@ const MARK_END: usize = 7;
 const CODE: usize = 8;
 
 // Who has this mark.
-#[tactic(auto, unfolding(mdp_command::specs::CommandReading::sender_of))]
+#[tactic(auto, unfolding(mdp_command::specs::CommandReading::sender_of, table_records::specs::Bytes::same_bytes))]
 fn sender_of(part: &[u8]) -> Option<Sender>
     ensures { sender_or_0 result ≡ sender_of part.now }
 {
-    if table_records::same(part, &CLIENT_MARK) {
+    if part == CLIENT_MARK.as_slice() {
         return Some(Sender::Client);
     }
-    if table_records::same(part, &WORKER_MARK) {
+    if part == WORKER_MARK.as_slice() {
         return Some(Sender::Worker);
     }
     None
