@@ -13,7 +13,6 @@ use Rattle.frame_message.specs.Frame.{size_bytes, part_bytes, joined}
 use Rattle.frame_message.proofs.Lists.{Each}
 use Rattle.frame_message.proofs.Parts.{Sized, split, part_short, part_long}
 use Rattle.frame_message.specs.declared.Stretch.{Stretch}
-use Rattle.frame_layout.specs.declared.Piece.{Piece}
 use lib.Seq.{take_at}
 use Rattle.std.specs.Prelude.{Some}
 use Rattle.frame_part_size.specs.WorkingSizes.{size_at}
@@ -92,8 +91,5 @@ module _ (body : List ℕ) (at : ℕ) (b : Bytes body) (f : Found (drop at body)
         let whole = length-append (part_bytes here.part) (joined here.others) in
         omega (arith, ap (λ (t : Stretch). t.start) found_at, ap (λ (t : Stretch). t.len) found_at, part, whole, ap length here.same, length-drop at body)
 
-    pub piece_there : ◌≡◌ {A = Piece} (record { at = at + s.start; len = s.len; next = at + s.start + s.len }) (piece_at at (get_or (parts_found (drop at body)) 0 []))
-    piece_there =
-        let part = here.part in
-        let next : at + length (size_bytes (length part)) + length part ≡ at + length (part_bytes part) = omega (arith, length-append (size_bytes (length part)) part) in
-        rw (found_at, here.found, next)
+    pub piece_there : Some (record { start = at + s.start; len = s.len }) ≡ Some (piece_at at (get_or (parts_found (drop at body)) 0 []))
+    piece_there = rw (found_at, here.found)

@@ -1,19 +1,16 @@
 -- What is known of a body while its parts are judged: the clauses of the functions inside the reader.
-use Rattle.std.specs.Prelude.{◌≡◌, ℕ, ◌+◌, ◌-◌, ◌≤◌, Bool, true, cond, not, ◌&&◌, List, [], length, get_or, take, drop}
+use Rattle.std.specs.Prelude.{◌≡◌, ℕ, ◌+◌, ◌-◌, ◌≤◌, Option, Some, None, Bool, true, false, cond, not, List, [], length, get_or, take, drop}
 use Rattle.frame_message.specs.declared.Header.{Header}
 use Rattle.refusal.specs.Answer.{answered}
 use Rattle.frame_forms.specs.Count.{one}
 use Rattle.frame_message.specs.Header.{has_topic, has_payload, has_route, header_in}
 use Rattle.frame_message.specs.Working.{is_header}
-use Rattle.frame_message.specs.Frame.{size_bytes, part_bytes, joined, group_if}
+use Rattle.frame_message.specs.Frame.{size_bytes, joined, group_if}
 use Rattle.frame_message.specs.Writing.{routes_good}
 use Rattle.frame_message.specs.Reading.{parts_in, front, final, before_empty, routes_in, parts_agree, is_topic_part}
-use Rattle.frame_layout.specs.declared.Layout.{Layout}
-use Rattle.frame_layout.specs.Layout.{stretch_if}
 use Rattle.frame_parts.specs.declared.PartCounts.{PartCounts}
 use Rattle.frame_parts.specs.WorkingCounting.{parts_or_none}
-use Rattle.frame_layout.specs.WorkingPlacing.{first_route}
-use Rattle.frame_layout.specs.declared.Piece.{Piece}
+use Rattle.frame_message.specs.declared.Stretch.{Stretch}
 
 -- the parts of bytes that are known to have some, and that they are known to
 unfoldable pub parts_found : List ℕ → List (List ℕ)
@@ -24,40 +21,23 @@ Found b = parts_in 68 b ≡ answered (parts_found b)
 
 -- ---- a part whose size is right
 
--- the part p at a place of the body
-abbrev pub piece_at : ℕ → List ℕ → Piece
-piece_at place p = record { at = place + length (size_bytes (length p)); len = length p; next = place + length (part_bytes p) }
+-- the data of the part p at a place of the body
+abbrev pub piece_at : ℕ → List ℕ → Stretch
+piece_at place p = record { start = place + length (size_bytes (length p)); len = length p }
 
--- the first of the parts at a place, if there is to be one
-abbrev pub piece_if : Bool → ℕ → List (List ℕ) → Piece
-piece_if flag place ps = cond flag (piece_at place (get_or ps 0 [])) (record { at = 0; len = 0; next = place })
+-- that of the first of the parts at a place, if there is to be one
+abbrev pub piece_if : Bool → ℕ → List (List ℕ) → Option Stretch
+piece_if flag place ps = cond flag (Some (piece_at place (get_or ps 0 []))) None
 
--- a topic's piece lies within the body
-pub record Within (flags : ℕ) (topic : Piece) (size : ℕ) : Type 0 where
-  pub starts : has_topic flags ≡ true → topic.at ≤ topic.next
-  pub ends : has_topic flags ≡ true → topic.next ≤ size
+-- where the part behind begins
+abbrev pub next_in : ℕ → Option Stretch → ℕ
+next_in at None = at
+next_in at (Some part) = part.start + part.len
 
--- 9, of the bytes in that piece
-abbrev pub topic_wrong : ℕ → Piece → List ℕ → Bool
-topic_wrong flags topic body = has_topic flags && not (is_topic_part (take (topic.next - topic.at) (drop topic.at body)))
-
--- the answer from the pieces, counted from the frame's front
-pub record Placeable (size : ℕ) (h : Header) (topic payload : Piece) : Type 0 where
-  pub short : size ≤ 32768
-  pub topic_in : topic.at ≤ size
-  pub topic_some : one (has_topic h.flags) ≤ topic.len
-  pub payload_in : payload.at ≤ size
-
-abbrev pub placed_as : ℕ → Header → ℕ → Piece → Piece → Layout
-placed_as size h routes topic payload =
-    record {
-      taken = 8 + size;
-      header = h;
-      routes = routes;
-      route = first_route routes;
-      topic = stretch_if (has_topic h.flags) (8 + topic.at) (topic.len - one (has_topic h.flags));
-      payload = stretch_if (has_payload h.flags) (8 + payload.at) payload.len;
-    }
+-- 9, of the bytes in that stretch
+abbrev pub topic_wrong : Option Stretch → List ℕ → Bool
+topic_wrong None body = false
+topic_wrong (Some part) body = not (is_topic_part (take (part.start + part.len - part.start) (drop part.start body)))
 
 -- 7, in numbers: the routes and their delimiter, topic and payload where they are flagged, and the header
 abbrev pub parts_wanted : ℕ → ℕ → ℕ

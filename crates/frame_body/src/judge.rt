@@ -4,36 +4,41 @@ ghost use Rattle.refusal.specs.Answer.{and_then};
 ghost use Rattle.frame_message.specs.Writing.{routes_good};
 ghost use Rattle.frame_message.specs.Reading.{parts_in, front, judged, judged_as};
 ghost use Rattle.frame_layout.specs.WorkingPlacing.{read_as};
-ghost use Rattle.frame_body.specs.WorkingJudging.{parts_found, Found, piece_if, Within, topic_wrong, CountsOf, Headed, Sorted};
+ghost use Rattle.frame_body.specs.WorkingJudging.{parts_found, Found, piece_if, next_in, topic_wrong, CountsOf, Headed, Sorted};
 
 use crate::agree::{if_routed, parts_agree};
 use frame_header::read_header;
-use frame_layout::{Layout, Piece, placed};
-use frame_message::{Header, ROUTE_PART, ROUTE_SIZE};
+use frame_layout::{Layout, placed};
+use frame_message::{Header, ROUTE_PART, ROUTE_SIZE, Stretch};
 use frame_part_size::size_at;
 use frame_parts::{PartCounts, count_parts};
 use refusal::Refusal;
 
-// Where the part that begins at a place of the body lies, if its flag is set.
-fn piece_if(body: &[u8], flag: bool, at: usize) -> Piece
+// The data of the part that begins at a place of the body, if its flag is set.
+fn part_if(body: &[u8], flag: bool, at: usize) -> Option<Stretch>
     requires at_in_bounds { (at ≤ length body.now) × (length body.now ≤ 32768) }
     requires found { Found (drop at body.now) }
     requires nonzero { flag ≡ true → 0 < length (drop at body.now) }
     ensures { result ≡ piece_if flag at (parts_found (drop at body.now)) }
 {
     if !flag {
-        return Piece {
-            at: 0,
-            len: 0,
-            next: at,
-        };
+        return None;
     }
-    let part = size_at(&body[at..]).unwrap();
-    let data = at + part.start;
-    Piece {
-        at: data,
-        len: part.len,
-        next: data + part.len,
+    let size = size_at(&body[at..])?;
+    Some(Stretch {
+        start: at + size.start,
+        len: size.len,
+    })
+}
+
+// Where the part behind it begins, or would begin where it is absent.
+fn next_of(part: Option<Stretch>, at: usize) -> usize
+    requires { next_in at part ≤ 32768 }
+    ensures { result ≡ next_in at part }
+{
+    match part {
+        Some(part) => part.start + part.len,
+        None => at,
     }
 }
 
@@ -58,12 +63,17 @@ fn routes_good(body: &[u8], routes: usize) -> bool
     true
 }
 
-// 9: whether there is to be a topic, and the part is none.
-fn topic_wrong(body: &[u8], flags: u8, topic: Piece) -> bool
-    requires { Within flags topic (length body.now) }
-    ensures { result ≡ topic_wrong flags topic body.now }
+// 9: whether there is a topic, and the part is none.
+fn topic_wrong(body: &[u8], topic: Option<Stretch>) -> bool
+    requires { next_in 0 topic ≤ length body.now }
+    ensures { result ≡ topic_wrong topic body.now }
 {
-    frame_flags::has_topic(flags) && !frame_topic_part::is_topic_part(&body[topic.at..topic.next])
+    match topic {
+        Some(topic) => {
+            !frame_topic_part::is_topic_part(&body[topic.start..topic.start + topic.len])
+        }
+        None => false,
+    }
 }
 
 // 9 and 10, and then the message: the parts are as many as they should be, and the routes are right. The topic begins behind the
@@ -73,14 +83,14 @@ fn judge_rest(body: &[u8], counts: PartCounts, h: Header, routes: usize) -> Resu
     ensures { result ≡ read_as (judged_as h (front (parts_found body.now))) }
 {
     let at = if_routed(h.flags, counts.group + 1);
-    let topic = piece_if(body, frame_flags::has_topic(h.flags), at);
-    if topic_wrong(body, h.flags, topic) {
+    let topic = part_if(body, frame_flags::has_topic(h.flags), at);
+    if topic_wrong(body, topic) {
         return Err(Refusal::TopicWrong);
     }
     if !frame_header_rules::fields_good(h) {
         return Err(Refusal::FieldWrong);
     }
-    let payload = piece_if(body, frame_flags::has_payload(h.flags), topic.next);
+    let payload = part_if(body, frame_flags::has_payload(h.flags), next_of(topic, at));
     Ok(placed(body.len(), h, routes, topic, payload))
 }
 

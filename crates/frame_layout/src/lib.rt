@@ -1,9 +1,8 @@
 // Where the parts of a message lie, counted from the frame's front, by where they lie in its body. Any numbers may be given.
 #![tactic(auto)]
 
-ghost use Rattle.std.specs.Prelude.{◌≡◌, ◌-◌};
-ghost use Rattle.frame_forms.specs.Count.{one};
-ghost use Rattle.frame_layout.specs.WorkingPlacing.{first_route, place_if, placed_in};
+ghost use Rattle.std.specs.Prelude.{◌≡◌};
+ghost use Rattle.frame_layout.specs.WorkingPlacing.{first_route, place, shown, without_zero, placed_in};
 
 use frame_message::{FRONT, Header, Stretch};
 
@@ -20,14 +19,6 @@ pub struct Layout {
     pub route: usize,
 }
 
-// Where a part's data lies in the body, and where the next part begins.
-#[derive(Clone, Copy)]
-pub struct Piece {
-    pub at: usize,
-    pub len: usize,
-    pub next: usize,
-}
-
 // Where the data of a first route starts: behind the bytes in front of the body, and its size byte.
 const FIRST_ROUTE: usize = 9;
 
@@ -38,49 +29,57 @@ fn first_route(routes: usize) -> usize
     if routes == 0 { 0 } else { FIRST_ROUTE }
 }
 
-// A place of the body counted from the frame's front, if its flag is set: the body lies behind the first eight bytes. No body is so long that it has a
+// A place of the body counted from the frame's front: the body lies behind the first eight bytes. No body is so long that it has a
 // place behind 32,768.
-fn place_if(flag: bool, at: usize) -> usize
-    ensures { result ≡ place_if flag at }
+fn place(at: usize) -> usize
+    ensures { result ≡ place at }
 {
-    if flag {
-        if at <= frame_message::MOST_BODY {
-            return FRONT + at;
-        }
+    if at <= frame_message::MOST_BODY {
+        FRONT + at
+    } else {
+        0
     }
-    0
 }
 
-// How much is shown of a topic's part, if its flag is set: all but the zero byte at its end.
-fn shown_of(flag: bool, len: usize) -> usize
-    ensures { result ≡ len - one flag }
+// A part of the body counted from the frame's front. Both numbers are 0 where it is absent.
+fn shown(part: Option<Stretch>) -> Stretch
+    ensures { result ≡ shown part }
 {
-    if flag {
-        if len > 0 {
-            return len - 1;
-        }
+    match part {
+        Some(part) => Stretch {
+            start: place(part.start),
+            len: part.len,
+        },
+        None => Stretch { start: 0, len: 0 },
     }
-    len
 }
 
-// The reader's answer: the places of a message with this header and so many routes, by the pieces of a body of so many bytes.
-pub fn placed(size: usize, h: Header, routes: usize, topic: Piece, payload: Piece) -> Layout
-    ensures { result ≡ placed_in size h routes topic payload }
+// A topic without the zero byte at its end.
+fn without_zero(topic: Option<Stretch>) -> Option<Stretch>
+    ensures { result ≡ without_zero topic }
 {
-    let has_topic = frame_flags::has_topic(h.flags);
-    let shown = shown_of(has_topic, topic.len);
+    topic.map(|topic| Stretch {
+        start: topic.start,
+        len: topic.len.saturating_sub(1),
+    })
+}
+
+// The reader's answer: the places of a message with this header and so many routes, by the parts of a body of so many bytes.
+pub fn placed(
+    size: usize,
+    header: Header,
+    routes: usize,
+    topic: Option<Stretch>,
+    payload: Option<Stretch>,
+) -> Layout
+    ensures { result ≡ placed_in size header routes topic payload }
+{
     Layout {
-        taken: place_if(true, size),
-        header: h,
+        taken: place(size),
+        header,
         routes,
         route: first_route(routes),
-        topic: Stretch {
-            start: place_if(has_topic, topic.at),
-            len: shown,
-        },
-        payload: Stretch {
-            start: place_if(frame_flags::has_payload(h.flags), payload.at),
-            len: payload.len,
-        },
+        topic: shown(without_zero(topic)),
+        payload: shown(payload),
     }
 }

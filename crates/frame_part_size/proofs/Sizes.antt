@@ -55,7 +55,7 @@ pub size_none : (s : List ℕ) → length s ≡ 0 → None ≡ size_at s
 size_none [] h = refl
 size_none (x ∷ xs) h = absurd (omega arith)
 
-no_data : {A : Type 0} {x : A} → None ≡ Some x → ⊥
+pub no_data : {A : Type 0} {x : A} → None ≡ Some x → ⊥
 no_data e = let z : ◌≡◌ {A = ℕ} 0 1 = cc in omega arith
 
 -- there is a first byte
