@@ -4,26 +4,18 @@
 
 ghost use Rattle.std.specs.Prelude.{◌≡◌};
 ghost use Rattle.call_step_record.specs.Steps.{frame_length};
-ghost use Rattle.call_specs.specs.Calls.{host_broker};
 
 use step_routing::Broker;
 
 pub mod steps;
 pub mod walks;
 
-// The userid of an error reply: nobody's.
-const NO_USER: u32 = 4294967295;
-
-// The broker of a rank. Its error replies are nobody's, and have the rolemask 0.
-fn host_broker(rank: u32) -> Broker
-    ensures { result ≡ host_broker rank }
-{
-    Broker {
-        rank,
-        userid: NO_USER,
-        rolemask: 0,
-    }
-}
+// Whose the error replies are: nobody's, with userid 4294967295 and rolemask 0. Each call has a rank of its own.
+const NOBODY: Broker = Broker {
+    rank: 0,
+    userid: 4294967295,
+    rolemask: 0,
+};
 
 // How long the frame at the front of a buffer is, by its first eight bytes.
 fn frame_length(buffer: &[u8]) -> usize

@@ -2,9 +2,9 @@
 ghost use Rattle.step_routing.specs.Routed.{tables_in};
 ghost use Rattle.call_specs.specs.Calls.{host_broker, Steps};
 
-use crate::{frame_length, host_broker};
+use crate::{NOBODY, frame_length};
 use refusal::Refusal;
-use step_routing::Tables;
+use step_routing::{Broker, Tables};
 
 // Bytes of a step's record: four numbers.
 const STEP_RECORD: usize = 16;
@@ -16,7 +16,8 @@ pub fn step(t: Tables, rank: u32, buffer: &mut [u8], row: &mut [u8]) -> u32
     if row.len() < STEP_RECORD {
         return u32::from(Refusal::OutputShort);
     }
-    match step::step(t, host_broker(rank), buffer) {
+    let b = Broker { rank, ..NOBODY };
+    match step::step(t, b, buffer) {
         Err(why) => u32::from(why),
         Ok(s) => {
             bytes_number::put_row(row, &call_step_record::step_row(s, frame_length(buffer)));

@@ -2,9 +2,9 @@
 ghost use Rattle.step_routing.specs.Routed.{tables_in};
 ghost use Rattle.call_specs.specs.Calls.{host_broker, Plays};
 
-use crate::{frame_length, host_broker};
+use crate::{NOBODY, frame_length};
 use refusal::Refusal;
-use step_routing::Tables;
+use step_routing::{Broker, Tables};
 
 // Bytes of a walk's record: six numbers.
 const WALK_RECORD: usize = 24;
@@ -16,7 +16,8 @@ pub fn walk(t: Tables, rank: u32, buffer: &mut [u8], row: &mut [u8]) -> u32
     if row.len() < WALK_RECORD {
         return u32::from(Refusal::OutputShort);
     }
-    let walked = walk::walk(t, host_broker(rank), buffer);
+    let b = Broker { rank, ..NOBODY };
+    let walked = walk::walk(t, b, buffer);
     bytes_number::put_row(
         row,
         &call_step_record::walk_row(walked, frame_length(buffer)),

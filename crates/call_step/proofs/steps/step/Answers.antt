@@ -3,10 +3,10 @@ use Rattle.call_specs.proofs.StepCalls.{step_short, step_on, tells_on, tells_ref
 use Rattle.call_step.proofs.steps.step.Goals as goal
 
 pub returns-then-row-lt-STEP_RECORD : goal.returns-then-row-lt-STEP_RECORD
-returns-then-row-lt-STEP_RECORD c = tells_refused (step_short _ _ _ _ (omega arith)) c.number.ensures
+returns-then-row-lt-STEP_RECORD c = tells_refused (step_short _ _ _ _ (omega arith)) c.from.ensures
 
 pub returns-in-Err : goal.returns-in-Err
-returns-in-Err c = tells_on (step_on _ _ _ _ (omega arith)) (tells_no _ c.in-Err.ensures.told c.in-Err.ensures.leaves c.from.ensures)
+returns-in-Err c = tells_on (step_on _ _ _ _ (omega arith)) (tells_no _ c.in-Err.ensures.told c.in-Err.ensures.leaves c.from-in-Err.ensures)
 
 pub returns-in-Ok : goal.returns-in-Ok
 returns-in-Ok c =
