@@ -4,8 +4,8 @@
 ghost use Rattle.call_specs.specs.Calls.{Reads, header_of, Writes};
 ghost use Rattle.frame_message.specs.Writing.{given_message};
 
-use frame_layout::Reading;
-use frame_message::{Header, Written};
+use frame_message::Header;
+use frame_write_given::Draft;
 use refusal::Refusal;
 
 // Bytes of a record: thirteen numbers of a read, and a frame's length.
@@ -21,11 +21,11 @@ pub fn read(bytes: &[u8], row: &mut [u8]) -> u32
         return u32::from(Refusal::OutputShort);
     }
     match frame_read::read(bytes) {
-        Reading::Refused(r) => u32::from(r),
-        Reading::Accepted(f) => {
+        Ok(f) => {
             call_read_record::put_frame(row, f);
             0
         }
+        Err(why) => u32::from(why),
     }
 }
 
@@ -56,11 +56,17 @@ pub fn write(
         first,
         second,
     };
-    match frame_write::write(header, routes, topic, payload, out) {
-        Written::Refused(r) => u32::from(r),
-        Written::Frame(n) => {
+    let draft = Draft {
+        header,
+        routes,
+        topic,
+        payload,
+    };
+    match frame_write::write(&draft, out) {
+        Ok(n) => {
             bytes_number::put_row(row, &[n]);
             0
         }
+        Err(refused) => u32::from(refused),
     }
 }

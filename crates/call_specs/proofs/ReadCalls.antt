@@ -10,7 +10,7 @@ use Rattle.refusal.specs.Answer.{refused, answered}
 use Rattle.frame_message.specs.Message.{Message}
 use Rattle.frame_message.specs.Reading.{reading_of}
 use Rattle.frame_layout.specs.declared.Layout.{Layout}
-use Rattle.frame_layout.specs.declared.Reading.TheVariants.{Refused, Accepted}
+use Rattle.std.specs.Prelude.{Result, Ok, Err}
 use Rattle.frame_layout.specs.Layout.{layout_of}
 use Rattle.frame_layout.specs.WorkingPlacing.{read_as}
 use Rattle.frame_body.proofs.Readings.{refused_read, accepted_read}
@@ -50,10 +50,10 @@ module _ (b : List ℕ) (room : ℕ) where
   read_short h = rw (lt-ltb room 52 h)
 
   module _ (h : 52 ≤ room) where
-    pub read_refused : (r : Refusal) → Refused r ≡ read_as (reading_of b) → read_call b room ≡ refused r
+    pub read_refused : (r : Refusal) → Err r ≡ read_as (reading_of b) → read_call b room ≡ refused r
     unfolding read_call
     read_refused r e = rw (le-ltb room 52 h, refused_read (reading_of b) e)
 
-    pub read_accepted : (f : Layout) → Accepted f ≡ read_as (reading_of b) → read_call b room ≡ answered (read_row f)
+    pub read_accepted : (f : Layout) → Ok f ≡ read_as (reading_of b) → read_call b room ≡ answered (read_row f)
     read_accepted f e = let r = accepted_read (reading_of b) e in
         read_on r.message h r.is ∙ ap (λ (g : Layout). answered (read_row g)) (sym r.places)

@@ -15,11 +15,11 @@ use Rattle.frame_message.specs.Writing.{writing, writing_into}
 use Rattle.frame_message.specs.Working.{written_as}
 use Rattle.refusal.proofs.Answers.{passed, both}
 use Rattle.frame_message.proofs.Messages.{Written, written}
-use Rattle.frame_message.specs.declared.Written.TheVariants.{Refused, Frame}
+use Rattle.std.specs.Prelude.{Result, Ok, Err}
 use Rattle.call_specs.specs.Calls.{returned, write_call, wrote}
 use Rattle.call_specs.proofs.Telling.{done}
 
-never : {r : Refusal} {n : ℕ} → Refused r ≡ Frame n → ⊥
+never : {r : Refusal} {n : ℕ} → ◌≡◌ {A = Result ℕ Refusal} (Err r) (Ok n) → ⊥
 never e = let z : ◌≡◌ {A = ℕ} 0 1 = cc in omega arith
 
 module _ (m : Message) (room rowRoom : ℕ) where
@@ -60,10 +60,10 @@ write_done m room rowRoom e =
       lists = write_whole m room rowRoom (ltb-false rowRoom 4 p.test) all room-is;
     }
 
-pub write_refused : (a : Answer (List ℕ)) (r : Refusal) → Refused r ≡ written_as a → a ≡ refused r
+pub write_refused : (a : Answer (List ℕ)) (r : Refusal) → Err r ≡ written_as a → a ≡ refused r
 write_refused (refused q) r e = cc
 write_refused (answered frame) r e = absurd (never e)
 
-pub write_counted : (a : Answer (List ℕ)) (n : ℕ) → Frame n ≡ written_as a → wrote a ≡ answered (n ∷ [])
+pub write_counted : (a : Answer (List ℕ)) (n : ℕ) → Ok n ≡ written_as a → wrote a ≡ answered (n ∷ [])
 write_counted (refused q) n e = absurd (never (sym e))
 write_counted (answered frame) n e = let same : length frame ≡ n = cc in ap (λ (k : ℕ). answered (k ∷ [])) same
