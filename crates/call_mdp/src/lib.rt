@@ -8,8 +8,7 @@ ghost use Rattle.bytes_number.specs.WorkingLays.{laid_if_room};
 ghost use Rattle.call_specs.specs.CommandCalls.{command_row, ReadsCommand, WritesCommand};
 ghost use Rattle.mdp_command.specs.CommandWriting.{given_of};
 
-use frame_message::Written;
-use mdp_command::{CommandPlaces, CommandReading};
+use mdp_command::{Command, CommandPlaces};
 use refusal::Refusal;
 
 // Bytes of a record: eight numbers of a read, and how many bytes were written.
@@ -21,16 +20,14 @@ const COUNT_RECORD: usize = 4;
 fn put_places(row: &mut [u8], f: CommandPlaces)
     ensures { row.new ≡ laid_if_room (row_bytes (command_row f)) row.old }
 {
-    let name = f.name;
-    let body = f.body;
     let numbers = [
-        f.sender as usize,
-        f.code as usize,
-        name.start,
-        name.len,
+        usize::from(f.sender),
+        usize::from(f.code),
+        f.name.start,
+        f.name.len,
         f.address,
-        body.start,
-        body.len,
+        f.body.start,
+        f.body.len,
         f.parts,
     ];
     bytes_number::put_row(row, &numbers);
@@ -44,11 +41,11 @@ pub fn read_command(bytes: &[u8], row: &mut [u8]) -> u32
         return u32::from(Refusal::OutputShort);
     }
     match mdp_read::read_command(bytes) {
-        CommandReading::Refused(r) => u32::from(r),
-        CommandReading::Accepted(f) => {
+        Ok(f) => {
             put_places(row, f);
             0
         }
+        Err(why) => u32::from(why),
     }
 }
 
@@ -67,11 +64,18 @@ pub fn write_command(
     if row.len() < COUNT_RECORD {
         return u32::from(Refusal::OutputShort);
     }
-    match mdp_write::write_command(sender, code, name, address, body, out) {
-        Written::Refused(r) => u32::from(r),
-        Written::Frame(n) => {
+    let command = Command {
+        sender,
+        code,
+        name,
+        address,
+        body,
+    };
+    match mdp_write::write_command(&command, out) {
+        Ok(n) => {
             bytes_number::put_row(row, &[n]);
             0
         }
+        Err(r) => u32::from(r),
     }
 }

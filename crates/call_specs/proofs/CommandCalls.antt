@@ -10,7 +10,7 @@ use Rattle.refusal.specs.declared.Refusal.TheVariants.{OutputShort}
 use Rattle.refusal.specs.Answer.{Answer, refused, answered}
 use Rattle.refusal.proofs.Answers.{passed, both}
 use Rattle.mdp_command.specs.declared.CommandPlaces.{CommandPlaces}
-use Rattle.mdp_command.specs.declared.CommandReading.TheVariants.{Refused, Accepted}
+use Rattle.std.specs.Prelude.{Ok, Err}
 use Rattle.mdp_command.specs.Command.{Command}
 use Rattle.mdp_command.specs.CommandReading.{command_read}
 use Rattle.mdp_command.specs.CommandWriting.{Given, command_into}
@@ -22,10 +22,10 @@ use Rattle.call_specs.proofs.Telling.{done}
 
 -- ---- reading
 
-never : {r : Refusal} {f : CommandPlaces} → Refused r ≡ Accepted f → ⊥
+never : {r : Refusal} {f : CommandPlaces} → Err r ≡ Ok f → ⊥
 never e = let z : ◌≡◌ {A = ℕ} 0 1 = cc in omega arith
 
-refused_read : (a : Answer Command) {r : Refusal} → Refused r ≡ command_read_as a → a ≡ refused r
+refused_read : (a : Answer Command) {r : Refusal} → Err r ≡ command_read_as a → a ≡ refused r
 refused_read (refused q) e = cc
 refused_read (answered c) e = absurd (never e)
 
@@ -35,7 +35,7 @@ record Read (a : Answer Command) (f : CommandPlaces) : Type 0 where
   is : a ≡ answered command
   places : f ≡ places_of command
 
-accepted_read : (a : Answer Command) {f : CommandPlaces} → Accepted f ≡ command_read_as a → Read a f
+accepted_read : (a : Answer Command) {f : CommandPlaces} → Ok f ≡ command_read_as a → Read a f
 accepted_read (refused q) e = absurd (never (sym e))
 accepted_read (answered c) e = record { command = c; is = refl; places = cc }
 
@@ -50,11 +50,11 @@ module _ (b : List ℕ) (room : ℕ) where
     unfolding read_command_call
     command_on c e = rw (le-ltb room 32 h, e)
 
-    pub command_refused : (r : Refusal) → Refused r ≡ command_read_as (command_read b) → read_command_call b room ≡ refused r
+    pub command_refused : (r : Refusal) → Err r ≡ command_read_as (command_read b) → read_command_call b room ≡ refused r
     unfolding read_command_call
     command_refused r e = rw (le-ltb room 32 h, refused_read (command_read b) e)
 
-    pub command_accepted : (f : CommandPlaces) → Accepted f ≡ command_read_as (command_read b) → read_command_call b room ≡ answered (command_row f)
+    pub command_accepted : (f : CommandPlaces) → Ok f ≡ command_read_as (command_read b) → read_command_call b room ≡ answered (command_row f)
     command_accepted f e = let r = accepted_read (command_read b) e in
         command_on r.command r.is ∙ ap (λ (g : CommandPlaces). answered (command_row g)) (sym r.places)
 
