@@ -5,15 +5,12 @@ ghost use Rattle.std.specs.Prelude.{◌≡◌};
 ghost use Rattle.frame_message.specs.Reading.{is_topic_part};
 
 // Whether a part holds a topic with its zero byte.
+#[tactic(auto, unfolding(frame_message::specs::Reading::is_topic_part))]
 pub fn is_topic_part(p: &[u8]) -> bool
     ensures { result ≡ is_topic_part p.now }
 {
-    if p.len() == 0 {
-        return false;
+    match p.split_last() {
+        Some((0, topic)) => frame_forms::is_topic(topic),
+        _ => false,
     }
-    let end = p.len() - 1;
-    if p[end] != 0 {
-        return false;
-    }
-    frame_forms::is_topic(&p[..end])
 }

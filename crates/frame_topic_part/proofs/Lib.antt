@@ -1,2 +1,0 @@
--- Laws on the part that holds a topic.
-pub mod Topics
