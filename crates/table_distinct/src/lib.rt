@@ -17,7 +17,7 @@ const LONGEST: u8 = 8;
 fn stir_in(h: u32, a: u32, b: u32) -> u32
     ensures { result ≡ (h * 2135587861 + a * 1540483477 + b) % 4294967296 }
 {
-    ((h as u64 * 2135587861 + a as u64 * 1540483477 + b as u64) % 4294967296) as u32
+    ((u64::from(h) * 2135587861 + u64::from(a) * 1540483477 + u64::from(b)) % 4294967296) as u32
 }
 
 // Takes eight bytes into a hash. The first byte is the lightest: as a machine has it that the library is made for, so that four bytes are one load.
@@ -38,12 +38,9 @@ fn mix(s: &[u8]) -> u32
     if s.len() < 8 {
         return 0;
     }
-    let n = s.len() / 8;
     let mut h: u32 = 0;
-    let mut k = 0;
-    while k < n {
+    for k in 0..s.len() / 8 {
         h = stir(h, s, k * 8);
-        k += 1;
     }
     stir(h, s, s.len() - 8)
 }
@@ -76,10 +73,7 @@ fn look(table: &[u8], width: usize, next: &[u16; MOST_RECORDS], i: usize, start:
             return Seen::Crowded;
         }
         let j = at - 1;
-        if table_records::same(
-            table_records::record_at(table, width, i),
-            table_records::record_at(table, width, j),
-        ) {
+        if table_records::record_at(table, width, i) == table_records::record_at(table, width, j) {
             return Seen::Twice;
         }
         at = next[j] as usize;
@@ -103,8 +97,7 @@ pub fn are_distinct(table: &[u8], width: u8, n: usize) -> bool
     let records = &table[..n * size];
     let mut head = [0u16; 4096];
     let mut next = [0u16; MOST_RECORDS];
-    let mut i = 0;
-    while i < n {
+    for i in 0..n {
         let h = hash(table_records::record_at(records, size, i));
         let start = head[h];
         let seen = look(records, size, &next, i, start as usize);
@@ -119,7 +112,6 @@ pub fn are_distinct(table: &[u8], width: u8, n: usize) -> bool
         }
         next[i] = start;
         head[h] = (i + 1) as u16;
-        i += 1;
     }
     true
 }

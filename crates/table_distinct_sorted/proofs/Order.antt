@@ -1,16 +1,19 @@
 -- Laws on bytes and records in order.
 use mathlib.Core.Path.{◌≡◌, refl, sym, ap, ◌∙◌}
-use mathlib.Core.Bool.{true, false, cond, not, ◌&&◌}
+use mathlib.Core.Bool.{Bool, true, false, cond, not}
 use mathlib.Core.List.{List, [], ◌∷◌}
 use mathlib.Core.Logic.{◌⊎◌, inl, inr, ⊎_elim}
-use Prim.Native.Nat.{ℕ, zero, suc, ◌+◌, ◌-◌, ◌<◌, ◌≤◌}
-use native.Mathlib.Nat.{eq-or-lt_of_le, le_of_suc-le-suc, not-suc-le-zero}
-use native.Mathlib.Numerals.{add-one}
+use Prim.Native.Nat.{ℕ, ◌+◌, ◌-◌, ◌<◌, ◌≤◌}
+use native.Mathlib.Nat.{eq-or-lt_of_le}
 use native.Mathlib.Omega.{arith}
 use borrow.Author.Tests.{eqb-true, eqb-false, eq-eqb, ne_eqb, lt-ltb, ltb-true, ltb-false}
 use lib.Dec.{eqb, ltb}
-use lib.ListN.{length, get_or, take, drop, set, length-set}
-use lib.Seq.{drop-cons, drop-length, get_or-set_same, get_or-set_other}
+use Rattle.std.specs.Cmp.Lexicographic.{slice_cmp}
+use Rattle.std.specs.Ordering.{is_lt, nat_cmp, ordering_then}
+use Rattle.std.specs.declared.cmp.Ordering.{Ordering}
+use Rattle.std.specs.declared.cmp.Ordering.TheVariants.{Less, Equal, Greater}
+use lib.ListN.{length, get_or, set, length-set}
+use lib.Seq.{get_or-set_same, get_or-set_other}
 use Rattle.bytes_number.proofs.Truth.{outcome, clash, true_false}
 use Rattle.table_records.specs.Bytes.{same_bytes}
 use Rattle.table_records.proofs.Bytes.{same_refl, same_equal}
@@ -87,35 +90,23 @@ before_total (x ∷ xs) (y ∷ ys) p d = first (before_total xs ys) (outcome (eq
         let l : y ≤ x = ltb-false x y (sym (before_other x y xs ys n) ∙ p) in
         before_other y x ys xs (λ q. n (sym q)) ∙ lt-ltb y x (⊎_elim (λ q. absurd (n (sym q))) (λ q. q) (eq-or-lt_of_le l))
 
--- ---- bytes are compared with others of their length
+-- what `cmp` says of two slices
+cmp_before : (xs ys : List ℕ) → is_lt (slice_cmp nat_cmp xs ys) ≡ before xs ys
+unfolding before
+cmp_before [] [] = refl
+cmp_before [] (y ∷ ys) = refl
+cmp_before (x ∷ xs) [] = refl
+cmp_before (x ∷ xs) (y ∷ ys) =
+    more (ltb x y) (eqb x y) (slice_cmp nat_cmp xs ys) (before xs ys) (λ l. ne_eqb x y (λ e. omega (arith, ltb-true x y l))) (cmp_before xs ys)
+  where
+    more : (less same : Bool) (rest : Ordering) (b : Bool) → (less ≡ true → same ≡ false) → is_lt rest ≡ b → is_lt (ordering_then (cond less Less (cond same Equal Greater)) rest) ≡ cond same b less
+    more true true rest b h e = absurd (true_false (h refl))
+    more true false rest b h e = refl
+    more false true rest b h e = e
+    more false false rest b h e = refl
 
-pub one-length : (xs ys : List ℕ) → length xs ≡ length ys → (eqb (length xs) (length ys) && before xs ys) ≡ before xs ys
-one-length xs ys e = rw (eq-eqb (length xs) (length ys) e) refl
-
-pub two_lengths : (xs ys : List ℕ) → (length xs ≡ length ys → ⊥) → (eqb (length xs) (length ys) && before xs ys) ≡ false
-two_lengths xs ys e = rw (ne_eqb (length xs) (length ys) e) refl
-
--- ---- a turn of a loop that compares
-
-module _ (xs ys : List ℕ) (i : ℕ) (hx : i < length xs) (hy : i < length ys) where
-  pub before_at : get_or xs i 0 ≡ get_or ys i 0 → before (drop i xs) (drop i ys) ≡ before (drop (i + 1) xs) (drop (i + 1) ys)
-  before_at e = rw (add-one, drop-cons xs i 0 hx, drop-cons ys i 0 hy) (before_equal (get_or xs i 0) (get_or ys i 0) (drop (suc i) xs) (drop (suc i) ys) e)
-
-  pub before_here : (get_or xs i 0 ≡ get_or ys i 0 → ⊥) → before (drop i xs) (drop i ys) ≡ ltb (get_or xs i 0) (get_or ys i 0)
-  before_here e = rw (drop-cons xs i 0 hx, drop-cons ys i 0 hy) (before_other (get_or xs i 0) (get_or ys i 0) (drop (suc i) xs) (drop (suc i) ys) e)
-
-pub before_end : (xs ys : List ℕ) (i : ℕ) → length xs ≡ length ys → i ≡ length xs → before (drop i xs) (drop i ys) ≡ false
-before_end xs ys i e q = rw (q, drop-length xs, e, drop-length ys) (before_self [])
-
--- what both begin with does not matter
-pub before-front : (n : ℕ) (xs ys : List ℕ) → n ≤ length xs → n ≤ length ys → take n xs ≡ take n ys → before (drop n xs) (drop n ys) ≡ before xs ys
-before-front zero xs ys hx hy e = refl
-before-front (suc n) [] ys hx hy e = absurd (not-suc-le-zero hx)
-before-front (suc n) (x ∷ xs) [] hx hy e = absurd (not-suc-le-zero hy)
-before-front (suc n) (x ∷ xs) (y ∷ ys) hx hy e =
-    let heads : x ≡ y = cc in
-    let tails : take n xs ≡ take n ys = cc in
-    before-front n xs ys (le_of_suc-le-suc hx) (le_of_suc-le-suc hy) tails ∙ sym (before_equal x y xs ys heads)
+pub before_is : {less : Bool} {order : Ordering} (xs ys : List ℕ) → less ≡ is_lt order → order ≡ slice_cmp nat_cmp xs ys → before xs ys ≡ less
+before_is xs ys e f = sym (e ∙ ap is_lt f ∙ cmp_before xs ys)
 
 -- ---- the search for a place
 

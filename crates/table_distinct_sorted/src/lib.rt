@@ -2,44 +2,26 @@
 // eleven others: this is for tables that were made to be slow where records are told apart by a hash.
 #![tactic(auto)]
 
-ghost use Rattle.std.specs.Prelude.{◌≡◌, ◌&&◌, eqb, ◌+◌, ◌*◌, ◌<◌, ◌≤◌, length};
+ghost use Rattle.std.specs.Prelude.{◌≡◌, ◌+◌, ◌*◌, ◌<◌, ◌≤◌, length};
 ghost use Rattle.table_records.specs.Records.{most_records, record_at};
 ghost use Rattle.table_records.specs.Working.{distinct};
-ghost use Rattle.table_distinct_sorted.specs.WorkingOrder.{before, Ordered, Placed, Inserted};
+ghost use Rattle.table_distinct_sorted.specs.WorkingOrder.{Ordered, Placed, Inserted};
 
 use table_records::MOST_RECORDS;
-
-// Whether bytes stand before others of their length, by the first byte in which they differ.
-fn is_before(a: &[u8], b: &[u8]) -> bool
-    ensures { result ≡ (eqb (length a.now) (length b.now) && before a.now b.now) }
-{
-    if a.len() != b.len() {
-        return false;
-    }
-    let mut i = table_records::equal_front(a, b);
-    while i < a.len() {
-        if a[i] != b[i] {
-            return a[i] < b[i];
-        }
-        i += 1;
-    }
-    false
-}
 
 // How many of the first i records stand before record i: `order` has their numbers, in the records' order, and it is halved at each turn.
 fn place(table: &[u8], width: usize, order: &[u16; MOST_RECORDS], i: usize) -> usize
     requires { (i < most_records) × (i * width + width ≤ length table.now) × Ordered (record_at width table.now) order.now i }
     ensures { Placed (record_at width table.now) order.now i result }
 {
+    // Stays a search by hand: `partition_point` asks a closure that may be called with any number, also with one that is no record's.
     let mut low = 0;
     let mut high = i;
     while low < high {
         let middle = low + (high - low) / 2;
-        let j = order[middle] as usize;
-        if is_before(
-            table_records::record_at(table, width, j),
-            table_records::record_at(table, width, i),
-        ) {
+        let record = table_records::record_at(table, width, order[middle] as usize);
+        let compared = record.cmp(&table_records::record_at(table, width, i));
+        if compared.is_lt() {
             low = middle + 1;
         } else {
             high = middle;
@@ -53,10 +35,8 @@ fn insert(order: &mut [u16; MOST_RECORDS], n: usize, at: usize, number: u16)
     requires { (at ≤ n) × (n < most_records) × (length order.old ≡ most_records) }
     ensures { Inserted order.old order.new n at number }
 {
-    let mut j = n;
-    while at < j {
-        order[j] = order[j - 1];
-        j -= 1;
+    for j in (at..n).rev() {
+        order[j + 1] = order[j];
     }
     order[at] = number;
 }
@@ -75,20 +55,17 @@ pub fn are_distinct(table: &[u8], width: u8, n: usize) -> bool
     // By the length of the records alone the compiler knows that record i is whole.
     let records = &table[..n * width];
     let mut order = [0u16; MOST_RECORDS];
-    let mut i = 0;
-    while i < n {
+    for i in 0..n {
         let at = place(records, width, &order, i);
         if at < i {
             let j = order[at] as usize;
-            if table_records::same(
-                table_records::record_at(records, width, i),
-                table_records::record_at(records, width, j),
-            ) {
+            if table_records::record_at(records, width, i)
+                == table_records::record_at(records, width, j)
+            {
                 return false;
             }
         }
         insert(&mut order, i, at, i as u16);
-        i += 1;
     }
     true
 }

@@ -19,7 +19,7 @@ returns-then-n-size c = sym (distinct_short c.args.width c.args.table.now c.args
 
 pub loop-i-init : goal.loop-i-init
 loop-i-init c =
-    (omega arith, chained_start c.args.width (take (c.args.n * c.args.width) c.args.table.now) (replicate 4096 0) (replicate 1024 0) (length-replicate {A = ℕ} 4096 0) (length-replicate {A = ℕ} 1024 0) (λ h l. get_or-replicate {A = ℕ} 4096 h 0 0 l))
+    chained_start c.args.width (take (c.args.n * c.args.width) c.args.table.now) (replicate 4096 0) (replicate 1024 0) (length-replicate {A = ℕ} 4096 0) (length-replicate {A = ℕ} 1024 0) (λ h l. get_or-replicate {A = ℕ} 4096 h 0 0 l)
 
 -- the table has n records, and the first n * width bytes are they
 module _ (width n : ℕ) (table : List ℕ) (many : n ≤ 1024) (whole : n * width ≤ length table) where
@@ -42,7 +42,7 @@ overflow_cast-start c =
     let records = take (c.args.n * c.args.width) c.args.table.now in
     let hashes = hash_at c.args.width records in
     let is_hash : c.hash-h.result ≡ hashes c.loop-i.i = rw (← c.record_at.ensures) c.hash-h.ensures.0 in
-    let is_first = start_is c.args.width records c.loop-i.head c.loop-i.next c.loop-i.i c.hash-h.result c.loop-i.invariant.1 is_hash c.hash-h.ensures.1 in
+    let is_first = start_is c.args.width records c.loop-i.head c.loop-i.next c.loop-i.i c.hash-h.result c.loop-i.invariant is_hash c.hash-h.ensures.1 in
     record { fits = omega (arith, is_first, last_le hashes c.loop-i.i (hashes c.loop-i.i)) }
 
 pub returns-in-Twice : goal.returns-in-Twice
@@ -53,7 +53,7 @@ pub loop-i-preserved : goal.loop-i-preserved
 loop-i-preserved c =
     let records = take (c.args.n * c.args.width) c.args.table.now in
     let is_hash : c.hash-h.result ≡ hash_at c.args.width records c.loop-i.i = rw (← c.record_at.ensures) c.hash-h.ensures.0 in
-    (omega arith, chained_more c.args.width records c.loop-i.head c.loop-i.next c.loop-i.i c.hash-h.result c.loop-i.invariant.1 _ (omega arith) (omega arith) is_hash c.hash-h.ensures.1 c.in-New.ensures)
+    chained_more c.args.width records c.loop-i.head c.loop-i.next c.loop-i.i c.hash-h.result c.loop-i.invariant _ (omega arith) (omega arith) is_hash c.hash-h.ensures.1 c.in-New.ensures
 
 pub returns : goal.returns
-returns c = all c.args.width c.args.n c.args.table.now (omega arith) (omega arith) c.loop-i.i (omega arith) c.loop-i.invariant.1.none
+returns c = all c.args.width c.args.n c.args.table.now (omega arith) (omega arith) c.loop-i.i (omega arith) c.loop-i.invariant.none

@@ -4,7 +4,4 @@ use Rattle.table_distinct_sorted.proofs.insert.Given as goal
 
 -- those from j on are one place further back
 abbrev pub invariant-loop-j : goal.invariant-loop-j
-invariant-loop-j l = (l.at ≤ l.j) × (l.j ≤ l.n) × Shifted l.fn.order l.order l.n l.j
-
-abbrev pub decreases-loop-j : goal.decreases-loop-j
-decreases-loop-j l = l.j
+invariant-loop-j l = (l.at ≤ l.j) × Shifted l.fn.order l.order l.n l.j
