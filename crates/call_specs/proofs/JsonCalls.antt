@@ -1,4 +1,5 @@
 -- The JSON call: one law for each way that it ends.
+use Rattle.std.specs.Prelude.{Result, Ok, Err}
 use mathlib.Core.Path.{◌≡◌, refl, subst, ◌∙◌}
 use Prim.Native.Nat.{ℕ, ◌<◌, ◌≤◌}
 use mathlib.Core.List.{List}
@@ -9,8 +10,8 @@ use Rattle.bytes_number.specs.WorkingLays.{laid_if_room}
 use Rattle.bytes_number.proofs.Buffers.{laid_room}
 use Rattle.refusal.specs.declared.Refusal.TheVariants.{OutputShort}
 use Rattle.refusal.specs.Refusals.{number_of}
-use Rattle.json_scan.specs.declared.Verdict.{Verdict}
-use Rattle.json_scan.specs.declared.Verdict.TheVariants.{Json, NotJson, TooDeep}
+use Rattle.json_scan.specs.Scan.{Verdict}
+use Rattle.json_scan.specs.declared.Fault.TheVariants.{NotJson, TooDeep}
 use Rattle.json_scan.specs.Scan.{verdict_of}
 use Rattle.call_specs.specs.JsonCalls.{json_return, json_numbers, TellsJson, ChecksJson}
 
@@ -27,6 +28,6 @@ json_told {payload} {row} {listed} {r} v h says returns lists =
     }
   where
     room : (w : Verdict) → length (row_bytes (json_numbers w)) ≤ length row
-    room Json = h
-    room (NotJson byte) = h
-    room (TooDeep byte) = h
+    room (Ok tt) = h
+    room (Err (NotJson byte)) = h
+    room (Err (TooDeep byte)) = h

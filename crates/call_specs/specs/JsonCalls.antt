@@ -1,11 +1,12 @@
 -- lampreycoil_check_json, as include/lampreycoil.h describes it: what it returns, and what it leaves in the record that it was lent.
+use Rattle.std.specs.Prelude.{Result, Ok, Err}
 use Rattle.std.specs.Prelude.{◌≡◌, ℕ, ◌<◌, ◌≤◌, min, List, [], ◌∷◌, length}
 use Rattle.bytes_number.specs.Number.{row_bytes}
 use Rattle.bytes_number.specs.Laid.{laid}
 use Rattle.refusal.specs.declared.Refusal.TheVariants as refusals
 use Rattle.refusal.specs.Refusals.{number_of}
-use Rattle.json_scan.specs.declared.Verdict.{Verdict}
-use Rattle.json_scan.specs.declared.Verdict.TheVariants.{Json, NotJson, TooDeep}
+use Rattle.json_scan.specs.Scan.{Verdict}
+use Rattle.json_scan.specs.declared.Fault.TheVariants.{NotJson, TooDeep}
 use Rattle.json_scan.specs.Scan.{verdict_of}
 
 -- two numbers: answer, byte
@@ -18,15 +19,15 @@ told_byte byte = min 4294967295 byte
 
 -- 0, or "26 .. for too deep"
 abbrev pub json_return : Verdict → ℕ
-json_return Json = 0
-json_return (NotJson byte) = 0
-json_return (TooDeep byte) = number_of refusals.JsonDeep
+json_return (Ok tt) = 0
+json_return (Err (NotJson byte)) = 0
+json_return (Err (TooDeep byte)) = number_of refusals.JsonDeep
 
 -- "answer 1 and byte 0 for yes, .. answer 2 and the byte for no, and .. answer 0 and the opening byte for too deep": a record of zeros is no yes
 abbrev pub json_numbers : Verdict → List ℕ
-json_numbers Json = 1 ∷ 0 ∷ []
-json_numbers (NotJson byte) = 2 ∷ told_byte byte ∷ []
-json_numbers (TooDeep byte) = 0 ∷ told_byte byte ∷ []
+json_numbers (Ok tt) = 1 ∷ 0 ∷ []
+json_numbers (Err (NotJson byte)) = 2 ∷ told_byte byte ∷ []
+json_numbers (Err (TooDeep byte)) = 0 ∷ told_byte byte ∷ []
 
 -- a payload of which this is said: it returns r, and leaves the record so
 pub record TellsJson (v : Verdict) (row : List ℕ) (r : ℕ) (listed : List ℕ) : Type 0 where

@@ -1,4 +1,5 @@
 -- Objects and arrays, from the opening byte to the closing one: what was read so far, and what is left to read.
+use Rattle.std.specs.Prelude.{Result, Ok, Err}
 use mathlib.Core.Path.{◌≡◌, refl, sym, ap, subst, ◌∙◌}
 use mathlib.Core.Bool.{false}
 use mathlib.Core.List.{List, ◌∷◌}
@@ -9,11 +10,11 @@ use borrow.Author.Tests.{ne_eqb, eqb-true, eqb-false}
 use lib.Dec.{eqb}
 use Rattle.bytes_number.proofs.Truth.{outcome}
 use lib.ListN.{length, drop, get_or}
-use Rattle.json_scan.specs.declared.Verdict.{Verdict}
-use Rattle.json_scan.specs.declared.Verdict.TheVariants.{TooDeep}
+use Rattle.json_scan.specs.Scan.{Verdict}
+use Rattle.json_scan.specs.declared.Fault.TheVariants.{NotJson, TooDeep}
 use Rattle.json_scan.specs.declared.Token.{Token}
 use Rattle.json_scan.specs.Scan.{is_white, Kind, in_object, in_array, first_name, first_value, name, value, behind, State, between, text, to, value_step, behind_step, token_move, between_move, move_of, go_on, scan}
-use Rattle.json_scan.specs.WorkingReads.{Came, Behind, Stopped, Deeper, resumed, value_by, ReadsOn}
+use Rattle.json_scan.specs.WorkingReads.{Came, resumed, value_by, ReadsOn}
 use Rattle.json_scan.proofs.Scanning.{scan_at, go_on_lem, go_deeper}
 use Rattle.json_scan.proofs.Reading.{Fails, scan_alike}
 use Rattle.json_scan.proofs.Settled.{value_place, value_stop, value_deeper}
@@ -61,7 +62,7 @@ module _ (most : ℕ) (state : State) (around : List Kind) (bytes : List ℕ) (i
   pub leads : (state₁ : State) (around₁ : List Kind) → move_of state around (get_or bytes i 0) ≡ to state₁ around₁ → length around₁ ≤ most → scan most state around i (drop i bytes) ≡ next state₁ around₁
   leads state₁ around₁ e room = scan_at most state around bytes i l ∙ ap (go_on most i next) e ∙ go_on_lem most i next state₁ around₁ room
 
-  leads_deeper : (state₁ : State) (around₁ : List Kind) → move_of state around (get_or bytes i 0) ≡ to state₁ around₁ → most < length around₁ → scan most state around i (drop i bytes) ≡ TooDeep i
+  leads_deeper : (state₁ : State) (around₁ : List Kind) → move_of state around (get_or bytes i 0) ≡ to state₁ around₁ → most < length around₁ → scan most state around i (drop i bytes) ≡ Err (TooDeep i)
   leads_deeper state₁ around₁ e room = scan_at most state around bytes i l ∙ ap (go_on most i next) e ∙ go_deeper most i next state₁ around₁ room
 
 -- ---- behind the opening byte
@@ -82,7 +83,7 @@ pub record Held (bytes : List ℕ) (room at : ℕ) (kind : Kind) (j : ℕ) : Typ
 
 -- at the first token behind the opening byte
 module _ {bytes : List ℕ} (room : ℕ) {at : ℕ} (kind : Kind) {t : Token} (b : TokenAt bytes at t) where
-  pub nest_closed : t.byte ≡ closing kind → Nests bytes room at kind (Behind (t.at + 1))
+  pub nest_closed : t.byte ≡ closing kind → Nests bytes room at kind (Ok (t.at + 1))
   nest_closed e =
       record {
         same = λ around.
@@ -103,14 +104,14 @@ module _ {bytes : List ℕ} (room : ℕ) {at : ℕ} (kind : Kind) {t : Token} (b
 
 module _ {bytes : List ℕ} {room at : ℕ} {kind : Kind} where
   -- a value was read in it, with its name if it has one
-  pub inside_held : {i j : ℕ} → Inside bytes room at kind i → ReadsOn bytes room i (between (again kind)) (between behind) (Behind j) → Held bytes room at kind j
+  pub inside_held : {i j : ℕ} → Inside bytes room at kind i → ReadsOn bytes room i (between (again kind)) (between behind) (Ok j) → Held bytes room at kind j
   inside_held inside one = record { same = λ around. inside.same around ∙ one.same (kind ∷ around); onward = omega (arith, inside.onward, one.onward) }
 
   -- it was not
   pub inside_failed : {i : ℕ} (r : Came) → Fails r → Inside bytes room at kind i → ReadsOn bytes room i (between (again kind)) (between behind) r → Nests bytes room at kind r
-  inside_failed (Behind j) fails inside one = absurd fails
-  inside_failed (Stopped j) fails inside one = record { same = λ around. inside.same around ∙ one.same (kind ∷ around); onward = omega (arith, inside.onward, one.onward) }
-  inside_failed (Deeper j) fails inside one = record { same = λ around. inside.same around ∙ one.same (kind ∷ around); onward = omega (arith, inside.onward, one.onward) }
+  inside_failed (Ok j) fails inside one = absurd fails
+  inside_failed (Err (NotJson j)) fails inside one = record { same = λ around. inside.same around ∙ one.same (kind ∷ around); onward = omega (arith, inside.onward, one.onward) }
+  inside_failed (Err (TooDeep j)) fails inside one = record { same = λ around. inside.same around ∙ one.same (kind ∷ around); onward = omega (arith, inside.onward, one.onward) }
 
   -- what stands behind it
   pub held_more : {j k : ℕ} {r : Next} → r ≡ More k → Held bytes room at kind j → r ≡ next_of (closing kind) bytes j → Inside bytes room at kind k
@@ -118,12 +119,12 @@ module _ {bytes : List ℕ} {room at : ℕ} {kind : Kind} where
       let m = next_told (closing kind) bytes j told e in
       record { same = λ around. held.same around ∙ m.same kind refl room around; onward = omega (arith, held.onward, m.further.0) }
 
-  pub held_closed : {j k : ℕ} {r : Next} → r ≡ Closed k → Held bytes room at kind j → r ≡ next_of (closing kind) bytes j → Nests bytes room at kind (Behind k)
+  pub held_closed : {j k : ℕ} {r : Next} → r ≡ Closed k → Held bytes room at kind j → r ≡ next_of (closing kind) bytes j → Nests bytes room at kind (Ok k)
   held_closed {j} e held told =
       let m = next_told (closing kind) bytes j told e in
       record { same = λ around. held.same around ∙ m.same kind refl room around; onward = omega (arith, held.onward, m.further) }
 
-  pub held_neither : {j k : ℕ} {r : Next} → r ≡ Neither k → Held bytes room at kind j → r ≡ next_of (closing kind) bytes j → Nests bytes room at kind (Stopped k)
+  pub held_neither : {j k : ℕ} {r : Next} → r ≡ Neither k → Held bytes room at kind j → r ≡ next_of (closing kind) bytes j → Nests bytes room at kind (Err (NotJson k))
   held_neither {j} e held told =
       let m = next_told (closing kind) bytes j told e in
       record { same = λ around. held.same around ∙ m.same kind refl room around; onward = omega (arith, held.onward, m.further) }
@@ -131,14 +132,14 @@ module _ {bytes : List ℕ} {room at : ℕ} {kind : Kind} where
 -- ---- a value that is an object or an array
 
 -- with no level left for it, and with some
-pub opened_deeper : {bytes : List ℕ} {room at : ℕ} {kind : Kind} {r : Came} → room ≡ 0 → r ≡ Deeper at → Opened bytes room at kind r
+pub opened_deeper : {bytes : List ℕ} {room at : ℕ} {kind : Kind} {r : Came} → room ≡ 0 → r ≡ Err (TooDeep at) → Opened bytes room at kind r
 opened_deeper none e = record { deeper = λ z. e; nests = λ some. absurd (omega (arith, none, some)) }
 
 pub opened_nest : {bytes : List ℕ} {room at : ℕ} {kind : Kind} {r : Came} → 0 < room → Nests bytes (room - 1) (at + 1) kind r → Opened bytes room at kind r
 opened_nest some nests = record { deeper = λ none. absurd (omega (arith, none, some)); nests = λ l. nests }
 
 module _ {bytes : List ℕ} (kind : Kind) (room at : ℕ) (l : at < length bytes) (e : get_or bytes at 0 ≡ opening kind) where
-  too_deep : room ≡ 0 → ReadsOn bytes room at (between value) (between behind) (Deeper at)
+  too_deep : room ≡ 0 → ReadsOn bytes room at (between value) (between behind) (Err (TooDeep at))
   too_deep none =
       record {
         same = λ around. leads_deeper (length around + room) (between value) around bytes at l (between (first kind)) (kind ∷ around) (opens kind around (get_or bytes at 0) e) (omega (arith, none));
@@ -177,13 +178,13 @@ pub value_fails : (r place : ℕ) → r < 2 → Fails (value_by r place)
 value_fails r place l = ⊎_elim (λ t. subst Fails (sym (value_stop r place (eqb-true r 0 t))) tt) (λ t. subst Fails (sym (value_deeper r place (omega (arith, l, eqb-false r 0 t)))) tt) (outcome (eqb r 0))
 
 module _ {bytes : List ℕ} {room at : ℕ} {state next : State} where
-  pub reads_as_placed : (i place : ℕ) → 1 < i → ReadsOn bytes room at state next (value_by i place) → ReadsOn bytes room at state next (Behind i)
+  pub reads_as_placed : (i place : ℕ) → 1 < i → ReadsOn bytes room at state next (value_by i place) → ReadsOn bytes room at state next (Ok i)
   reads_as_placed i place l = subst (ReadsOn bytes room at state next) (value_place i place l)
 
 -- an object or an array that was read to its end, or that stopped
 module _ {bytes : List ℕ} {room at : ℕ} {kind : Kind} (some : 0 < room) where
-  pub opened_place : (i place : ℕ) → 1 < i → Nests bytes (room - 1) (at + 1) kind (Behind i) → Opened bytes room at kind (value_by i place)
+  pub opened_place : (i place : ℕ) → 1 < i → Nests bytes (room - 1) (at + 1) kind (Ok i) → Opened bytes room at kind (value_by i place)
   opened_place i place l nests = opened_nest some (subst (Nests bytes (room - 1) (at + 1) kind) (sym (value_place i place l)) nests)
 
-  pub opened_stop : (r place i : ℕ) → r ≡ 0 → place ≡ i → Nests bytes (room - 1) (at + 1) kind (Stopped i) → Opened bytes room at kind (value_by r place)
-  opened_stop r place i e is nests = opened_nest some (subst (Nests bytes (room - 1) (at + 1) kind) (ap Stopped (sym is) ∙ sym (value_stop r place e)) nests)
+  pub opened_stop : (r place i : ℕ) → r ≡ 0 → place ≡ i → Nests bytes (room - 1) (at + 1) kind (Err (NotJson i)) → Opened bytes room at kind (value_by r place)
+  opened_stop r place i e is nests = opened_nest some (subst (Nests bytes (room - 1) (at + 1) kind) (ap Err (NotJson (sym is)) ∙ sym (value_stop r place e)) nests)

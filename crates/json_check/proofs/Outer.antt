@@ -1,4 +1,5 @@
 -- In front of the outer object and behind it.
+use Rattle.std.specs.Prelude.{Result, Ok, Err}
 use mathlib.Core.Path.{◌≡◌, refl, sym, ap, ◌∙◌}
 use mathlib.Core.Bool.{false}
 use mathlib.Core.List.{List, []}
@@ -6,7 +7,7 @@ use Prim.Native.Nat.{ℕ, ◌+◌, ◌<◌, ◌≤◌}
 use native.Mathlib.Omega.{arith}
 use borrow.Author.Tests.{ne_eqb}
 use lib.ListN.{length, drop, get_or}
-use Rattle.json_scan.specs.declared.Verdict.TheVariants.{Json, NotJson}
+use Rattle.json_scan.specs.declared.Fault.TheVariants.{NotJson, TooDeep}
 use Rattle.json_scan.specs.Scan.{is_white, outer, value, behind, between, ended, nowhere, to, value_step, behind_step, token_move, between_move, move_of, go_on, scan, depth_limit, verdict_of}
 use Rattle.json_scan.specs.WorkingEnds.{end_of}
 use Rattle.json_scan.specs.WorkingReads.{Came, resumed, ReadsOn}
@@ -30,10 +31,10 @@ unfolding move_of
 over_step c = refl
 
 module _ (most : ℕ) (bytes : List ℕ) (at i : ℕ) (end : i ≡ end_of is_white bytes at) where
-  pub ends_over : length bytes ≤ i → scan most (between behind) [] at (drop at bytes) ≡ NotJson i
+  pub ends_over : length bytes ≤ i → scan most (between behind) [] at (drop at bytes) ≡ Err (NotJson i)
   ends_over l = scan_white bytes at i end most behind [] (omega arith) ∙ scan_over most (between behind) [] bytes i l
 
-  pub ends_wrong : i < length bytes → (get_or bytes i 0 ≡ 0 → ⊥) → scan most (between behind) [] at (drop at bytes) ≡ NotJson i
+  pub ends_wrong : i < length bytes → (get_or bytes i 0 ≡ 0 → ⊥) → scan most (between behind) [] at (drop at bytes) ≡ Err (NotJson i)
   ends_wrong l f =
       scan_white bytes at i end most behind [] (omega arith)
       ∙ scan_at most (between behind) [] bytes i l
@@ -43,13 +44,13 @@ module _ (most : ℕ) (bytes : List ℕ) (at i : ℕ) (end : i ≡ end_of is_whi
   zero_read : i < length bytes → get_or bytes i 0 ≡ 0 → scan most (between behind) [] at (drop at bytes) ≡ scan most ended [] (i + 1) (drop (i + 1) bytes)
   zero_read l e = scan_white bytes at i end most behind [] (omega arith) ∙ leads most (between behind) [] bytes i l ended [] (ends_step (get_or bytes i 0) e) (omega arith)
 
-  pub ends_more : i + 1 < length bytes → get_or bytes i 0 ≡ 0 → scan most (between behind) [] at (drop at bytes) ≡ NotJson (i + 1)
+  pub ends_more : i + 1 < length bytes → get_or bytes i 0 ≡ 0 → scan most (between behind) [] at (drop at bytes) ≡ Err (NotJson (i + 1))
   ends_more l e =
       zero_read (omega (arith, l)) e
       ∙ scan_at most ended [] bytes (i + 1) l
       ∙ ap (go_on most (i + 1) (λ state₁ around₁. scan most state₁ around₁ (i + 1 + 1) (drop (i + 1 + 1) bytes))) (over_step (get_or bytes (i + 1) 0))
 
-  pub ends_here : i < length bytes → length bytes ≤ i + 1 → get_or bytes i 0 ≡ 0 → scan most (between behind) [] at (drop at bytes) ≡ Json
+  pub ends_here : i < length bytes → length bytes ≤ i + 1 → get_or bytes i 0 ≡ 0 → scan most (between behind) [] at (drop at bytes) ≡ Ok tt
   ends_here l m e = zero_read l e ∙ scan_over most ended [] bytes (i + 1) m
 
 -- ---- in front of it
@@ -64,11 +65,11 @@ unfolding token_move
 no_outer c d f = token_begins outer [] c d ∙ rw (ne_eqb c 123 f) refl
 
 module _ (bytes : List ℕ) (i : ℕ) (end : i ≡ end_of is_white bytes 0) where
-  pub judged_over : length bytes ≤ i → NotJson i ≡ verdict_of bytes
+  pub judged_over : length bytes ≤ i → Err (NotJson i) ≡ verdict_of bytes
   unfolding verdict_of
   judged_over l = sym (scan_white bytes 0 i end depth_limit outer [] (omega arith) ∙ scan_over depth_limit (between outer) [] bytes i l)
 
-  pub judged_wrong : i < length bytes → (get_or bytes i 0 ≡ 123 → ⊥) → NotJson i ≡ verdict_of bytes
+  pub judged_wrong : i < length bytes → (get_or bytes i 0 ≡ 123 → ⊥) → Err (NotJson i) ≡ verdict_of bytes
   unfolding verdict_of
   judged_wrong l f =
       sym

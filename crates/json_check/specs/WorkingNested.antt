@@ -1,8 +1,10 @@
 -- Where a value begins, how far a reader of what is open came, and what the bytes behind the outer object come to.
+use Rattle.std.specs.Prelude.{Result, Ok, Err}
 use Rattle.std.specs.Prelude.{◌≡◌, false, List, [], ◌∷◌, ℕ, ◌+◌, ◌-◌, ◌<◌, ◌≤◌, length, drop, get_or}
-use Rattle.json_scan.specs.declared.Verdict.{Verdict}
+use Rattle.json_scan.specs.Scan.{Verdict}
 use Rattle.json_scan.specs.Scan.{is_white, Kind, in_object, in_array, Due, first_name, first_value, behind, between, scan}
-use Rattle.json_scan.specs.WorkingReads.{Came, Deeper, place_of, resumed}
+use Rattle.json_scan.specs.WorkingReads.{Came, place_of, resumed}
+use Rattle.json_scan.specs.declared.Fault.TheVariants.{NotJson, TooDeep}
 
 -- this byte stands there, or a zero behind the end, and it is no white space
 pub record Stands (bytes : List ℕ) (at c : ℕ) : Type 0 where
@@ -23,7 +25,7 @@ pub record Nests (bytes : List ℕ) (room at : ℕ) (kind : Kind) (r : Came) : T
 
 -- from the opening byte on: it may be a level too many
 pub record Opened (bytes : List ℕ) (room at : ℕ) (kind : Kind) (r : Came) : Type 0 where
-  pub deeper : room ≡ 0 → r ≡ Deeper at
+  pub deeper : room ≡ 0 → r ≡ Err (TooDeep at)
   pub nests : 0 < room → Nests bytes (room - 1) (at + 1) kind r
 
 -- behind the outer object nothing is open

@@ -1,4 +1,5 @@
 -- Where a number ends, byte by byte at a place.
+use Rattle.std.specs.Prelude.{Result, Ok, Err}
 use mathlib.Core.Path.{◌≡◌, refl, sym, ap, subst, ◌∙◌}
 use mathlib.Core.Bool.{Bool, true, false, cond}
 use mathlib.Core.List.{List, []}
@@ -9,8 +10,7 @@ use borrow.Author.Tests.{eqb-true, eqb-false, ltb-true, ltb-false}
 use lib.Dec.{eqb, ltb}
 use lib.ListN.{length, drop, get_or, drop_of_length-le}
 use Rattle.bytes_number.proofs.Truth.{outcome}
-use Rattle.json_scan.specs.declared.Reached.{Reached}
-use Rattle.json_scan.specs.declared.Reached.TheVariants.{Behind, Stopped}
+use Rattle.json_scan.specs.WorkingEnds.{Reached}
 use Rattle.json_scan.specs.Scan.{is_white, is_digit, is_e, Kind, Figure, minus, leading_zero, whole, exponent, behind, between, number, ended, nowhere, to, behind_step, token_move, between_move, move_of}
 use Rattle.json_scan.specs.WorkingEnds.{end_of}
 use Rattle.json_scan.proofs.Scanning.{drop_at}
@@ -65,8 +65,8 @@ pub number_alike :
 number_alike figure figure₁ bytes at e f =
     ⊎_elim
     (λ t. let l = ltb-true at (length bytes) t in
-    first figure bytes at l ∙ ap (figure_on (over_at figure at) (next bytes at)) (f l) ∙ ap (λ (u : Bool). figure_on (cond u (Behind at) (Stopped at)) (next bytes at) (move_of (number figure₁) [] (get_or bytes at 0))) e ∙ sym (first figure₁ bytes at l))
-    (λ t. let l = ltb-false at (length bytes) t in number_over figure bytes at l ∙ ap (λ (u : Bool). cond u (Behind at) (Stopped at)) e ∙ sym (number_over figure₁ bytes at l))
+    first figure bytes at l ∙ ap (figure_on (over_at figure at) (next bytes at)) (f l) ∙ ap (λ (u : Bool). figure_on (cond u (Ok at) (Err at)) (next bytes at) (move_of (number figure₁) [] (get_or bytes at 0))) e ∙ sym (first figure₁ bytes at l))
+    (λ t. let l = ltb-false at (length bytes) t in number_over figure bytes at l ∙ ap (λ (u : Bool). cond u (Ok at) (Err at)) e ∙ sym (number_over figure₁ bytes at l))
     (outcome (ltb at (length bytes)))
 
 -- ---- digits
@@ -132,19 +132,19 @@ number-int bytes at {j} l digit is = go (eqb (get_or bytes at 0) 48) refl ∙ ap
 -- ---- behind int or frac
 
 module _ (bytes : List ℕ) (at : ℕ) where
-  pub scale_over : length bytes ≤ at → scale_end at (drop at bytes) ≡ Behind at
+  pub scale_over : length bytes ≤ at → scale_end at (drop at bytes) ≡ Ok at
   unfolding scale_end
   scale_over l = ap (scale_end at) (drop_of_length-le bytes l)
 
-  scale_first : at < length bytes → scale_end at (drop at bytes) ≡ cond (is_e (get_or bytes at 0)) (number_end exponent (at + 1) (drop (at + 1) bytes)) (Behind at)
+  scale_first : at < length bytes → scale_end at (drop at bytes) ≡ cond (is_e (get_or bytes at 0)) (number_end exponent (at + 1) (drop (at + 1) bytes)) (Ok at)
   unfolding scale_end
   scale_first l = ap (scale_end at) (drop_at bytes at l)
 
   pub scale_e : at < length bytes → is_e (get_or bytes at 0) ≡ true → scale_end at (drop at bytes) ≡ number_end exponent (at + 1) (drop (at + 1) bytes)
-  scale_e l e = scale_first l ∙ ap (λ (t : Bool). cond t (number_end exponent (at + 1) (drop (at + 1) bytes)) (Behind at)) e
+  scale_e l e = scale_first l ∙ ap (λ (t : Bool). cond t (number_end exponent (at + 1) (drop (at + 1) bytes)) (Ok at)) e
 
-  pub scale_none : at < length bytes → is_e (get_or bytes at 0) ≡ false → {j : ℕ} → j ≡ at → Behind j ≡ scale_end at (drop at bytes)
-  scale_none l e is = ap Behind is ∙ sym (scale_first l ∙ ap (λ (t : Bool). cond t (number_end exponent (at + 1) (drop (at + 1) bytes)) (Behind at)) e)
+  pub scale_none : at < length bytes → is_e (get_or bytes at 0) ≡ false → {j : ℕ} → j ≡ at → Ok j ≡ scale_end at (drop at bytes)
+  scale_none l e is = ap Ok is ∙ sym (scale_first l ∙ ap (λ (t : Bool). cond t (number_end exponent (at + 1) (drop (at + 1) bytes)) (Ok at)) e)
 
   -- it is where a number ends that may end there
   pub number_scale : (figure : Figure) → is_over figure ≡ true → (at < length bytes → Ends figure (get_or bytes at 0)) → number_end figure at (drop at bytes) ≡ scale_end at (drop at bytes)
@@ -158,5 +158,5 @@ module _ (bytes : List ℕ) (at : ℕ) where
       (λ t. let l = ltb-false at (length bytes) t in number_over figure bytes at l ∙ here ∙ sym (scale_over l))
       (outcome (ltb at (length bytes)))
     where
-      here : over_at figure at ≡ Behind at
-      here = ap (λ (t : Bool). cond t (Behind at) (Stopped at)) over
+      here : over_at figure at ≡ Ok at
+      here = ap (λ (t : Bool). cond t (Ok at) (Err at)) over

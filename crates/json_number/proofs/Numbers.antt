@@ -1,4 +1,5 @@
 -- Where a number ends it is read on from, whatever is open around it.
+use Rattle.std.specs.Prelude.{Result, Ok, Err}
 use mathlib.Core.Path.{◌≡◌, refl, ap, subst⁻¹, ◌∙◌}
 use mathlib.Core.Bool.{Bool, true, false, cond}
 use mathlib.Core.List.{List, []}
@@ -9,8 +10,7 @@ use borrow.Author.Tests.{ltb-true, ltb-false}
 use lib.Dec.{eqb, ltb}
 use lib.ListN.{length, drop, get_or}
 use Rattle.bytes_number.proofs.Truth.{outcome}
-use Rattle.json_scan.specs.declared.Reached.{Reached}
-use Rattle.json_scan.specs.declared.Reached.TheVariants.{Behind, Stopped}
+use Rattle.json_scan.specs.WorkingEnds.{Reached}
 use Rattle.json_scan.specs.Scan.{is_digit, is_e, is_sign, Kind, Figure, minus, leading_zero, whole, point, fraction, exponent, sign, power, behind, between, number, nowhere, to, number_move, move_of}
 use Rattle.json_scan.specs.WorkingReads.{came, ReadsOn}
 use Rattle.json_scan.proofs.Reading.{ReadsToken, reads_none, reads_more, reads_stuck, reads_alike}
@@ -86,16 +86,16 @@ module _ (bytes : List ℕ) (room : ℕ) where
   over : (figure : Figure) (at : ℕ) → length bytes ≤ at → Reads figure at (over_at figure at)
   over figure at l = go (is_over figure)
     where
-      go : (t : Bool) → Reads figure at (cond t (Behind at) (Stopped at))
+      go : (t : Bool) → Reads figure at (cond t (Ok at) (Err at))
       go true = reads_alike (between behind) refl (λ m around. absurd (omega (arith, l, m))) reads_none
       go false = reads_stuck refl (λ m around. absurd (omega (arith, l, m)))
 
   at_byte : (figure : Figure) (at : ℕ) → at < length bytes → ((figure₁ : Figure) → Reads figure₁ (at + 1) (end figure₁ (at + 1))) → Turn figure (get_or bytes at 0) → Reads figure at (end figure at)
   at_byte figure at l again (on figure₁ e) = by figure at (number_on figure bytes at figure₁ l (e [])) (reads_more (number figure₁) l e (again figure₁))
   at_byte figure at l again (stands may e) =
-      by figure at (number-stands figure bytes at (λ m. e []) ∙ ap (λ (t : Bool). cond t (Behind at) (Stopped at)) may) (reads_alike (between behind) refl (λ m. e) reads_none)
+      by figure at (number-stands figure bytes at (λ m. e []) ∙ ap (λ (t : Bool). cond t (Ok at) (Err at)) may) (reads_alike (between behind) refl (λ m. e) reads_none)
   at_byte figure at l again (stuck may e) =
-      by figure at (number_stuck figure bytes at (λ m. e []) ∙ ap (λ (t : Bool). cond t (Behind at) (Stopped at)) may) (reads_stuck refl (λ m. e))
+      by figure at (number_stuck figure bytes at (λ m. e []) ∙ ap (λ (t : Bool). cond t (Ok at) (Err at)) may) (reads_stuck refl (λ m. e))
 
   -- with at most so many bytes left
   reads : (n : ℕ) (figure : Figure) (at : ℕ) → length bytes ≤ at + n → Reads figure at (end figure at)

@@ -1,7 +1,7 @@
 -- Where a number ends: at the first byte that leads to no further figure of it.
+use Rattle.std.specs.Prelude.{Result, Ok, Err}
 use Rattle.std.specs.Prelude.{Bool, true, false, cond, List, [], ◌∷◌, ℕ, ◌+◌}
-use Rattle.json_scan.specs.declared.Reached.{Reached}
-use Rattle.json_scan.specs.declared.Reached.TheVariants.{Behind, Stopped}
+use Rattle.json_scan.specs.WorkingEnds.{Reached}
 use Rattle.json_scan.specs.Scan.{is_e, Figure, minus, leading_zero, whole, point, fraction, exponent, sign, power, between, number, text, escape, rest, ended, Move, nowhere, to, move_of}
 
 -- behind a digit a number may be over, and behind nothing else
@@ -16,7 +16,7 @@ is_over sign = false
 is_over power = true
 
 abbrev pub over_at : Figure → ℕ → Reached
-over_at figure at = cond (is_over figure) (Behind at) (Stopped at)
+over_at figure at = cond (is_over figure) (Ok at) (Err at)
 
 -- a byte that leads to a figure is passed, and no other
 abbrev pub figure_on : Reached → (Figure → Reached) → Move → Reached
@@ -35,5 +35,5 @@ number_end figure at (c ∷ cs) = figure_on (over_at figure at) (λ figure₁. n
 
 -- behind int or frac: an exponent, or the number's end
 unfoldable pub scale_end : ℕ → List ℕ → Reached
-scale_end at [] = Behind at
-scale_end at (c ∷ cs) = cond (is_e c) (number_end exponent (at + 1) cs) (Behind at)
+scale_end at [] = Ok at
+scale_end at (c ∷ cs) = cond (is_e c) (number_end exponent (at + 1) cs) (Ok at)

@@ -1,12 +1,12 @@
 -- The marks on a word, byte by byte: as long as bytes stand for themselves nothing is borrowed from those above them, and the first that does not is
 -- marked, whatever is marked above it.
+use Rattle.std.specs.List.{prefix_len}
 use Rattle.std.proofs.Common.{◌≡◌, ℕ, zero, suc, ◌+◌, ◌*◌, ◌/◌, ◌%◌, ◌<◌, ◌≤◌, Bool, true, false, cond, ◌&&◌, eqb, leb, List, [], ◌∷◌, length, sym, refl, ap, ◌∙◌, subst, ap₂, ⊎_elim, le_of_suc-le-suc, not-suc-le-zero, eq-or-lt_of_le, arith, eqb-true, leb-true}
 use lib.Bits.{bit_and, bit_or, bit_xor, and_mod, or_mod, xor_mod, and_shr, or_shr, xor_shr}
 use lib.Count.{count_trailing_zeros}
 use Rattle.bytes_number.specs.Number.{Bytes}
 use Rattle.bytes_number.proofs.Truth.{and_left, and_right}
 use Rattle.json_scan.specs.Scan.{is_within}
-use Rattle.json_scan.specs.WorkingEnds.{leading}
 use Rattle.json_plain.specs.WorkingPlain.{is_plain}
 use Rattle.json_plain.specs.WorkingWords.{word_of, lowest_mark, Marks}
 use Rattle.json_plain.proofs.Words.{each, each_low, each_high, Less, less_low, less_high, byte_past, byte_here}
@@ -106,30 +106,33 @@ module _ (k w p q r : ℕ) (dp : Less 32 (suc k) w p) (dq : Found 34 (suc k) w q
 abbrev lowest_in : ℕ → ℕ → ℕ
 lowest_in k marks = count_trailing_zeros (k * 8) marks / 8
 
+one_more : {a b : ℕ} → a ≡ b → suc a ≡ 1 + b
+one_more e = omega (arith, e)
+
 marks_in :
     (xs : List ℕ) (w p q r : ℕ) → Bytes xs → w ≡ word_of xs → Less 32 (length xs) w p → Found 34 (length xs) w q → Found 92 (length xs) w r →
-    lowest_in (length xs) (gathered p q r (each 128 (length xs))) ≡ leading is_plain xs
-unfolding word_of leading count_trailing_zeros
+    lowest_in (length xs) (gathered p q r (each 128 (length xs))) ≡ prefix_len is_plain xs
+unfolding word_of count_trailing_zeros
 marks_in [] w p q r b is dp dq dr = refl
 marks_in (x ∷ xs) w p q r b is dp dq dr =
     go (marks_in xs (w / 256) (p / 256) (q / 256) (r / 256) b.1 (omega (arith, b.0))) (is_plain (w % 256)) refl
-    ∙ ap (λ (c : ℕ). cond (is_plain c) (suc (leading is_plain xs)) 0) (omega (arith, b.0))
+    ∙ ap (λ (c : ℕ). cond (is_plain c) (1 + prefix_len is_plain xs) 0) (omega (arith, b.0))
   where
     k : ℕ
     k = length xs
 
     go :
         (Less 32 k (w / 256) (p / 256) → Found 34 k (w / 256) (q / 256) → Found 92 k (w / 256) (r / 256) →
-        lowest_in k (gathered (p / 256) (q / 256) (r / 256) (each 128 k)) ≡ leading is_plain xs) →
-        (t : Bool) → is_plain (w % 256) ≡ t → lowest_in (suc k) (gathered p q r (each 128 (suc k))) ≡ cond t (suc (leading is_plain xs)) 0
+        lowest_in k (gathered (p / 256) (q / 256) (r / 256) (each 128 k)) ≡ prefix_len is_plain xs) →
+        (t : Bool) → is_plain (w % 256) ≡ t → lowest_in (suc k) (gathered p q r (each 128 (suc k))) ≡ cond t (1 + prefix_len is_plain xs) 0
     go again true e =
         let u = plain_clear (w % 256) (omega arith) e in
         byte_past k _ (marks_low k w p q r dp dq dr ∙ u.none)
         ∙ ap (λ (n : ℕ). suc (lowest_in k n)) (marks_high k w p q r dp dq dr)
-        ∙ ap suc (again (less_high 32 k w p (omega arith) dp u.text) (found_high 34 k w q (omega arith) dq u.quote) (found_high 92 k w r (omega arith) dr u.backslash))
+        ∙ one_more (again (less_high 32 k w p (omega arith) dp u.text) (found_high 34 k w q (omega arith) dq u.quote) (found_high 92 k w r (omega arith) dr u.backslash))
     go again false e = byte_here k _ (marks_low k w p q r dp dq dr ∙ other_marked (w % 256) (omega arith) e)
 
 pub marks_of : (w p q r : ℕ) → Less 32 8 w p → Found 34 8 w q → Found 92 8 w r → Marks w (gathered p q r (each 128 8))
 unfolding lowest_mark
 marks_of w p q r dp dq dr xs b l is =
-    subst (λ (k : ℕ). Less 32 k w p → Found 34 k w q → Found 92 k w r → lowest_in k (gathered p q r (each 128 k)) ≡ leading is_plain xs) l (marks_in xs w p q r b is) dp dq dr
+    subst (λ (k : ℕ). Less 32 k w p → Found 34 k w q → Found 92 k w r → lowest_in k (gathered p q r (each 128 k)) ≡ prefix_len is_plain xs) l (marks_in xs w p q r b is) dp dq dr

@@ -1,9 +1,10 @@
 -- What its marks tell of a word at a place: with none it is passed, and the lowest is where the bytes that stand for themselves end.
+use Rattle.std.specs.List.{prefix_len}
 use Rattle.std.proofs.Common.{◌≡◌, ℕ, zero, suc, ◌+◌, ◌/◌, ◌^◌, ◌<◌, ◌≤◌, min, Bool, true, false, cond, List, [], ◌∷◌, length, take, drop, ap, ◌∙◌, arith, length-drop, length-take-le}
 use lib.Count.{trailing_of_zero}
 use Rattle.bytes_number.specs.Number.{Bytes}
 use Rattle.bytes_number.proofs.Numbers.{bytes_take, bytes_drop}
-use Rattle.json_scan.specs.WorkingEnds.{leading, end_of}
+use Rattle.json_scan.specs.WorkingEnds.{end_of}
 use Rattle.json_scan.proofs.Leading.{end_past}
 use Rattle.json_plain.specs.WorkingPlain.{is_plain}
 use Rattle.json_plain.specs.WorkingWords.{word_of, lowest_mark, Marks}
@@ -18,13 +19,12 @@ unfolding lowest_mark
 lowest_some m l some = omega (arith, trailing_lt 64 m l some)
 
 -- of the first k bytes as many pass as of all, if there are so many
-leading-take : (test : ℕ → Bool) (k : ℕ) (xs : List ℕ) → leading test (take k xs) ≡ min k (leading test xs)
-unfolding leading
+leading-take : (test : ℕ → Bool) (k : ℕ) (xs : List ℕ) → prefix_len test (take k xs) ≡ min k (prefix_len test xs)
 leading-take test zero xs = omega arith
 leading-take test (suc k) [] = omega arith
 leading-take test (suc k) (x ∷ xs) = go (leading-take test k xs) (test x)
   where
-    go : leading test (take k xs) ≡ min k (leading test xs) → (t : Bool) → cond t (suc (leading test (take k xs))) 0 ≡ min (suc k) (cond t (suc (leading test xs)) 0)
+    go : prefix_len test (take k xs) ≡ min k (prefix_len test xs) → (t : Bool) → cond t (1 + prefix_len test (take k xs)) 0 ≡ min (suc k) (cond t (1 + prefix_len test xs) 0)
     go e true = omega arith
     go e false = omega arith
 
@@ -37,7 +37,7 @@ pub told : (bytes : List ℕ) (i w m : ℕ) → Bytes bytes → i + 8 ≤ length
 told bytes i w m b l is marks fits =
     let rest = drop i bytes in
     let long : length (take 8 rest) ≡ 8 = length-take-le 8 rest (omega (arith, length-drop i bytes)) in
-    let few : lowest_mark m ≡ min 8 (leading is_plain rest) = marks (take 8 rest) (bytes_take 8 rest (bytes_drop i bytes b)) long is ∙ leading-take is_plain 8 rest in
+    let few : lowest_mark m ≡ min 8 (prefix_len is_plain rest) = marks (take 8 rest) (bytes_take 8 rest (bytes_drop i bytes b)) long is ∙ leading-take is_plain 8 rest in
     record {
       passes = λ e. end_past is_plain bytes i 8 (omega (arith, lowest_none m e));
       stops = λ some. omega (arith, lowest_some m fits some);

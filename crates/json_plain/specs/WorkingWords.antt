@@ -1,8 +1,8 @@
 -- Bytes taken together as one number, and marks on them.
+use Rattle.std.specs.List.{prefix_len}
 use Rattle.std.specs.Prelude.{◌≡◌, ℕ, ◌+◌, ◌*◌, ◌/◌, List, [], ◌∷◌, length}
 use Rattle.std.specs.Int.Count.{count_trailing_zeros}
 use Rattle.bytes_number.specs.Number.{Bytes}
-use Rattle.json_scan.specs.WorkingEnds.{leading}
 use Rattle.json_plain.specs.WorkingPlain.{is_plain}
 
 -- the first byte is the lowest
@@ -16,4 +16,4 @@ lowest_mark marks = count_trailing_zeros 64 marks / 8
 
 -- the lowest mark is on the first of a word's bytes that does not stand for itself
 abbrev pub Marks : ℕ → ℕ → Type 0
-Marks word marks = (xs : List ℕ) → Bytes xs → length xs ≡ 8 → word ≡ word_of xs → lowest_mark marks ≡ leading is_plain xs
+Marks word marks = (xs : List ℕ) → Bytes xs → length xs ≡ 8 → word ≡ word_of xs → lowest_mark marks ≡ prefix_len is_plain xs

@@ -1,10 +1,12 @@
 // Text that stands for itself, eight bytes at a time as long as there are twice as many.
 #![tactic(auto)]
 
-ghost use Rattle.std.specs.Prelude.{◌≡◌, ◌+◌, ◌<◌, ◌≤◌, length, take, drop};
+ghost use Rattle.std.specs.Prelude.{◌≡◌, ◌+◌, ◌≤◌, length, take, drop};
 ghost use Rattle.json_scan.specs.WorkingEnds.{end_of};
 ghost use Rattle.json_plain.specs.WorkingPlain.{is_plain};
 ghost use Rattle.json_plain.specs.WorkingWords.{word_of, lowest_mark, Marks};
+
+use json_scan::end_of;
 
 // Bytes of a word, and of two.
 const WORD: usize = 8;
@@ -20,26 +22,12 @@ fn is_plain(c: u8) -> bool
     (c != b'"') & (c != b'\\') & (c >= 0x20) & (c < 0x80)
 }
 
-// A byte as a wider number. A call of its own, so that a byte read from a slice carries its range along.
-fn wide(c: u8) -> u64
-    ensures { (result ≡ c) × (result < 256) }
-{
-    c as u64
-}
-
 // Eight bytes as a number, the first as its lowest byte: the compiler makes one load of it.
 fn word_at(bytes: &[u8], at: usize) -> u64
     requires { at + 8 ≤ length bytes.now }
     ensures { result ≡ word_of (take 8 (drop at bytes.now)) }
 {
-    wide(bytes[at])
-        + wide(bytes[at + 1]) * 0x100
-        + wide(bytes[at + 2]) * 0x10000
-        + wide(bytes[at + 3]) * 0x1000000
-        + wide(bytes[at + 4]) * 0x100000000
-        + wide(bytes[at + 5]) * 0x10000000000
-        + wide(bytes[at + 6]) * 0x1000000000000
-        + wide(bytes[at + 7]) * 0x100000000000000
+    u64::from_le_bytes(*bytes[at..].first_chunk().unwrap())
 }
 
 // The high bit of each byte of a word that does not stand for itself. A borrow out of such a byte can set bits above it too, so only the lowest one counts. A byte above 7F has its mark by the quote's difference or the backslash's: no byte is both but for the high bit.
@@ -79,11 +67,5 @@ pub fn plain_end(bytes: &[u8], at: usize) -> usize
             i += WORD;
         }
     }
-    while i < bytes.len() {
-        if !is_plain(bytes[i]) {
-            break;
-        }
-        i += 1;
-    }
-    i
+    end_of(bytes, i, is_plain)
 }

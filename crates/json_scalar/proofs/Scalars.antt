@@ -1,4 +1,5 @@
 -- Where a number or a literal name ends it is read on from, where a value is due.
+use Rattle.std.specs.Prelude.{Result, Ok, Err}
 use mathlib.Core.Path.{◌≡◌, refl, ap, subst⁻¹, ◌∙◌}
 use mathlib.Core.Bool.{Bool, true, false}
 use mathlib.Core.List.{List, [], ◌∷◌}
@@ -9,8 +10,7 @@ use borrow.Author.Tests.{eqb-true, ltb-true, ltb-false}
 use lib.Dec.{eqb, ltb}
 use lib.ListN.{length, drop, get_or}
 use Rattle.bytes_number.proofs.Truth.{outcome}
-use Rattle.json_scan.specs.declared.Reached.{Reached}
-use Rattle.json_scan.specs.declared.Reached.TheVariants.{Stopped}
+use Rattle.json_scan.specs.WorkingEnds.{Reached}
 use Rattle.json_scan.specs.Scan.{is_white, is_digit, Class, exactly, Kind, Figure, minus, leading_zero, whole, value, behind, between, number, rest, nowhere, to, value_step, token_move, move_of}
 use Rattle.json_scan.specs.WorkingEnds.{rest_end}
 use Rattle.json_scan.specs.WorkingReads.{came}
@@ -33,7 +33,7 @@ pub record Bare (c : ℕ) : Type 0 where
 data First (c : ℕ) : Type 0 where
   counts : (figure : Figure) → ((around : List Kind) → value_step around c ≡ to (number figure) around) → First c
   spells : (k : Class) (ks : List Class) → ((around : List Kind) → value_step around c ≡ to (rest k ks (between behind)) around) → First c
-  other : ((at : ℕ) (cs : List ℕ) → scalar_on at cs (value_step [] c) ≡ Stopped at) → (Bare c → (around : List Kind) → value_step around c ≡ nowhere) → First c
+  other : ((at : ℕ) (cs : List ℕ) → scalar_on at cs (value_step [] c) ≡ Err at) → (Bare c → (around : List Kind) → value_step around c ≡ nowhere) → First c
 
 first : (c : ℕ) → First c
 unfolding value_step

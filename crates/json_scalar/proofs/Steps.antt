@@ -1,4 +1,5 @@
 -- The first byte of a number or a literal name, and where such a value ends then.
+use Rattle.std.specs.Prelude.{Result, Ok, Err}
 use mathlib.Core.Path.{◌≡◌, refl, sym, ap, ◌∙◌}
 use mathlib.Core.Bool.{Bool, true, false, cond, ◌||◌}
 use mathlib.Core.List.{List, [], ◌∷◌}
@@ -8,7 +9,6 @@ use borrow.Author.Tests.{eqb-true, eqb-false, eq-eqb, ne_eqb}
 use lib.Dec.{eqb}
 use lib.ListN.{length, drop, get_or, drop_of_length-le}
 use Rattle.bytes_number.proofs.Truth.{or_left, or_right}
-use Rattle.json_scan.specs.declared.Reached.TheVariants.{Stopped}
 use Rattle.json_scan.specs.Scan.{is_within, is_digit, exactly, holds, in_object, in_array, first_name, first_value, behind, minus, leading_zero, whole, between, number, text, nowhere, to, value_step}
 use Rattle.json_scan.specs.WorkingEnds.{rest_end}
 use Rattle.json_scan.proofs.Bytes.{is_within_lem, no_zero_lem}
@@ -30,7 +30,7 @@ not_exactly x c f = ne_eqb c x f
 
 -- ---- the first byte
 
-pub scalar_over : (bytes : List ℕ) (at : ℕ) → length bytes ≤ at → scalar_end at (drop at bytes) ≡ Stopped at
+pub scalar_over : (bytes : List ℕ) (at : ℕ) → length bytes ≤ at → scalar_end at (drop at bytes) ≡ Err at
 unfolding scalar_end
 scalar_over bytes at l = ap (scalar_end at) (drop_of_length-le bytes l)
 
@@ -82,13 +82,13 @@ module _ (bytes : List ℕ) (at : ℕ) (l : at < length bytes) where
       go false false e f is = scalar_digit is (eqb-false x 48 f)
 
   -- neither of them
-  pub scalar_none : (eqb x 45 || is_digit x) ≡ false → (x ≡ 102 → ⊥) → (x ≡ 110 → ⊥) → (x ≡ 116 → ⊥) → scalar_end at (drop at bytes) ≡ Stopped at
+  pub scalar_none : (eqb x 45 || is_digit x) ≡ false → (x ≡ 102 → ⊥) → (x ≡ 110 → ⊥) → (x ≡ 116 → ⊥) → scalar_end at (drop at bytes) ≡ Err at
   unfolding value_step
   scalar_none is f n t =
       let e = or_right (eqb x 45) (is_digit x) is in
       scalar_at ∙ rw (or_left (eqb x 45) (is_digit x) is, ne_eqb x 48 (no_zero_lem x e), e, ne_eqb x 102 f, ne_eqb x 110 n, ne_eqb x 116 t) (go (eqb x 34) (eqb x 123) (eqb x 91))
     where
-      go : (a b c : Bool) → scalar_on at (drop (at + 1) bytes) (cond a (to (text behind) []) (cond b (to (between first_name) (in_object ∷ [])) (cond c (to (between first_value) (in_array ∷ [])) nowhere))) ≡ Stopped at
+      go : (a b c : Bool) → scalar_on at (drop (at + 1) bytes) (cond a (to (text behind) []) (cond b (to (between first_name) (in_object ∷ [])) (cond c (to (between first_value) (in_array ∷ [])) nowhere))) ≡ Err at
       go true b c = refl
       go false true c = refl
       go false false true = refl

@@ -4,4 +4,3 @@ pub mod Leading
 pub mod Reading
 pub mod Rest
 pub mod White
-pub mod Settled

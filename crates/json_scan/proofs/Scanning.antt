@@ -1,4 +1,5 @@
 -- One byte more of a payload: it leads on, or the reading stops at its place.
+use Rattle.std.specs.Prelude.{Ok, Err}
 use mathlib.Core.Path.{◌≡◌, refl, ap, ◌∙◌}
 use mathlib.Core.Bool.{Bool, cond}
 use mathlib.Core.List.{List, [], ◌∷◌}
@@ -7,8 +8,8 @@ use native.Mathlib.Omega.{arith}
 use native.Mathlib.Nat.{le_of_suc-le-suc}
 use borrow.Author.Tests.{lt-ltb, le-ltb}
 use lib.ListN.{length, drop, get_or, drop_of_length-le}
-use Rattle.json_scan.specs.declared.Verdict.{Verdict}
-use Rattle.json_scan.specs.declared.Verdict.TheVariants.{Json, NotJson, TooDeep}
+use Rattle.json_scan.specs.Scan.{Verdict}
+use Rattle.json_scan.specs.declared.Fault.TheVariants.{NotJson, TooDeep}
 use Rattle.json_scan.specs.Scan.{Kind, State, to, move_of, is_ended, go_on, scan}
 
 far : (i : ℕ) → suc (i + 1) ≡ suc i + 1
@@ -35,13 +36,13 @@ scan_at most state around bytes at l = ap (scan most state around at) (drop_at b
 -- no byte is left
 pub scan_over :
     (most : ℕ) (state : State) (around : List Kind) (bytes : List ℕ) (at : ℕ) → length bytes ≤ at →
-    scan most state around at (drop at bytes) ≡ cond (is_ended state) Json (NotJson at)
+    scan most state around at (drop at bytes) ≡ cond (is_ended state) (Ok tt) (Err (NotJson at))
 unfolding scan
 scan_over most state around bytes at l = ap (scan most state around at) (drop_of_length-le bytes l)
 
 -- no level too many, and one too many
 pub go_on_lem : (most at : ℕ) (next : State → List Kind → Verdict) (state : State) (around : List Kind) → length around ≤ most → go_on most at next (to state around) ≡ next state around
-go_on_lem most at next state around l = ap (λ (t : Bool). cond t (TooDeep at) (next state around)) (le-ltb most (length around) l)
+go_on_lem most at next state around l = ap (λ (t : Bool). cond t (Err (TooDeep at)) (next state around)) (le-ltb most (length around) l)
 
-pub go_deeper : (most at : ℕ) (next : State → List Kind → Verdict) (state : State) (around : List Kind) → most < length around → go_on most at next (to state around) ≡ TooDeep at
-go_deeper most at next state around l = ap (λ (t : Bool). cond t (TooDeep at) (next state around)) (lt-ltb most (length around) l)
+pub go_deeper : (most at : ℕ) (next : State → List Kind → Verdict) (state : State) (around : List Kind) → most < length around → go_on most at next (to state around) ≡ Err (TooDeep at)
+go_deeper most at next state around l = ap (λ (t : Bool). cond t (Err (TooDeep at)) (next state around)) (lt-ltb most (length around) l)

@@ -1,4 +1,5 @@
 -- White space in front of a token, and the first byte that is none.
+use Rattle.std.specs.Prelude.{Err}
 use mathlib.Core.Path.{◌≡◌, sym, ap, subst, subst⁻¹, ◌∙◌}
 use mathlib.Core.Bool.{Bool, true, false, cond}
 use mathlib.Core.List.{List}
@@ -9,11 +10,11 @@ use borrow.Author.Tests.{ltb-true, ltb-false}
 use lib.Dec.{ltb}
 use lib.ListN.{length, drop, get_or, get_or-eq_default}
 use Rattle.bytes_number.proofs.Truth.{outcome}
-use Rattle.json_scan.specs.declared.Verdict.{Verdict}
-use Rattle.json_scan.specs.declared.Verdict.TheVariants.{NotJson}
+use Rattle.json_scan.specs.Scan.{Verdict}
+use Rattle.json_scan.specs.declared.Fault.TheVariants.{NotJson}
 use Rattle.json_scan.specs.Scan.{is_white, Kind, Due, State, between, nowhere, to, token_move, between_move, move_of, go_on, scan}
 use Rattle.json_scan.specs.WorkingEnds.{end_of, token_at}
-use Rattle.json_scan.specs.WorkingReads.{Came, Stopped, ReadsOn}
+use Rattle.json_scan.specs.WorkingReads.{Came, ReadsOn}
 use Rattle.json_scan.specs.declared.Token.{Token}
 use Rattle.json_scan.proofs.Leading.{end_here, end_stops, scan_passes}
 use Rattle.json_scan.proofs.Bytes.{white_none}
@@ -96,12 +97,12 @@ module _ {bytes : List ℕ} {from : ℕ} {t : Token} (b : TokenAt bytes from t) 
   -- it leads nowhere, or there is none
   pub scan_stuck :
       (most : ℕ) (due : Due) (around : List Kind) → length around ≤ most → (is_white t.byte ≡ false → move_of (between due) around t.byte ≡ nowhere) →
-      scan most (between due) around from (drop from bytes) ≡ NotJson t.at
+      scan most (between due) around from (drop from bytes) ≡ Err (NotJson t.at)
   scan_stuck most due around l e =
       scan_white bytes from t.at b.end most due around l
       ∙ ⊎_elim (λ u. here (ltb-true t.at (length bytes) u)) (λ u. scan_over most (between due) around bytes t.at (ltb-false t.at (length bytes) u)) (outcome (ltb t.at (length bytes)))
     where
-      here : t.at < length bytes → scan most (between due) around t.at (drop t.at bytes) ≡ NotJson t.at
+      here : t.at < length bytes → scan most (between due) around t.at (drop t.at bytes) ≡ Err (NotJson t.at)
       here m =
           scan_at most (between due) around bytes t.at m
           ∙ ap (go_on most t.at (λ state₂ around₂. scan most state₂ around₂ (t.at + 1) (drop (t.at + 1) bytes))) (ap (move_of (between due) around) (sym b.there) ∙ e (token_dark m))
@@ -116,5 +117,5 @@ module _ {bytes : List ℕ} {from : ℕ} {t : Token} (b : TokenAt bytes from t) 
         onward = omega (arith, token_further, rest.onward);
       }
 
-  pub token_stuck : {room : ℕ} {due : Due} {next : State} → (is_white t.byte ≡ false → (around : List Kind) → move_of (between due) around t.byte ≡ nowhere) → ReadsOn bytes room from (between due) next (Stopped t.at)
+  pub token_stuck : {room : ℕ} {due : Due} {next : State} → (is_white t.byte ≡ false → (around : List Kind) → move_of (between due) around t.byte ≡ nowhere) → ReadsOn bytes room from (between due) next (Err (NotJson t.at))
   token_stuck {room} {due} e = record { same = λ around. scan_stuck (length around + room) due around (omega arith) (λ dark. e dark around); onward = token_further }

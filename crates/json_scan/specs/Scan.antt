@@ -1,8 +1,8 @@
 -- What a payload comes to, read one byte after another: where the reading stands, and what is open around it. The definition of the check's promise; that
 -- its yes is RFC 7159's and its places are the grammar's is claimed in claim_json/specs/Json.antt.
-use Rattle.std.specs.Prelude.{Bool, true, false, cond, ◌&&◌, ◌||◌, List, [], ◌∷◌, ℕ, ◌+◌, eqb, ltb, leb, length}
-use Rattle.json_scan.specs.declared.Verdict.{Verdict}
-use Rattle.json_scan.specs.declared.Verdict.TheVariants.{Json, NotJson, TooDeep}
+use Rattle.std.specs.Prelude.{Bool, true, false, cond, ◌&&◌, ◌||◌, List, [], ◌∷◌, ℕ, ◌+◌, eqb, ltb, leb, length, Result, Ok, Err}
+use Rattle.json_scan.specs.declared.Fault.{Fault}
+use Rattle.json_scan.specs.declared.Fault.TheVariants.{NotJson, TooDeep}
 
 -- ---- bytes
 
@@ -198,6 +198,10 @@ move_of ended around c = nowhere
 
 -- ---- a whole payload
 
+-- it is JSON, or at a place it shows that it is not
+abbrev pub Verdict : Type 0
+Verdict = Result (Unit {0}) Fault
+
 abbrev pub is_ended : State → Bool
 is_ended (between due) = false
 is_ended (number figure) = false
@@ -208,12 +212,12 @@ is_ended ended = true
 
 -- "deeper is 26, whatever follows"; a byte that leads nowhere is the place of a no
 abbrev pub go_on : ℕ → ℕ → (State → List Kind → Verdict) → Move → Verdict
-go_on most at next nowhere = NotJson at
-go_on most at next (to state around) = cond (ltb most (length around)) (TooDeep at) (next state around)
+go_on most at next nowhere = Err (NotJson at)
+go_on most at next (to state around) = cond (ltb most (length around)) (Err (TooDeep at)) (next state around)
 
 -- the bytes from a place on: "or the length if it stops early"
 unfoldable pub scan : ℕ → State → List Kind → ℕ → List ℕ → Verdict
-scan most state around at [] = cond (is_ended state) Json (NotJson at)
+scan most state around at [] = cond (is_ended state) (Ok tt) (Err (NotJson at))
 scan most state around at (c ∷ cs) = go_on most at (λ state₁ open₁. scan most state₁ open₁ (at + 1) cs) (move_of state around c)
 
 -- a payload: "at most 32 deep with the outer object as 1"

@@ -1,86 +1,67 @@
 // A payload read one byte after another: what it comes to, and how far a reader of one of its tokens came.
 #![tactic(auto)]
 
-ghost use Rattle.std.specs.Prelude.{◌≡◌};
-ghost use Rattle.json_scan.specs.Scan.{is_white, is_digit};
-ghost use Rattle.json_scan.specs.WorkingEnds.{end_of, token_at, settled_as, place_left};
+ghost use Rattle.std.specs.Prelude.{◌≡◌, ℕ, Bool, drop, replicate};
+ghost use Rattle.json_scan.specs.Scan.{is_white, is_digit, Class, holds};
+ghost use Rattle.json_scan.specs.WorkingEnds.{end_of, token_at, rest_end};
 
 use bytes_number::byte_at;
 
-// Whether a payload is JSON; if not, the first byte at which no continuation is allowed, or the opening byte of the level that is one too deep.
-#[derive(Drop)]
-pub enum Verdict {
-    Json,
+// Why a payload is not JSON, and where: the first byte at which no continuation is allowed, or the opening byte of the level that is one too deep.
+#[derive(Clone, Copy, Debug, PartialEq, Eq)]
+pub enum Fault {
     NotJson(usize),
     TooDeep(usize),
-}
-
-// How far a reader came: behind what it read, or to a byte that cannot stand there, or the end.
-#[derive(Drop)]
-pub enum Reached {
-    Behind(usize),
-    Stopped(usize),
-}
-
-// The same as a number, for readers that are called and not made part of their caller, so that it need not go through memory: the place behind what was
-// read, or 0, and then it is left where it stopped.
-pub fn settle(reached: Reached, place: &mut usize) -> usize
-    ensures told { result ≡ settled_as reached }
-    ensures stops { place.new ≡ place_left reached place.old }
-{
-    match reached {
-        Reached::Behind(at) => at,
-        Reached::Stopped(at) => {
-            *place = at;
-            0
-        }
-    }
 }
 
 fn is_white(c: u8) -> bool
     ensures { result ≡ is_white c }
 {
-    if c > b' ' {
-        return false;
-    }
-    match c {
-        b' ' | b'\n' | b'\r' | b'\t' => true,
-        _ => false,
-    }
+    matches!(c, b' ' | b'\n' | b'\r' | b'\t')
 }
 
 pub fn is_digit(c: u8) -> bool
     ensures { result ≡ is_digit c }
 {
-    c >= b'0' && c <= b'9'
+    c.is_ascii_digit()
+}
+
+// The bytes from `at` on; none behind the end.
+fn rest_of(bytes: &[u8], at: usize) -> &[u8]
+    ensures { result.now ≡ drop at bytes.now }
+{
+    bytes.get(at..).unwrap_or(&[])
+}
+
+// The first place from `at` on whose byte does not pass the test.
+pub fn end_of<F: Fn(u8) -> bool>(bytes: &[u8], at: usize, passes: F) -> usize
+    requires { F.IsAlwaysCallable passes }
+    ensures { (test : ℕ → Bool) → ((c : ℕ) (b : Bool) → F.post passes c b → b ≡ test c) → result ≡ end_of test bytes.now at }
+{
+    at + rest_of(bytes, at).iter().take_while(|c| passes(**c)).count()
 }
 
 // The first place from `at` on that has no white space.
 pub fn white_end(bytes: &[u8], at: usize) -> usize
     ensures { result ≡ end_of is_white bytes.now at }
 {
-    let mut i = at;
-    while i < bytes.len() {
-        if !is_white(bytes[i]) {
-            break;
-        }
-        i += 1;
-    }
-    i
+    end_of(bytes, at, is_white)
 }
 
 // The first place from `at` on that has no digit.
 pub fn digits_end(bytes: &[u8], at: usize) -> usize
     ensures { result ≡ end_of is_digit bytes.now at }
 {
-    let mut j = at;
-    while j < bytes.len() {
-        if !is_digit(bytes[j]) {
-            break;
-        }
-        j += 1;
-    }
-    j
+    end_of(bytes, at, is_digit)
+}
+
+// Behind so many bytes that pass the test, or at the first that does not.
+pub fn run_end<F: Fn(u8) -> bool>(bytes: &[u8], at: usize, count: usize, passes: F) -> Result<usize, usize>
+    requires { F.IsAlwaysCallable passes }
+    ensures { (k : Class) → ((c : ℕ) (b : Bool) → F.post passes c b → b ≡ holds k c) → result ≡ rest_end (replicate count k) at (drop at bytes.now) }
+{
+    let passed = rest_of(bytes, at).iter().take(count).take_while(|c| passes(**c)).count();
+    if passed == count { Ok(at + passed) } else { Err(at + passed) }
 }
 
 // Where a token may begin, and the byte there, as `byte_at` has it.

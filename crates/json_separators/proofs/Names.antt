@@ -1,4 +1,5 @@
 -- Where a name with its colon ends, and that it is read on from there.
+use Rattle.std.specs.Prelude.{Result, Ok, Err}
 use mathlib.Core.Path.{◌≡◌, refl, sym, ap, subst, subst⁻¹, ◌∙◌}
 use mathlib.Core.Bool.{Bool, false, cond}
 use mathlib.Core.List.{List}
@@ -9,8 +10,7 @@ use borrow.Author.Tests.{eq-eqb, ne_eqb, eqb-true, eqb-false}
 use lib.Dec.{eqb}
 use lib.ListN.{drop}
 use Rattle.bytes_number.proofs.Truth.{outcome}
-use Rattle.json_scan.specs.declared.Reached.{Reached}
-use Rattle.json_scan.specs.declared.Reached.TheVariants.{Behind, Stopped}
+use Rattle.json_scan.specs.WorkingEnds.{Reached}
 use Rattle.json_scan.specs.declared.Token.{Token}
 use Rattle.json_scan.specs.Scan.{is_white, Kind, Due, name, colon, value, State, between, text, nowhere, to, move_of}
 use Rattle.json_scan.specs.WorkingEnds.{token_at, followed}
@@ -26,15 +26,15 @@ use Rattle.json_separators.proofs.Steps.{name_begins, no_name, colon_stands, no_
 -- ---- one byte behind white space
 
 module _ (mark : ℕ) (bytes : List ℕ) (at : ℕ) {t : Token} (b : t ≡ token_at bytes at) where
-  mark_at : mark_end mark bytes at ≡ cond (eqb t.byte mark) (Behind (t.at + 1)) (Stopped t.at)
+  mark_at : mark_end mark bytes at ≡ cond (eqb t.byte mark) (Ok (t.at + 1)) (Err t.at)
   unfolding mark_end
-  mark_at = ap (λ (x : Token). cond (eqb x.byte mark) (Behind (x.at + 1)) (Stopped x.at)) (sym b)
+  mark_at = ap (λ (x : Token). cond (eqb x.byte mark) (Ok (x.at + 1)) (Err x.at)) (sym b)
 
-  pub mark_stands : t.byte ≡ mark → mark_end mark bytes at ≡ Behind (t.at + 1)
-  mark_stands e = mark_at ∙ ap (λ (u : Bool). cond u (Behind (t.at + 1)) (Stopped t.at)) (eq-eqb t.byte mark e)
+  pub mark_stands : t.byte ≡ mark → mark_end mark bytes at ≡ Ok (t.at + 1)
+  mark_stands e = mark_at ∙ ap (λ (u : Bool). cond u (Ok (t.at + 1)) (Err t.at)) (eq-eqb t.byte mark e)
 
-  pub mark_missing : (t.byte ≡ mark → ⊥) → mark_end mark bytes at ≡ Stopped t.at
-  mark_missing f = mark_at ∙ ap (λ (u : Bool). cond u (Behind (t.at + 1)) (Stopped t.at)) (ne_eqb t.byte mark f)
+  pub mark_missing : (t.byte ≡ mark → ⊥) → mark_end mark bytes at ≡ Err t.at
+  mark_missing f = mark_at ∙ ap (λ (u : Bool). cond u (Ok (t.at + 1)) (Err t.at)) (ne_eqb t.byte mark f)
 
 module _ (mark : ℕ) (bytes : List ℕ) (at : ℕ) where
   abbrev there : Token
@@ -71,11 +71,11 @@ module _ (bytes : List ℕ) (at : ℕ) where
   behind_mark i = followed (text_end i (drop i bytes)) behind_text
 
   -- how it ends, by how its mark and its text do
-  pub name_unmarked : {i : ℕ} → mark_end 34 bytes at ≡ Stopped i → name_end bytes at ≡ Stopped i
+  pub name_unmarked : {i : ℕ} → mark_end 34 bytes at ≡ Err i → name_end bytes at ≡ Err i
   unfolding name_end
   name_unmarked e = ap (λ (r : Reached). followed r behind_mark) e
 
-  pub name_marked : {i : ℕ} {r : Reached} → mark_end 34 bytes at ≡ Behind i → text_end i (drop i bytes) ≡ r → name_end bytes at ≡ followed r behind_text
+  pub name_marked : {i : ℕ} {r : Reached} → mark_end 34 bytes at ≡ Ok i → text_end i (drop i bytes) ≡ r → name_end bytes at ≡ followed r behind_text
   unfolding name_end
   name_marked e f = ap (λ (r : Reached). followed r behind_mark) e ∙ ap (λ (r : Reached). followed r behind_text) f
 
@@ -99,10 +99,10 @@ module _ (bytes : List ℕ) (at : ℕ) where
 -- ---- as it is told
 
 module _ (bytes : List ℕ) (at r before after : ℕ) (t : Told (name_end bytes at) r before after) where
-  pub name_stops : {next : State} → r ≡ 0 → ReadsToken bytes at (between name) next (came (Stopped after))
+  pub name_stops : {next : State} → r ≡ 0 → ReadsToken bytes at (between name) next (came (Err after))
   name_stops z room = reads_stop (name_end bytes at) r before after (takes_more (at + 1) (came (name_end bytes at)) (omega arith) (name_takes bytes at)) t z (name_reads bytes at room)
 
-  pub name_placed : 0 < r → ReadsToken bytes at (between name) (between value) (came (Behind r))
+  pub name_placed : 0 < r → ReadsToken bytes at (between name) (between value) (came (Ok r))
   name_placed l room = reads_place (name_end bytes at) r before after t l (name_reads bytes at room)
 
   -- behind two bytes at least

@@ -1,4 +1,5 @@
 -- What stands behind a value within an object or an array, and what the whole comes to then.
+use Rattle.std.specs.Prelude.{Result, Ok, Err}
 use mathlib.Core.Path.{◌≡◌, refl, sym, ap, subst, ◌∙◌}
 use mathlib.Core.Bool.{cond}
 use mathlib.Core.List.{List, ◌∷◌}
@@ -9,8 +10,8 @@ use borrow.Author.Tests.{eq-eqb, ne_eqb, eqb-true, eqb-false, ltb-true, ltb-fals
 use lib.Dec.{eqb, ltb}
 use lib.ListN.{length, drop, drop_of_length-le}
 use Rattle.bytes_number.proofs.Truth.{outcome}
-use Rattle.json_scan.specs.declared.Verdict.{Verdict}
-use Rattle.json_scan.specs.declared.Verdict.TheVariants.{NotJson}
+use Rattle.json_scan.specs.Scan.{Verdict}
+use Rattle.json_scan.specs.declared.Fault.TheVariants.{NotJson, TooDeep}
 use Rattle.json_scan.specs.declared.Token.{Token}
 use Rattle.json_scan.specs.Scan.{Kind, behind, between, scan}
 use Rattle.json_scan.specs.WorkingEnds.{token_at}
@@ -54,7 +55,7 @@ module _ (close : ℕ) (bytes : List ℕ) (at : ℕ) {t : Token} (e : t ≡ toke
 abbrev pub separated : List ℕ → ℕ → Kind → List Kind → Next → Verdict
 separated bytes most kind around (More k) = scan most (between (again kind)) (kind ∷ around) k (drop k bytes)
 separated bytes most kind around (Closed k) = scan most (between behind) around k (drop k bytes)
-separated bytes most kind around (Neither k) = NotJson k
+separated bytes most kind around (Neither k) = Err (NotJson k)
 
 -- it was read on by so much: the comma lies within the bytes
 abbrev pub Further : List ℕ → ℕ → Next → Type 0

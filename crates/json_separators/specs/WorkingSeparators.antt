@@ -1,7 +1,7 @@
 -- Where a name with its colon ends, and what stands behind a value within an object or an array.
+use Rattle.std.specs.Prelude.{Result, Ok, Err}
 use Rattle.std.specs.Prelude.{cond, List, [], ◌∷◌, ℕ, ◌+◌, eqb, drop}
-use Rattle.json_scan.specs.declared.Reached.{Reached}
-use Rattle.json_scan.specs.declared.Reached.TheVariants.{Behind, Stopped}
+use Rattle.json_scan.specs.WorkingEnds.{Reached}
 use Rattle.json_scan.specs.Scan.{is_white}
 use Rattle.json_scan.specs.WorkingEnds.{end_of, token_at, followed}
 use Rattle.json_string.specs.WorkingText.{text_end}
@@ -10,7 +10,7 @@ use Rattle.json_separators.specs.declared.Next.TheVariants.{More, Closed, Neithe
 
 -- this byte, behind white space
 unfoldable pub mark_end : ℕ → List ℕ → ℕ → Reached
-mark_end mark bytes at = let t = token_at bytes at in cond (eqb t.byte mark) (Behind (t.at + 1)) (Stopped t.at)
+mark_end mark bytes at = let t = token_at bytes at in cond (eqb t.byte mark) (Ok (t.at + 1)) (Err t.at)
 
 -- a quotation mark, what stands up to the closing one, and a colon
 unfoldable pub name_end : List ℕ → ℕ → Reached

@@ -1,5 +1,6 @@
 -- What the check says of a payload is what the grammar says: its yes, the place of its no, and the opening byte of a level too many. The way from the
 -- grammar to the reading is handed in: the crate json_complete has it.
+use Rattle.std.specs.Prelude.{Result, Ok, Err}
 use mathlib.Core.Path.{◌≡◌, refl, sym, ap, subst, ◌∙◌}
 use mathlib.Core.List.{List, [], ◌∷◌, ◌++◌, append_assoc}
 use mathlib.Core.Logic.{⊎_elim}
@@ -12,8 +13,8 @@ use lib.Seq.{take-suc, take-take, take-length}
 use Rattle.bytes_number.proofs.Truth.{outcome, true_false}
 use Rattle.json_grammar.specs.Json.{payload_to, most_deep}
 use Rattle.json_grammar.specs.Places.{Begins, NoAt, DeepAt}
-use Rattle.json_scan.specs.declared.Verdict.{Verdict}
-use Rattle.json_scan.specs.declared.Verdict.TheVariants.{Json, NotJson, TooDeep}
+use Rattle.json_scan.specs.Scan.{Verdict}
+use Rattle.json_scan.specs.declared.Fault.TheVariants.{NotJson, TooDeep}
 use Rattle.json_scan.specs.Scan.{Kind, outer, State, between, ended, nowhere, to, move_of, is_ended, depth_limit, scan, verdict_of}
 use Rattle.json_sound.specs.WorkingAllowed.{Allowed}
 use Rattle.json_sound.proofs.Reach.{goes, reach, reach_on, reach_append, nowhere_else, same_state}
@@ -25,17 +26,17 @@ use Rattle.json_sound.proofs.Levels.{one_level, reach_wider}
 -- ---- a yes
 
 abbrev IsYes : Verdict → Type 0
-IsYes Json = Unit {0}
-IsYes (NotJson place) = ⊥
-IsYes (TooDeep place) = ⊥
+IsYes (Ok tt) = Unit {0}
+IsYes (Err (NotJson place)) = ⊥
+IsYes (Err (TooDeep place)) = ⊥
 
-yes_is : (v : Verdict) → v ≡ Json → IsYes v
+yes_is : (v : Verdict) → v ≡ Ok tt → IsYes v
 yes_is v e = subst IsYes (sym e) tt
 
-by_scan : (most : ℕ) (payload : List ℕ) (v : Verdict) → Says most (between outer) [] 0 payload v → v ≡ Json → payload_to most payload
-by_scan most payload Json s e = reached_payload most payload s.left s.ends
-by_scan most payload (NotJson place) s e = absurd (yes_is (NotJson place) e)
-by_scan most payload (TooDeep place) s e = absurd (yes_is (TooDeep place) e)
+by_scan : (most : ℕ) (payload : List ℕ) (v : Verdict) → Says most (between outer) [] 0 payload v → v ≡ Ok tt → payload_to most payload
+by_scan most payload (Ok tt) s e = reached_payload most payload s.left s.ends
+by_scan most payload (Err (NotJson place)) s e = absurd (yes_is (Err (NotJson place)) e)
+by_scan most payload (Err (TooDeep place)) s e = absurd (yes_is (Err (TooDeep place)) e)
 
 pub allowed : Allowed
 allowed most payload = by_scan most payload (scan most (between outer) [] 0 payload) (scan_says most payload (between outer) [] 0 (omega arith))
@@ -70,7 +71,7 @@ nothing_more most state around = refl
 module _ (payload_reached : (depth : ℕ) (payload : List ℕ) → payload_to depth payload → reach depth (between outer) [] payload ≡ to ended []) (payload : List ℕ) where
   -- ---- a yes
 
-  pub good_json : payload_to most_deep payload → verdict_of payload ≡ Json
+  pub good_json : payload_to most_deep payload → verdict_of payload ≡ Ok tt
   unfolding verdict_of
   good_json g = reached_scan depth_limit payload (between outer) [] [] 0 (payload_reached most_deep payload g)
 
@@ -132,14 +133,14 @@ module _ (payload_reached : (depth : ℕ) (payload : List ℕ) → payload_to de
 
   -- what the check says, in the grammar's words
   abbrev pub Told : Verdict → Type 0
-  Told Json = payload_to most_deep payload
-  Told (NotJson place) = NoAt payload place
-  Told (TooDeep place) = DeepAt payload place
+  Told (Ok tt) = payload_to most_deep payload
+  Told (Err (NotJson place)) = NoAt payload place
+  Told (Err (TooDeep place)) = DeepAt payload place
 
   told : (v : Verdict) → Says most_deep (between outer) [] 0 payload v → Told v
-  told Json s = by_scan most_deep payload Json s refl
-  told (NotJson place) s = not_place place (subst (Stops most_deep (between outer) [] payload) (omega (arith, s.1.0)) s.1.1)
-  told (TooDeep place) s = deep_place place (subst (Deepens most_deep (between outer) [] payload) (omega (arith, s.1.0)) s.1.1)
+  told (Ok tt) s = by_scan most_deep payload (Ok tt) s refl
+  told (Err (NotJson place)) s = not_place place (subst (Stops most_deep (between outer) [] payload) (omega (arith, s.1.0)) s.1.1)
+  told (Err (TooDeep place)) s = deep_place place (subst (Deepens most_deep (between outer) [] payload) (omega (arith, s.1.0)) s.1.1)
 
   pub says : Told (verdict_of payload)
   unfolding verdict_of
@@ -169,18 +170,18 @@ module _ (payload_reached : (depth : ℕ) (payload : List ℕ) → payload_to de
       let same = same_place i j (no_before n d.begun (omega (arith, d.within))) (deep_before d n.begun) in
       n.wrong (omega (arith, same, d.within)) (suc most_deep) (subst (λ (k : ℕ). Begins (suc most_deep) (take (suc k) payload)) (sym same) d.deeper)
 
-  only_not : (v : Verdict) → Told v → (place : ℕ) → NoAt payload place → v ≡ NotJson place
-  only_not Json g place n = absurd (not_json n g)
-  only_not (NotJson i) m place n = ap NotJson (same_place i place (no_before m n.begun n.within) (no_before n m.begun m.within))
-  only_not (TooDeep i) d place n = absurd (not_deep n d)
+  only_not : (v : Verdict) → Told v → (place : ℕ) → NoAt payload place → v ≡ Err (NotJson place)
+  only_not (Ok tt) g place n = absurd (not_json n g)
+  only_not (Err (NotJson i)) m place n = ap Err (Err (NotJson (same_place i place (no_before m n.begun n.within) (no_before n m.begun m.within))))
+  only_not (Err (TooDeep i)) d place n = absurd (not_deep n d)
 
-  only_deep : (v : Verdict) → Told v → (place : ℕ) → DeepAt payload place → v ≡ TooDeep place
-  only_deep Json g place d = absurd (not_deep_json d g)
-  only_deep (NotJson i) n place d = absurd (not_deep n d)
-  only_deep (TooDeep i) m place d = ap TooDeep (same_place i place (deep_before m d.begun) (deep_before d m.begun))
+  only_deep : (v : Verdict) → Told v → (place : ℕ) → DeepAt payload place → v ≡ Err (TooDeep place)
+  only_deep (Ok tt) g place d = absurd (not_deep_json d g)
+  only_deep (Err (NotJson i)) n place d = absurd (not_deep n d)
+  only_deep (Err (TooDeep i)) m place d = ap Err (TooDeep (same_place i place (deep_before m d.begun) (deep_before d m.begun)))
 
-  pub no_at : (place : ℕ) → NoAt payload place → verdict_of payload ≡ NotJson place
+  pub no_at : (place : ℕ) → NoAt payload place → verdict_of payload ≡ Err (NotJson place)
   no_at = only_not (verdict_of payload) says
 
-  pub deep_at : (place : ℕ) → DeepAt payload place → verdict_of payload ≡ TooDeep place
+  pub deep_at : (place : ℕ) → DeepAt payload place → verdict_of payload ≡ Err (TooDeep place)
   deep_at = only_deep (verdict_of payload) says

@@ -1,4 +1,5 @@
 -- What a scan says, in terms of where it stood: at the end, at a byte that leads nowhere, or at one that opens a level too many.
+use Rattle.std.specs.Prelude.{Result, Ok, Err}
 use mathlib.Core.Path.{◌≡◌, refl, sym, ap, ◌∙◌}
 use mathlib.Core.Bool.{Bool, true, false, cond}
 use mathlib.Core.List.{List, [], ◌∷◌}
@@ -8,8 +9,8 @@ use borrow.Author.Tests.{ltb-true, ltb-false}
 use lib.Dec.{ltb}
 use lib.ListN.{length, take, get_or}
 use Rattle.bytes_number.proofs.Truth.{true_false}
-use Rattle.json_scan.specs.declared.Verdict.{Verdict}
-use Rattle.json_scan.specs.declared.Verdict.TheVariants.{Json, NotJson, TooDeep}
+use Rattle.json_scan.specs.Scan.{Verdict}
+use Rattle.json_scan.specs.declared.Fault.TheVariants.{NotJson, TooDeep}
 use Rattle.json_scan.specs.Scan.{Kind, State, between, number, text, escape, rest, ended, Move, nowhere, to, move_of, is_ended, go_on, scan}
 use Rattle.json_sound.proofs.Reach.{goes, reach, reach_on, nowhere_else, same_state}
 
@@ -46,9 +47,9 @@ pub record Deepens (most : ℕ) (state : State) (around : List Kind) (xs : List 
 -- ---- which it is, by the scan's verdict
 
 abbrev pub Says : ℕ → State → List Kind → ℕ → List ℕ → Verdict → Type 0
-Says most state around at xs Json = Ended most state around xs
-Says most state around at xs (NotJson place) = (count : ℕ) × ((place ≡ at + count) × Stops most state around xs count)
-Says most state around at xs (TooDeep place) = (count : ℕ) × ((place ≡ at + count) × Deepens most state around xs count)
+Says most state around at xs (Ok tt) = Ended most state around xs
+Says most state around at xs (Err (NotJson place)) = (count : ℕ) × ((place ≡ at + count) × Stops most state around xs count)
+Says most state around at xs (Err (TooDeep place)) = (count : ℕ) × ((place ≡ at + count) × Deepens most state around xs count)
 
 -- at the end
 ended_is : (state : State) → is_ended state ≡ true → state ≡ ended
@@ -59,11 +60,11 @@ ended_is (escape due) e = absurd (true_false (sym e))
 ended_is (rest k ks next) e = absurd (true_false (sym e))
 ended_is ended e = refl
 
-says_over : (most : ℕ) (state : State) (around : List Kind) (at : ℕ) → length around ≤ most → Says most state around at [] (cond (is_ended state) Json (NotJson at))
+says_over : (most : ℕ) (state : State) (around : List Kind) (at : ℕ) → length around ≤ most → Says most state around at [] (cond (is_ended state) (Ok tt) (Err (NotJson at)))
 unfolding reach
 says_over most state around at l = go (is_ended state) refl
   where
-    go : (t : Bool) → is_ended state ≡ t → Says most state around at [] (cond t Json (NotJson at))
+    go : (t : Bool) → is_ended state ≡ t → Says most state around at [] (cond t (Ok tt) (Err (NotJson at)))
     go true e = record { left = around; ends = ap (λ (s : State). to s around) (ended_is state e) }
     go false e = (0, (omega arith, record { within = omega arith; stood = state; held = around; room = l; front = refl; wrong = λ m. absurd (omega arith); early = λ m. e }))
 
@@ -71,8 +72,8 @@ says_over most state around at l = go (is_ended state) refl
 says_more :
     (most : ℕ) (state : State) (around : List Kind) (at x : ℕ) (xs : List ℕ) (state₁ : State) (around₁ : List Kind) → move_of state around x ≡ to state₁ around₁ → length around₁ ≤ most →
     (v : Verdict) → Says most state₁ around₁ (at + 1) xs v → Says most state around at (x ∷ xs) v
-says_more most state around at x xs state₁ around₁ e l Json s = record { left = s.left; ends = reach_on most state around x xs state₁ around₁ e l ∙ s.ends }
-says_more most state around at x xs state₁ around₁ e l (NotJson place) s =
+says_more most state around at x xs state₁ around₁ e l (Ok tt) s = record { left = s.left; ends = reach_on most state around x xs state₁ around₁ e l ∙ s.ends }
+says_more most state around at x xs state₁ around₁ e l (Err (NotJson place)) s =
     let d = s.1.1 in (
       suc s.0,
       (
@@ -88,7 +89,7 @@ says_more most state around at x xs state₁ around₁ e l (NotJson place) s =
         },
       ),
     )
-says_more most state around at x xs state₁ around₁ e l (TooDeep place) s =
+says_more most state around at x xs state₁ around₁ e l (Err (TooDeep place)) s =
     let d = s.1.1 in (
       suc s.0,
       (
@@ -118,7 +119,7 @@ scan_says most (x ∷ xs) state around at l = by (λ state₁ around₁ m. scan_
     by again nowhere e = (0, (omega arith, record { within = omega arith; stood = state; held = around; room = l; front = refl; wrong = λ m. e; early = λ m. absurd (omega (arith, m)) }))
     by again (to state₁ around₁) e = test (ltb most (length around₁)) refl
       where
-        test : (t : Bool) → ltb most (length around₁) ≡ t → Says most state around at (x ∷ xs) (cond t (TooDeep at) (scan most state₁ around₁ (at + 1) xs))
+        test : (t : Bool) → ltb most (length around₁) ≡ t → Says most state around at (x ∷ xs) (cond t (Err (TooDeep at)) (scan most state₁ around₁ (at + 1) xs))
         test true d = (
           0,
           (
@@ -142,17 +143,17 @@ scan_says most (x ∷ xs) state around at l = by (λ state₁ around₁ m. scan_
 
 -- ---- and the other way for a yes
 
-pub reached_scan : (most : ℕ) (xs : List ℕ) (state : State) (around left : List Kind) (at : ℕ) → reach most state around xs ≡ to ended left → scan most state around at xs ≡ Json
+pub reached_scan : (most : ℕ) (xs : List ℕ) (state : State) (around left : List Kind) (at : ℕ) → reach most state around xs ≡ to ended left → scan most state around at xs ≡ Ok tt
 unfolding scan reach
-reached_scan most [] state around left at e = ap (λ (s : State). cond (is_ended s) Json (NotJson at)) (same_state e)
+reached_scan most [] state around left at e = ap (λ (s : State). cond (is_ended s) (Ok tt) (Err (NotJson at))) (same_state e)
 reached_scan most (x ∷ xs) state around left at e = by (λ state₁ around₁. reached_scan most xs state₁ around₁ left (at + 1)) (move_of state around x) e
   where
     by :
-        ((state₁ : State) (around₁ : List Kind) → reach most state₁ around₁ xs ≡ to ended left → scan most state₁ around₁ (at + 1) xs ≡ Json) → (s : Move) →
-        goes most (λ state₁ around₁. reach most state₁ around₁ xs) s ≡ to ended left → go_on most at (λ state₁ around₁. scan most state₁ around₁ (at + 1) xs) s ≡ Json
+        ((state₁ : State) (around₁ : List Kind) → reach most state₁ around₁ xs ≡ to ended left → scan most state₁ around₁ (at + 1) xs ≡ Ok tt) → (s : Move) →
+        goes most (λ state₁ around₁. reach most state₁ around₁ xs) s ≡ to ended left → go_on most at (λ state₁ around₁. scan most state₁ around₁ (at + 1) xs) s ≡ Ok tt
     by again nowhere e = absurd (nowhere_else e)
     by again (to state₁ around₁) e = test (ltb most (length around₁)) e
       where
-        test : (t : Bool) → cond t nowhere (reach most state₁ around₁ xs) ≡ to ended left → cond t (TooDeep at) (scan most state₁ around₁ (at + 1) xs) ≡ Json
+        test : (t : Bool) → cond t nowhere (reach most state₁ around₁ xs) ≡ to ended left → cond t (Err (TooDeep at)) (scan most state₁ around₁ (at + 1) xs) ≡ Ok tt
         test true e = absurd (nowhere_else e)
         test false e = again state₁ around₁ e

@@ -3,15 +3,13 @@ use mathlib.Core.Path.{◌≡◌, refl, sym, ap, ◌∙◌}
 use mathlib.Core.Bool.{Bool, true, false, not, ◌&&◌}
 use mathlib.Core.List.{List, [], ◌∷◌}
 use mathlib.Core.Logic.{⊎_elim}
-use Prim.Native.Nat.{ℕ, ◌-◌, ◌<◌, ◌≤◌}
+use Prim.Native.Nat.{ℕ, ◌<◌, ◌≤◌}
 use native.Mathlib.Omega.{arith}
 use borrow.Author.Tests.{ne_eqb, leb-true, leb-false}
 use lib.Dec.{eqb, leb}
-use lib.ListN.{length, replicate}
 use Rattle.bytes_number.proofs.Truth.{true_false, outcome}
-use Rattle.json_scan.specs.Scan.{is_within, is_escape, Class, hex, tail, second_of, tails_of, Kind, Due, between, text, escape, rest, nowhere, to, tail_move, text_move, escape_move, move_of}
+use Rattle.json_scan.specs.Scan.{is_within, is_escape, Class, hex, tails_of, Kind, Due, between, text, escape, rest, nowhere, to, tail_move, text_move, escape_move, move_of}
 use Rattle.json_scan.proofs.Bytes.{within, below, above}
-use Rattle.json_utf8.proofs.Leads.{second_first}
 use Rattle.json_plain.specs.WorkingPlain.{is_plain}
 
 -- ---- in a string
@@ -48,17 +46,11 @@ other due around c f q = rw (ne_eqb c 34 (λ e. omega (arith, e, f (omega (arith
     elsewhere : is_within 32 127 c ≡ false
     elsewhere = ⊎_elim (λ t. above 32 127 c (f (leb-true 32 c t))) (λ t. below 32 127 c (leb-false 32 c t)) (outcome (leb 32 c))
 
-pub text_lead :
-    (due : Due) (around : List Kind) (c : ℕ) → 127 < c → 0 < length (tails_of c) →
-    move_of (text due) around c ≡ to (rest (second_of c) (replicate (length (tails_of c) - 1) tail) (text due)) around
-text_lead due around c h l = other due around c (λ m. h) (λ e. omega (arith, h, e)) ∙ ap (λ (ks : List Class). tail_move ks (text due) around) (second_first c l)
+pub text_lead : (due : Due) (around : List Kind) (c : ℕ) {k : Class} {ks : List Class} → (32 ≤ c → 127 < c) → (c ≡ 92 → ⊥) → tails_of c ≡ k ∷ ks → move_of (text due) around c ≡ to (rest k ks (text due)) around
+text_lead due around c f q e = other due around c f q ∙ ap (λ (ks : List Class). tail_move ks (text due) around) e
 
-none : (ks : List Class) → length ks ≡ 0 → ks ≡ []
-none [] e = refl
-none (k ∷ ks) e = absurd (omega arith)
-
-pub text_wrong : (due : Due) (around : List Kind) (c : ℕ) → (32 ≤ c → 127 < c) → length (tails_of c) ≡ 0 → move_of (text due) around c ≡ nowhere
-text_wrong due around c f l = other due around c f (λ e. omega (arith, e, f (omega (arith, e)))) ∙ ap (λ (ks : List Class). tail_move ks (text due) around) (none (tails_of c) l)
+pub text_wrong : (due : Due) (around : List Kind) (c : ℕ) → (32 ≤ c → 127 < c) → (c ≡ 92 → ⊥) → tails_of c ≡ [] → move_of (text due) around c ≡ nowhere
+text_wrong due around c f q e = other due around c f q ∙ ap (λ (ks : List Class). tail_move ks (text due) around) e
 
 -- ---- behind a backslash
 

@@ -1,30 +1,32 @@
 -- Where a string ends, byte by byte at a place; and that it is read on from there.
-use mathlib.Core.Path.{◌≡◌, refl, sym, ap, subst⁻¹, ◌∙◌}
+use Rattle.std.specs.Prelude.{Ok, Err}
+use mathlib.Core.Path.{◌≡◌, refl, sym, ap, subst, subst⁻¹, ◌∙◌}
 use mathlib.Core.Bool.{Bool, true, false, cond}
 use mathlib.Core.List.{List, [], ◌∷◌}
 use mathlib.Core.Logic.{⊎_elim}
-use Prim.Native.Nat.{ℕ, zero, suc, ◌+◌, ◌-◌, ◌<◌, ◌≤◌}
+use Prim.Native.Nat.{ℕ, zero, suc, ◌+◌, ◌<◌, ◌≤◌}
 use native.Mathlib.Omega.{arith}
 use borrow.Author.Tests.{ltb-true, ltb-false}
 use lib.Dec.{eqb, ltb}
-use lib.ListN.{length, drop, get_or, replicate, drop_of_length-le}
+use lib.ListN.{length, drop, get_or, drop_of_length-le}
 use Rattle.bytes_number.proofs.Truth.{outcome}
-use Rattle.json_scan.specs.declared.Reached.{Reached}
-use Rattle.json_scan.specs.declared.Reached.TheVariants.{Behind, Stopped}
-use Rattle.json_scan.specs.Scan.{is_within, is_escape, Class, hex, tail, holds, second_of, tails_of, Kind, Due, behind, State, between, text, escape, rest, nowhere, to, text_move, escape_move, remaining, move_of, is_ended}
+use Rattle.json_scan.specs.WorkingEnds.{Reached}
+use Rattle.json_scan.specs.Scan.{is_within, is_escape, Class, hex, holds, tails_of, Kind, Due, behind, State, between, text, escape, rest, nowhere, to, text_move, escape_move, remaining, move_of, is_ended}
 use Rattle.json_scan.specs.WorkingEnds.{end_of, rest_end, followed}
 use Rattle.json_scan.specs.WorkingReads.{place_of, came, ReadsOn}
-use Rattle.json_scan.proofs.Scanning.{drop_at}
+use Rattle.json_scan.proofs.Scanning.{drop_at, inside as inside_bytes}
+use Rattle.json_utf8.specs.WorkingCharacters.{character_end}
+use Rattle.json_utf8.proofs.Leads.{no_lead_below}
 use Rattle.json_scan.proofs.Leading.{passes_to}
-use Rattle.json_scan.proofs.Reading.{Takes, ReadsText, reads_last, reads_more, reads_wrong, reads_over, takes_more}
+use Rattle.json_scan.proofs.Reading.{ReadsText, reads_last, reads_more, reads_wrong, reads_over}
 use Rattle.json_scan.proofs.Rest.{rest_more, rest_wrong, rest_over, rest_on, rest_off, rest_onward}
 use Rattle.json_plain.specs.WorkingPlain.{is_plain}
 use Rattle.json_string.specs.WorkingText.{is_between, text_on, text_from, text_end, Escaped}
-use Rattle.json_string.proofs.Steps.{text_plain, text_backslash, text_lead}
+use Rattle.json_string.proofs.Steps.{text_plain, text_backslash, text_lead, text_wrong}
 
 -- ---- one byte, from a place on
 
-pub from_over : (state : State) (bytes : List ℕ) (at : ℕ) → length bytes ≤ at → text_from state at (drop at bytes) ≡ Stopped at
+pub from_over : (state : State) (bytes : List ℕ) (at : ℕ) → length bytes ≤ at → text_from state at (drop at bytes) ≡ Err at
 unfolding text_from
 from_over state bytes at l = ap (text_from state at) (drop_of_length-le bytes l)
 
@@ -38,17 +40,17 @@ module _ (state : State) (bytes : List ℕ) (at : ℕ) (l : at < length bytes) w
 
   -- it leads on in the string
   pub from_on : (state₁ : State) → is_between state₁ ≡ false → move_of state [] (get_or bytes at 0) ≡ to state₁ [] → text_from state at (drop at bytes) ≡ text_from state₁ (at + 1) (drop (at + 1) bytes)
-  from_on state₁ within e = first ∙ ap (text_on at onward) e ∙ ap (λ (t : Bool). cond t (Behind (at + 1)) (onward state₁)) within
+  from_on state₁ within e = first ∙ ap (text_on at onward) e ∙ ap (λ (t : Bool). cond t (Ok (at + 1)) (onward state₁)) within
 
   -- it is the closing mark
-  pub from_closed : (due : Due) → move_of state [] (get_or bytes at 0) ≡ to (between due) [] → text_from state at (drop at bytes) ≡ Behind (at + 1)
+  pub from_closed : (due : Due) → move_of state [] (get_or bytes at 0) ≡ to (between due) [] → text_from state at (drop at bytes) ≡ Ok (at + 1)
   from_closed due e = first ∙ ap (text_on at onward) e
 
-  pub from_wrong : move_of state [] (get_or bytes at 0) ≡ nowhere → text_from state at (drop at bytes) ≡ Stopped at
+  pub from_wrong : move_of state [] (get_or bytes at 0) ≡ nowhere → text_from state at (drop at bytes) ≡ Err at
   from_wrong e = first ∙ ap (text_on at onward) e
 
 -- it leads nowhere, or there is none
-pub from_stuck : (state : State) (bytes : List ℕ) (at : ℕ) → (at < length bytes → move_of state [] (get_or bytes at 0) ≡ nowhere) → text_from state at (drop at bytes) ≡ Stopped at
+pub from_stuck : (state : State) (bytes : List ℕ) (at : ℕ) → (at < length bytes → move_of state [] (get_or bytes at 0) ≡ nowhere) → text_from state at (drop at bytes) ≡ Err at
 from_stuck state bytes at e =
     ⊎_elim (λ t. let l = ltb-true at (length bytes) t in from_wrong state bytes at l (e l)) (λ t. from_over state bytes at (ltb-false at (length bytes) t)) (outcome (ltb at (length bytes)))
 
@@ -95,34 +97,46 @@ module _ (bytes : List ℕ) where
 -- how far it came, and how the string goes on there
 pub record Goes (bytes : List ℕ) (at : ℕ) (r : Reached) : Type 0 where
   pub same : text_end at (drop at bytes) ≡ followed r (next bytes)
-  pub onward : at < place_of (came r)
+  pub onward : (j : ℕ) → r ≡ Ok j → (at < length bytes) × (at < j)
 
-module _ {bytes : List ℕ} {r : Reached} (at : ℕ) {n : ℕ} (is : n ≡ at + 1) (l : at < length bytes) where
-  pub text_escaped : get_or bytes at 0 ≡ 92 → Escaped bytes n r → Goes bytes at r
-  text_escaped mark e =
-      record {
-        same =
-            from_on (text behind) bytes at l (escape behind) refl (text_backslash behind [] _ mark)
-            ∙ ap (λ (j : ℕ). text_from (escape behind) j (drop j bytes)) (sym is)
-            ∙ e.same;
-        onward = omega (arith, is, e.onward);
-      }
+-- a place that lies in front of where it stops lies in front of where it comes to
+further : {at n : ℕ} (r : Reached) → at < n → n ≤ place_of (came r) → (j : ℕ) → r ≡ Ok j → at < j
+further {at} {n} r l m j e = let on : n ≤ j = subst (λ (x : Reached). n ≤ place_of (came x)) e m in omega (arith, l, on)
 
-  pub text_wide : (more : ℕ) → 127 < get_or bytes at 0 → length (tails_of (get_or bytes at 0)) ≡ more + 1 → r ≡ rest_end (second_of (get_or bytes at 0) ∷ replicate more tail) n (drop n bytes) → Goes bytes at r
-  text_wide more high tails e =
-      let lead = get_or bytes at 0 in
-      let ks = second_of lead ∷ replicate more tail in
-      let on : n ≤ place_of (came r) = subst⁻¹ (λ (x : Reached). n ≤ place_of (came x)) e (rest_onward bytes ks n) in
-      let so : length (tails_of lead) - 1 ≡ more = omega (arith, tails) in
-      record {
-        same =
-            from_on (text behind) bytes at l (rest (second_of lead) (replicate more tail) (text behind)) refl
-            (text_lead behind [] lead high (omega (arith, tails)) ∙ ap (λ (m : ℕ). to (rest (second_of lead) (replicate m tail) (text behind)) []) so)
-            ∙ ap (λ (j : ℕ). text_from (remaining ks (text behind)) j (drop j bytes)) (sym is)
-            ∙ text_rest bytes ks n
-            ∙ ap (λ (x : Reached). followed x (next bytes)) (sym e);
-        onward = omega (arith, is, on);
-      }
+pub text_escaped : {bytes : List ℕ} {r : Reached} (at : ℕ) → at < length bytes → get_or bytes at 0 ≡ 92 → Escaped bytes (at + 1) r → Goes bytes at r
+text_escaped {bytes} {r} at l mark e =
+    record {
+      same = from_on (text behind) bytes at l (escape behind) refl (text_backslash behind [] _ mark) ∙ e.same;
+      onward = λ j is. (l, further r (omega arith) e.onward j is);
+    }
+
+abbrev Stops : Reached → Type 0
+Stops (Ok i) = ⊥
+Stops (Err i) = Unit {0}
+
+-- a character of two bytes or more
+module _ (bytes : List ℕ) (at : ℕ) where
+  abbrev lead : ℕ
+  lead = get_or bytes at 0
+
+  abbrev tails : List ℕ
+  tails = drop (at + 1) bytes
+
+  -- a byte that is neither a mark, nor a backslash, nor stands for itself
+  module _ (f : 32 ≤ lead → 127 < lead) (q : lead ≡ 92 → ⊥) where
+    character_goes : (ks : List Class) → tails_of lead ≡ ks → Goes bytes at (character_end at ks tails)
+    character_goes [] e = record { same = from_stuck (text behind) bytes at (λ l. text_wrong behind [] lead f q e); onward = λ j e. absurd (subst Stops e tt) }
+    character_goes (k ∷ ks) e =
+        record {
+          same = from_on (text behind) bytes at there (rest k ks (text behind)) refl (text_lead behind [] lead f q e) ∙ text_rest bytes (k ∷ ks) (at + 1);
+          onward = λ j is. (there, further (rest_end (k ∷ ks) (at + 1) tails) (omega arith) (rest_onward bytes (k ∷ ks) (at + 1)) j is);
+        }
+      where
+        there : at < length bytes
+        there = inside_bytes bytes at (λ z. omega (arith, ap (λ (ks : List Class). length ks) e, no_lead_below lead (omega (arith, z))))
+
+    pub text_wide : {r : Reached} → r ≡ character_end at (tails_of lead) tails → Goes bytes at r
+    text_wide is = subst⁻¹ (Goes bytes at) is (character_goes (tails_of lead) refl)
 
 -- ---- it reads on
 
@@ -190,7 +204,7 @@ turn (broken k ks) c = turn_rest k ks c
 module _ (bytes : List ℕ) where
   -- from a place on, and so much was read
   abbrev Reads : Part → ℕ → Reached → Type 0
-  Reads p at r = ((due : Due) (room : ℕ) → ReadsOn bytes room at (state_of p due) (between due) (came r)) × Takes at (came r)
+  Reads p at r = (due : Due) (room : ℕ) → ReadsOn bytes room at (state_of p due) (between due) (came r)
 
   abbrev from : Part → ℕ → Reached
   from p at = text_from (state_of p behind) at (drop at bytes)
@@ -201,22 +215,19 @@ module _ (bytes : List ℕ) where
   at_byte : (p : Part) (at : ℕ) → at < length bytes → ((q : Part) → Reads q (at + 1) (from q (at + 1))) → Turn p (get_or bytes at 0) → Reads p at (from p at)
   at_byte p at l again (on q e) =
       by p at (from_on (state_of p behind) bytes at l (state_of q behind) (inside q behind) (e behind []))
-      (λ due room. reads_more (state_of q due) l (e due) ((again q).0 due room), takes_more (at + 1) (came (from q (at + 1))) (omega arith) (again q).1)
-  at_byte p at l again (closed e) = by p at (from_closed (state_of p behind) bytes at l behind (e behind [])) (λ due room. reads_last l (e due), omega arith)
-  at_byte p at l again (stuck e) = by p at (from_wrong (state_of p behind) bytes at l (e behind [])) (λ due room. reads_wrong l (e due), tt)
+      (λ due room. reads_more (state_of q due) l (e due) (again q due room))
+  at_byte p at l again (closed e) = by p at (from_closed (state_of p behind) bytes at l behind (e behind [])) (λ due room. reads_last l (e due))
+  at_byte p at l again (stuck e) = by p at (from_wrong (state_of p behind) bytes at l (e behind [])) (λ due room. reads_wrong l (e due))
 
   -- with at most so many bytes left
   reads : (n : ℕ) (p : Part) (at : ℕ) → length bytes ≤ at + n → Reads p at (from p at)
   reads zero p at few = let over : length bytes ≤ at = omega arith in
-      by p at (from_over (state_of p behind) bytes at over) (λ due room. reads_over over (going p due), tt)
+      by p at (from_over (state_of p behind) bytes at over) (λ due room. reads_over over (going p due))
   reads (suc n) p at few =
       ⊎_elim
       (λ t. at_byte p at (ltb-true at (length bytes) t) (λ q. reads n q (at + 1) (omega arith)) (turn p (get_or bytes at 0)))
-      (λ t. let over = ltb-false at (length bytes) t in by p at (from_over (state_of p behind) bytes at over) (λ due room. reads_over over (going p due), tt))
+      (λ t. let over = ltb-false at (length bytes) t in by p at (from_over (state_of p behind) bytes at over) (λ due room. reads_over over (going p due)))
       (outcome (ltb at (length bytes)))
 
   pub text_reads : (at : ℕ) → ReadsText bytes at text between (came (text_end at (drop at bytes)))
-  text_reads at = (reads (length bytes) whole at (omega arith)).0
-
-  pub text_takes : (at : ℕ) → Takes at (came (text_end at (drop at bytes)))
-  text_takes at = (reads (length bytes) whole at (omega arith)).1
+  text_reads at = reads (length bytes) whole at (omega arith)

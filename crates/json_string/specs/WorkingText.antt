@@ -1,7 +1,7 @@
 -- Where a string ends: behind the byte that leads out of it, or at the first that leads nowhere.
+use Rattle.std.specs.Prelude.{Ok, Err}
 use Rattle.std.specs.Prelude.{◌≡◌, Bool, true, false, cond, List, [], ◌∷◌, ℕ, ◌+◌, ◌≤◌, drop}
-use Rattle.json_scan.specs.declared.Reached.{Reached}
-use Rattle.json_scan.specs.declared.Reached.TheVariants.{Behind, Stopped}
+use Rattle.json_scan.specs.WorkingEnds.{Reached}
 use Rattle.json_scan.specs.Scan.{behind, State, between, number, text, escape, rest, ended, Move, nowhere, to, move_of}
 use Rattle.json_scan.specs.WorkingEnds.{followed}
 use Rattle.json_scan.specs.WorkingReads.{place_of, came}
@@ -17,12 +17,12 @@ is_between ended = false
 
 -- a byte leads nowhere, out of the string, or on in it
 abbrev pub text_on : ℕ → (State → Reached) → Move → Reached
-text_on at next nowhere = Stopped at
-text_on at next (to state around) = cond (is_between state) (Behind (at + 1)) (next state)
+text_on at next nowhere = Err at
+text_on at next (to state around) = cond (is_between state) (Ok (at + 1)) (next state)
 
 -- from a place on, in this state within a string
 unfoldable pub text_from : State → ℕ → List ℕ → Reached
-text_from state at [] = Stopped at
+text_from state at [] = Err at
 text_from state at (c ∷ cs) = text_on at (λ state₁. text_from state₁ (at + 1) cs) (move_of state [] c)
 
 -- what stands between the quotation marks, and the closing one. What is open around a string and due behind it does not matter.

@@ -5,13 +5,12 @@ use mathlib.Core.List.{List, [], ◌∷◌}
 use mathlib.Core.Logic.{⊎_elim}
 use Prim.Native.Nat.{ℕ, ◌-◌, ◌<◌, ◌≤◌}
 use native.Mathlib.Omega.{arith}
-use borrow.Author.Tests.{eqb-true}
+use borrow.Author.Tests.{ne_eqb}
 use lib.Dec.{eqb}
 use lib.ListN.{length, replicate}
 use Rattle.bytes_number.proofs.Truth.{outcome}
 use Rattle.json_scan.proofs.Bytes.{within, below, above}
 use Rattle.json_scan.specs.Scan.{is_within, Class, tail, tail_E0, tail_ED, tail_F0, tail_F4, holds, second_of, tails_of}
-use Rattle.json_utf8.specs.Working.{lowest_second, highest_second}
 
 pub two_bytes_lem : (c : ℕ) → 194 ≤ c → c ≤ 223 → length (tails_of c) ≡ 1
 unfolding tails_of
@@ -46,41 +45,37 @@ second_first c l = go (is_within 194 223 c) (is_within 224 239 c) (is_within 240
     go false false true l = refl
     go false false false l = absurd (omega arith)
 
--- a tail lies between 80 and BF, and the second byte between the two
-pub tail_within : (c : ℕ) → holds tail c ≡ is_within 128 191 c
-unfolding holds
-tail_within c = refl
+-- none come behind a byte that is no such first one
+pub no_tails : (ks : List Class) → length ks ≡ 0 → ks ≡ []
+no_tails [] e = refl
+no_tails (k ∷ ks) e = absurd (omega arith)
 
-abbrev Second : ℕ → ℕ → Type 0
-Second c lead = holds (second_of lead) c ≡ is_within (lowest_second lead) (highest_second lead) c
+-- what the second byte is, by a first one that has a class of its own, and by any other
+module _ (c lead : ℕ) where
+  abbrev Second : ℕ → ℕ → Type 0
+  Second l h = is_within l h c ≡ holds (second_of lead) c
 
-second_other : (c lead : ℕ) → eqb lead 224 ≡ false → eqb lead 237 ≡ false → eqb lead 240 ≡ false → eqb lead 244 ≡ false → Second c lead
-unfolding holds second_of lowest_second highest_second
-second_other c lead p q r s = rw (p, q, r, s) refl
+  pub second_E0 : lead ≡ 224 → Second 160 191
+  unfolding second_of holds
+  second_E0 e = ap (λ (x : ℕ). holds (second_of x) c) (sym e)
 
-second_within : (c lead : ℕ) → Second c lead
-unfolding holds second_of lowest_second highest_second
-second_within c lead =
-    by 224 refl
-    (λ p. by 237 refl
-    (λ q. by 240 refl
-    (λ r. by 244 refl
-    (λ s. second_other c lead p q r s))))
-  where
-    -- a first byte of its own, or not
-    by : (x : ℕ) → Second c x → (eqb lead x ≡ false → Second c lead) → Second c lead
-    by x here other = ⊎_elim (λ t. subst (Second c) (sym (eqb-true lead x t)) here) other (outcome (eqb lead x))
+  pub second_ED : lead ≡ 237 → Second 128 159
+  unfolding second_of holds
+  second_ED e = ap (λ (x : ℕ). holds (second_of x) c) (sym e)
 
--- the same of what a reader of it tested
-pub second_tested : (c lead : ℕ) {l h : ℕ} {r : Bool} → l ≡ lowest_second lead → h ≡ highest_second lead → r ≡ is_within l h c → holds (second_of lead) c ≡ r
-second_tested c lead {l} {h} p q e =
-    second_within c lead ∙ ap (λ (x : ℕ). is_within x (highest_second lead) c) (sym p) ∙ ap (λ (x : ℕ). is_within l x c) (sym q) ∙ sym e
+  pub second_F0 : lead ≡ 240 → Second 144 191
+  unfolding second_of holds
+  second_F0 e = ap (λ (x : ℕ). holds (second_of x) c) (sym e)
 
--- a zero is neither
-pub tail_no_zero : holds tail 0 ≡ false
-unfolding holds is_within
-tail_no_zero = refl
+  pub second_F4 : lead ≡ 244 → Second 128 143
+  unfolding second_of holds
+  second_F4 e = ap (λ (x : ℕ). holds (second_of x) c) (sym e)
 
+  pub second_other : (lead ≡ 224 → ⊥) → (lead ≡ 237 → ⊥) → (lead ≡ 240 → ⊥) → (lead ≡ 244 → ⊥) → holds tail c ≡ holds (second_of lead) c
+  unfolding second_of
+  second_other p q r s = rw (ne_eqb lead 224 p, ne_eqb lead 237 q, ne_eqb lead 240 r, ne_eqb lead 244 s) refl
+
+-- a zero is none
 pub second_no_zero : (lead : ℕ) → holds (second_of lead) 0 ≡ false
 unfolding second_of holds is_within
 second_no_zero lead = go (eqb lead 224) (eqb lead 237) (eqb lead 240) (eqb lead 244)

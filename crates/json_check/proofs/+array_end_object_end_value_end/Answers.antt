@@ -1,9 +1,11 @@
 -- A value, and what stands in an object or an array: item by item from the opening byte to the closing one.
+use Rattle.std.specs.Prelude.{Result, Ok, Err}
 use Rattle.std.proofs.Common.{◌≡◌, ◌∙◌, refl, sym, ap, ℕ, ◌+◌, ◌-◌, ◌<◌, List, drop, arith}
 use Rattle.json_scan.specs.declared.Token.{Token}
 use Rattle.json_scan.specs.Scan.{is_white, in_object, in_array, name, value, behind, between, text}
 use Rattle.json_scan.specs.WorkingEnds.{token_at, settled_as, place_left}
-use Rattle.json_scan.specs.WorkingReads.{Came, Stopped, came, value_by, ReadsOn}
+use Rattle.json_scan.specs.WorkingReads.{Came, came, value_by, ReadsOn}
+use Rattle.json_scan.specs.declared.Fault.TheVariants.{NotJson, TooDeep}
 use Rattle.json_scan.proofs.Scanning.{inside}
 use Rattle.json_scan.proofs.Reading.{takes_more, reads_more, reads_then}
 use Rattle.json_scan.proofs.Settled.{value_deeper, reads_value}
@@ -95,7 +97,7 @@ object_end-loop-at-init t c = inside_first _ in_object (token_told _ _ c.token_a
 pub object_end-returns-then-v-eq0 : goal.object_end-returns-then-v-eq0
 object_end-returns-then-v-eq0 t c =
     opened_stop (omega arith) _ _ _ refl refl
-    (inside_failed (Stopped _) tt c.loop-at.invariant (name_stops _ _ _ _ _ (c.name_end-v.ensures.told, c.name_end-v.ensures.stops) (omega arith) (c.args.room - 1)))
+    (inside_failed (Err (NotJson _)) tt c.loop-at.invariant (name_stops _ _ _ _ _ (c.name_end-v.ensures.told, c.name_end-v.ensures.stops) (omega arith) (c.args.room - 1)))
 
 pub object_end-value_end-end-requires : goal.object_end-value_end-end-requires
 object_end-value_end-end-requires t c =

@@ -1,6 +1,6 @@
 -- The digits behind e and its sign end the number, if there is one.
+use Rattle.std.specs.Prelude.{Result, Ok, Err}
 use Rattle.std.proofs.Common.{◌≡◌, ◌∙◌, sym, ap, [], arith}
-use Rattle.json_scan.specs.declared.Reached.TheVariants.{Behind}
 use Rattle.json_scan.specs.Scan.{is_digit, sign, power}
 use Rattle.json_scan.specs.WorkingEnds.{end_of}
 use Rattle.json_number.proofs.Steps.{sign_digit, sign_wrong, power_digit, power_over}
@@ -19,5 +19,5 @@ returns c =
     let bytes = c.args.bytes.now in
     let at = c.args.at in
     let end : c.digits_end-end.result ≡ end_of is_digit bytes at = c.digits_end-end.ensures in
-    ap Behind end
+    ap Ok end
     ∙ sym (digits_some bytes at sign power sign_digit power_digit (λ e. omega (arith, end, e)) ∙ number-stands power bytes (end_of is_digit bytes at) (λ l. power_over [] _ (behind_digits bytes at l)))

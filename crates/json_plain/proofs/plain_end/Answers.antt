@@ -1,5 +1,5 @@
 -- A word with no mark is passed, and the lowest mark is where it ends; so it is with the bytes behind the words.
-use Rattle.std.proofs.Common.{◌≡◌, ◌+◌, sym, ◌∙◌, arith}
+use Rattle.std.proofs.Common.{◌≡◌, ◌+◌, sym, ◌∙◌, rules, arith}
 use Rattle.bytes_number.proofs.Numbers.{bytes_of_lem}
 use Rattle.json_scan.specs.WorkingEnds.{end_of}
 use Rattle.json_scan.proofs.Leading.{end_more, end_here, end_over}
@@ -32,13 +32,5 @@ pub loop-i-preserved : goal.loop-i-preserved
 loop-i-preserved c = let s = (goal.at.loop-i-preserved c).After-marks-next in
     c.loop-i.invariant ∙ first_passed s ∙ (second s).passes (omega (arith, c.if-next-ne0.false))
 
-pub loop-i-2-preserved : goal.loop-i-2-preserved
-loop-i-2-preserved c =
-    c.loop-i-2.invariant ∙ end_more is_plain c.args.bytes.now c.loop-i-2.i (omega arith) (sym c.is_plain.ensures ∙ c.if-not-is_plain.false)
-
-pub returns-after-loop-i-2 : goal.returns-after-loop-i-2
-returns-after-loop-i-2 c = sym (c.loop-i-2.invariant ∙ end_over is_plain c.args.bytes.now c.loop-i-2.i (omega arith))
-
-pub returns-then-not-is_plain : goal.returns-then-not-is_plain
-returns-then-not-is_plain c =
-    sym (c.loop-i-2.invariant ∙ end_here is_plain c.args.bytes.now c.loop-i-2.i (omega arith) (sym c.is_plain.ensures ∙ c.if-not-is_plain.true))
+pub returns : goal.returns
+returns c = search rules

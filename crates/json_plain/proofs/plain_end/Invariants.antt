@@ -8,9 +8,3 @@ invariant-loop-i l = end_of is_plain l.bytes l.at ≡ end_of is_plain l.bytes l.
 
 abbrev pub decreases-loop-i : goal.decreases-loop-i
 decreases-loop-i l = length l.bytes - l.i
-
-abbrev pub invariant-loop-i-2 : goal.invariant-loop-i-2
-invariant-loop-i-2 l = end_of is_plain l.bytes l.at ≡ end_of is_plain l.bytes l.i
-
-abbrev pub decreases-loop-i-2 : goal.decreases-loop-i-2
-decreases-loop-i-2 l = length l.bytes - l.i

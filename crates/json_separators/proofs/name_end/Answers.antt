@@ -1,6 +1,6 @@
 -- A name's mark, its text and its colon, each where the one before it ends.
+use Rattle.std.specs.Prelude.{Result, Ok, Err}
 use Rattle.std.proofs.Common.{◌≡◌, ◌∙◌, refl, ℕ, ◌+◌, ◌<◌, List, drop, arith}
-use Rattle.json_scan.specs.declared.Reached.TheVariants.{Stopped}
 use Rattle.json_scan.specs.declared.Token.{Token}
 use Rattle.json_scan.specs.WorkingEnds.{token_at, settled_as, place_left}
 use Rattle.json_scan.specs.WorkingReads.{came}
@@ -18,7 +18,7 @@ module _
     (bytes : List ℕ) (at : ℕ) {t : Token} (first : t ≡ token_at bytes at) (mark : t.byte ≡ 34) (r before after : ℕ)
     (told : r ≡ settled_as (text_end (t.at + 1) (drop (t.at + 1) bytes))) (stops : after ≡ place_left (text_end (t.at + 1) (drop (t.at + 1) bytes)) before)
   where
-    stopped : r ≡ 0 → name_end bytes at ≡ Stopped after
+    stopped : r ≡ 0 → name_end bytes at ≡ Err after
     stopped z =
         let from = t.at + 1 in
         name_marked bytes at (mark_stands 34 bytes at first mark)

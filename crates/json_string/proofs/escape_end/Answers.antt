@@ -1,7 +1,7 @@
 -- An escape of one byte, or four hex digits behind u.
 use Rattle.std.proofs.Common.{◌≡◌, ◌+◌, ◌≤◌, [], ◌∷◌, drop, replicate, refl, sym, ap, ◌∙◌, arith}
 use mathlib.Core.Path.{subst⁻¹}
-use Rattle.json_scan.specs.declared.Reached.{Reached}
+use Rattle.json_scan.specs.WorkingEnds.{Reached}
 use Rattle.json_scan.specs.Scan.{hex, behind, text, escape, rest}
 use Rattle.json_scan.specs.WorkingEnds.{followed, rest_end}
 use Rattle.json_scan.specs.WorkingReads.{place_of, came}
@@ -22,8 +22,8 @@ pub returns-then-c-eq117 : goal.returns-then-c-eq117
 returns-then-c-eq117 c =
     let bytes = c.args.bytes.now in
     let at = c.args.at in
-    let told : c.hex_end.result ≡ rest_end (replicate 4 hex) (at + 1) (drop (at + 1) bytes) = c.hex_end.ensures in
-    let on : at + 1 ≤ place_of (came c.hex_end.result) = subst⁻¹ (λ (r : Reached). at + 1 ≤ place_of (came r)) told (rest_onward bytes (replicate 4 hex) (at + 1)) in
+    let told : c.run_end.result ≡ rest_end (replicate 4 hex) (at + 1) (drop (at + 1) bytes) = c.run_end.ensures hex (λ x b e. e) in
+    let on : at + 1 ≤ place_of (came c.run_end.result) = subst⁻¹ (λ (r : Reached). at + 1 ≤ place_of (came r)) told (rest_onward bytes (replicate 4 hex) (at + 1)) in
     record {
       same =
           from_on (escape behind) bytes at (omega arith) (rest hex (hex ∷ hex ∷ hex ∷ []) (text behind)) refl (escape_u behind [] _ (omega arith))
