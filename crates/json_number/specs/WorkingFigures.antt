@@ -1,5 +1,5 @@
 -- Where a number ends: at the first byte that leads to no further figure of it.
-use Rattle.std.specs.Prelude.{Result, Ok, Err}
+use Rattle.std.specs.Prelude.{Ok, Err}
 use Rattle.std.specs.Prelude.{Bool, true, false, cond, List, [], ◌∷◌, ℕ, ◌+◌}
 use Rattle.json_scan.specs.WorkingEnds.{Reached}
 use Rattle.json_scan.specs.Scan.{is_e, Figure, minus, leading_zero, whole, point, fraction, exponent, sign, power, between, number, text, escape, rest, ended, Move, nowhere, to, move_of}

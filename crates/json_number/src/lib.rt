@@ -6,7 +6,7 @@ ghost use Rattle.json_scan.specs.Scan.{is_digit, is_e, is_sign, minus, leading_z
 ghost use Rattle.json_scan.specs.WorkingEnds.{end_of};
 ghost use Rattle.json_number.specs.WorkingFigures.{number_end, scale_end};
 
-use json_scan::{Reached, digits_end, is_digit};
+use json_scan::{digits_end, is_digit};
 
 fn is_e(c: u8) -> bool
     ensures { result ≡ is_e c }
@@ -21,22 +21,22 @@ fn is_sign(c: u8) -> bool
 }
 
 // Digits, at least one.
-fn power_end(bytes: &[u8], at: usize) -> Reached
+fn power_end(bytes: &[u8], at: usize) -> Result<usize, usize>
     ensures { result ≡ number_end sign at (drop at bytes.now) }
 {
     let end = digits_end(bytes, at);
     if end == at {
-        return Reached::Stopped(at);
+        return Err(at);
     }
-    Reached::Behind(end)
+    Ok(end)
 }
 
 // The exponent behind its e.
-fn exponent_end(bytes: &[u8], at: usize) -> Reached
+fn exponent_end(bytes: &[u8], at: usize) -> Result<usize, usize>
     ensures { result ≡ number_end exponent at (drop at bytes.now) }
 {
     if at >= bytes.len() {
-        return Reached::Stopped(at);
+        return Err(at);
     }
     if is_sign(bytes[at]) {
         return power_end(bytes, at + 1);
@@ -45,24 +45,24 @@ fn exponent_end(bytes: &[u8], at: usize) -> Reached
 }
 
 // Behind int, or behind int and frac: an exponent, or the number's end.
-fn scale_end(bytes: &[u8], at: usize) -> Reached
+fn scale_end(bytes: &[u8], at: usize) -> Result<usize, usize>
     ensures { result ≡ scale_end at (drop at bytes.now) }
 {
     if at >= bytes.len() {
-        return Reached::Behind(at);
+        return Ok(at);
     }
     if is_e(bytes[at]) {
         return exponent_end(bytes, at + 1);
     }
-    Reached::Behind(at)
+    Ok(at)
 }
 
 // Behind int: a fraction or none, and an exponent or none.
-fn fraction_end(bytes: &[u8], at: usize) -> Reached
+fn fraction_end(bytes: &[u8], at: usize) -> Result<usize, usize>
     ensures { result ≡ number_end leading_zero at (drop at bytes.now) }
 {
     if at >= bytes.len() {
-        return Reached::Behind(at);
+        return Ok(at);
     }
     if bytes[at] != b'.' {
         return scale_end(bytes, at);
@@ -70,7 +70,7 @@ fn fraction_end(bytes: &[u8], at: usize) -> Reached
     let from = at + 1;
     let end = digits_end(bytes, from);
     if end == from {
-        return Reached::Stopped(from);
+        return Err(from);
     }
     scale_end(bytes, end)
 }
@@ -87,15 +87,15 @@ fn int_end(bytes: &[u8], at: usize, first: u8) -> usize
 }
 
 // A number behind its minus, or one that has none.
-pub fn number_end(bytes: &[u8], at: usize) -> Reached
+pub fn number_end(bytes: &[u8], at: usize) -> Result<usize, usize>
     ensures { result ≡ number_end minus at (drop at bytes.now) }
 {
     if at >= bytes.len() {
-        return Reached::Stopped(at);
+        return Err(at);
     }
     let c = bytes[at];
     if !is_digit(c) {
-        return Reached::Stopped(at);
+        return Err(at);
     }
     fraction_end(bytes, int_end(bytes, at, c))
 }

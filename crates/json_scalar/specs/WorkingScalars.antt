@@ -1,5 +1,5 @@
 -- Where a number or a literal name ends, from its first byte on.
-use Rattle.std.specs.Prelude.{Result, Ok, Err}
+use Rattle.std.specs.Prelude.{Err}
 use Rattle.std.specs.Prelude.{List, [], ◌∷◌, ℕ, ◌+◌}
 use Rattle.json_scan.specs.WorkingEnds.{Reached}
 use Rattle.json_scan.specs.Scan.{Class, exactly, between, number, text, escape, rest, ended, Move, nowhere, to, value_step}

@@ -27,7 +27,7 @@ pub fn is_digit(c: u8) -> bool
 }
 
 // The bytes from `at` on; none behind the end.
-fn rest_of(bytes: &[u8], at: usize) -> &[u8]
+pub fn rest_of(bytes: &[u8], at: usize) -> &[u8]
     ensures { result.now ≡ drop at bytes.now }
 {
     bytes.get(at..).unwrap_or(&[])

@@ -1,5 +1,5 @@
 -- The digits behind e and its sign end the number, if there is one.
-use Rattle.std.specs.Prelude.{Result, Ok, Err}
+use Rattle.std.specs.Prelude.{Ok}
 use Rattle.std.proofs.Common.{◌≡◌, ◌∙◌, sym, ap, [], arith}
 use Rattle.json_scan.specs.Scan.{is_digit, sign, power}
 use Rattle.json_scan.specs.WorkingEnds.{end_of}

@@ -1,30 +1,23 @@
--- Byte by byte the word is passed, or the reading stops.
-use Rattle.std.proofs.Common.{ℕ, ◌+◌, ◌<◌, ◌≤◌, List, ◌∷◌, length, drop, get_or, ap, subst, arith}
-use lib.ListN.{drop_of_length-le}
-use Rattle.json_scan.specs.Scan.{Class, exactly}
-use Rattle.json_scan.proofs.Scanning.{drop_at}
-use Rattle.json_scan.proofs.Rest.{Passed, passed_more, passed_wrong, passed_over, passed_all}
-use Rattle.json_scalar.specs.WorkingScalars.{spelling}
-use Rattle.json_scalar.proofs.Steps.{is_exactly, not_exactly}
+-- As many bytes are taken as are the word's from its front on: all of them, or the next one is another.
+use Rattle.std.proofs.Common.{◌≡◌, ◌∙◌, rules, drop, arith}
+use Rattle.std.proofs.lemmas.Iterator.{YieldsList-from_slice, YieldsList-from_zip}
+use Rattle.std.proofs.lemmas.Iterator.Consumers.{count_from_yields_List}
+use Rattle.std.proofs.lemmas.Iterator.Search.{YieldsList-from_take_while}
+use Rattle.std.proofs.lemmas.List.Folds.{length-prefix_len}
+use Rattle.std.specs.List.{prefix_len, zip}
+use Rattle.json_scalar.proofs.Steps.{same, spelled, broken}
 use Rattle.json_scalar.proofs.literal_end.Goals as goal
+use Rattle.json_scalar.proofs.literal_end.Goals.{After-count-passed}
 
--- in the loop a byte of the word is left
-left :
-    {bytes : List ℕ} {at i : ℕ} (word : List ℕ) (j : ℕ) → Passed bytes at (spelling word) i (spelling (drop j word)) → j < length word →
-    Passed bytes at (spelling word) i (exactly (get_or word j 0) ∷ spelling (drop (j + 1) word))
-left {bytes} {at} {i} word j passed l = subst (λ (ks : List Class). Passed bytes at (spelling word) i ks) (ap spelling (drop_at word j l)) passed
+counted : (c : After-count-passed) → c.count-passed.result ≡ prefix_len same (zip (drop c.args.at c.args.bytes.now) c.args.word.now)
+counted c =
+    let pairs = zip (drop c.args.at c.args.bytes.now) c.args.word.now in
+    count_from_yields_List c.take_while.result _ c.count-passed.ensures.ran
+    (YieldsList-from_take_while _ same (YieldsList-from_zip (YieldsList-from_slice (drop c.args.at c.args.bytes.now) cc) (YieldsList-from_slice c.args.word.now cc)) c.take_while.ensures.closure c.take_while.ensures.done (λ x b q k. search rules))
+    ∙ length-prefix_len same pairs
 
-pub returns-then-i-bytes : goal.returns-then-i-bytes
-returns-then-i-bytes c = passed_over (left c.args.word.now c.loop-j.j c.loop-j.invariant (omega arith)) (omega arith)
+pub returns-then-passed-word : goal.returns-then-passed-word
+returns-then-passed-word c = spelled c.args.word.now c.args.at (drop c.args.at c.args.bytes.now) (counted (goal.at.returns-then-passed-word c).After-count-passed) (omega arith)
 
-pub returns-then-bytes-i : goal.returns-then-bytes-i
-returns-then-bytes-i c = passed_wrong (left c.args.word.now c.loop-j.j c.loop-j.invariant (omega arith)) (omega arith) (not_exactly _ _ c.if-bytes-i.true)
-
-pub loop-j-preserved : goal.loop-j-preserved
-loop-j-preserved c = passed_more (left c.args.word.now c.loop-j.j c.loop-j.invariant (omega arith)) (omega arith) (is_exactly _ _ c.if-bytes-i.false)
-
-pub returns : goal.returns
-returns c =
-    let word = c.args.word.now in
-    let over : length word ≤ c.loop-j.j = omega arith in
-    passed_all (subst (λ (ks : List Class). Passed c.args.bytes.now c.args.at (spelling word) c.loop-j.i ks) (ap spelling (drop_of_length-le word over)) c.loop-j.invariant) (omega arith)
+pub returns-else-passed-word : goal.returns-else-passed-word
+returns-else-passed-word c = broken c.args.word.now c.args.at (drop c.args.at c.args.bytes.now) (counted (goal.at.returns-else-passed-word c).After-count-passed) (λ e. omega (arith, e))
