@@ -11,16 +11,16 @@ use lib.Dec.{eqb}
 use Rattle.bytes_number.proofs.Truth.{outcome}
 use lib.ListN.{length, drop, get_or}
 use Rattle.json_scan.specs.Scan.{Verdict}
+use Rattle.json_scan.specs.declared.Fault.{Fault}
 use Rattle.json_scan.specs.declared.Fault.TheVariants.{NotJson, TooDeep}
 use Rattle.json_scan.specs.declared.Token.{Token}
 use Rattle.json_scan.specs.Scan.{is_white, Kind, in_object, in_array, first_name, first_value, name, value, behind, State, between, text, to, value_step, behind_step, token_move, between_move, move_of, go_on, scan}
-use Rattle.json_scan.specs.WorkingReads.{Came, resumed, value_by, ReadsOn}
+use Rattle.json_scan.specs.WorkingReads.{Came, resumed, ReadsOn}
 use Rattle.json_scan.proofs.Scanning.{scan_at, go_on_lem, go_deeper}
-use Rattle.json_scan.proofs.Reading.{Fails, scan_alike}
-use Rattle.json_scan.proofs.Settled.{value_place, value_stop, value_deeper}
+use Rattle.json_scan.proofs.Reading.{scan_alike}
 use Rattle.json_scan.proofs.White.{TokenAt, token_begins, scan_white, token_further, token_there, token_dark, scan_on}
 use Rattle.json_separators.specs.declared.Next.{Next}
-use Rattle.json_separators.specs.declared.Next.TheVariants.{More, Closed, Neither}
+use Rattle.json_separators.specs.declared.Next.TheVariants.{More, Closed}
 use Rattle.json_separators.specs.WorkingSeparators.{next_of}
 use Rattle.json_separators.proofs.Steps.{closing, again, no_zero_closes}
 use Rattle.json_separators.proofs.Nexts.{next_told}
@@ -108,23 +108,21 @@ module _ {bytes : List ℕ} {room at : ℕ} {kind : Kind} where
   inside_held inside one = record { same = λ around. inside.same around ∙ one.same (kind ∷ around); onward = omega (arith, inside.onward, one.onward) }
 
   -- it was not
-  pub inside_failed : {i : ℕ} (r : Came) → Fails r → Inside bytes room at kind i → ReadsOn bytes room i (between (again kind)) (between behind) r → Nests bytes room at kind r
-  inside_failed (Ok j) fails inside one = absurd fails
-  inside_failed (Err (NotJson j)) fails inside one = record { same = λ around. inside.same around ∙ one.same (kind ∷ around); onward = omega (arith, inside.onward, one.onward) }
-  inside_failed (Err (TooDeep j)) fails inside one = record { same = λ around. inside.same around ∙ one.same (kind ∷ around); onward = omega (arith, inside.onward, one.onward) }
+  pub inside_failed : {i : ℕ} {fault : Fault} → Inside bytes room at kind i → ReadsOn bytes room i (between (again kind)) (between behind) (Err fault) → Nests bytes room at kind (Err fault)
+  inside_failed inside one = record { same = λ around. inside.same around ∙ one.same (kind ∷ around); onward = omega (arith, inside.onward, one.onward) }
 
   -- what stands behind it
-  pub held_more : {j k : ℕ} {r : Next} → r ≡ More k → Held bytes room at kind j → r ≡ next_of (closing kind) bytes j → Inside bytes room at kind k
+  pub held_more : {j k : ℕ} {r : Result Next ℕ} → r ≡ Ok (More k) → Held bytes room at kind j → r ≡ next_of (closing kind) bytes j → Inside bytes room at kind k
   held_more {j} e held told =
       let m = next_told (closing kind) bytes j told e in
       record { same = λ around. held.same around ∙ m.same kind refl room around; onward = omega (arith, held.onward, m.further.0) }
 
-  pub held_closed : {j k : ℕ} {r : Next} → r ≡ Closed k → Held bytes room at kind j → r ≡ next_of (closing kind) bytes j → Nests bytes room at kind (Ok k)
+  pub held_closed : {j k : ℕ} {r : Result Next ℕ} → r ≡ Ok (Closed k) → Held bytes room at kind j → r ≡ next_of (closing kind) bytes j → Nests bytes room at kind (Ok k)
   held_closed {j} e held told =
       let m = next_told (closing kind) bytes j told e in
       record { same = λ around. held.same around ∙ m.same kind refl room around; onward = omega (arith, held.onward, m.further) }
 
-  pub held_neither : {j k : ℕ} {r : Next} → r ≡ Neither k → Held bytes room at kind j → r ≡ next_of (closing kind) bytes j → Nests bytes room at kind (Err (NotJson k))
+  pub held_neither : {j k : ℕ} {r : Result Next ℕ} → r ≡ Err k → Held bytes room at kind j → r ≡ next_of (closing kind) bytes j → Nests bytes room at kind (Err (NotJson k))
   held_neither {j} e held told =
       let m = next_told (closing kind) bytes j told e in
       record { same = λ around. held.same around ∙ m.same kind refl room around; onward = omega (arith, held.onward, m.further) }
@@ -164,27 +162,9 @@ module _ {bytes : List ℕ} (kind : Kind) (room at : ℕ) (l : at < length bytes
       (outcome (eqb room 0))
 
 -- a comma lies further on, and within the bytes; a closing byte lies behind something
-module _ (close : ℕ) (bytes : List ℕ) (j : ℕ) {k : ℕ} {r : Next} (told : r ≡ next_of close bytes j) where
-  pub more_further : r ≡ More k → (j < k) × (k ≤ length bytes)
+module _ (close : ℕ) (bytes : List ℕ) (j : ℕ) {k : ℕ} {r : Result Next ℕ} (told : r ≡ next_of close bytes j) where
+  pub more_further : r ≡ Ok (More k) → (j < k) × (k ≤ length bytes)
   more_further e = (next_told close bytes j told e).further
 
-  pub closed_further : r ≡ Closed k → j < k
+  pub closed_further : r ≡ Ok (Closed k) → j < k
   closed_further e = (next_told close bytes j told e).further
-
--- ---- the same with numbers for how far it came
-
--- 0 and 1 are no places
-pub value_fails : (r place : ℕ) → r < 2 → Fails (value_by r place)
-value_fails r place l = ⊎_elim (λ t. subst Fails (sym (value_stop r place (eqb-true r 0 t))) tt) (λ t. subst Fails (sym (value_deeper r place (omega (arith, l, eqb-false r 0 t)))) tt) (outcome (eqb r 0))
-
-module _ {bytes : List ℕ} {room at : ℕ} {state next : State} where
-  pub reads_as_placed : (i place : ℕ) → 1 < i → ReadsOn bytes room at state next (value_by i place) → ReadsOn bytes room at state next (Ok i)
-  reads_as_placed i place l = subst (ReadsOn bytes room at state next) (value_place i place l)
-
--- an object or an array that was read to its end, or that stopped
-module _ {bytes : List ℕ} {room at : ℕ} {kind : Kind} (some : 0 < room) where
-  pub opened_place : (i place : ℕ) → 1 < i → Nests bytes (room - 1) (at + 1) kind (Ok i) → Opened bytes room at kind (value_by i place)
-  opened_place i place l nests = opened_nest some (subst (Nests bytes (room - 1) (at + 1) kind) (sym (value_place i place l)) nests)
-
-  pub opened_stop : (r place i : ℕ) → r ≡ 0 → place ≡ i → Nests bytes (room - 1) (at + 1) kind (Err (NotJson i)) → Opened bytes room at kind (value_by r place)
-  opened_stop r place i e is nests = opened_nest some (subst (Nests bytes (room - 1) (at + 1) kind) (ap Err (NotJson (sym is)) ∙ sym (value_stop r place e)) nests)

@@ -15,11 +15,10 @@ use Rattle.json_scan.specs.declared.Token.{Token}
 use Rattle.json_scan.specs.Scan.{is_white, Kind, Due, name, colon, value, State, between, text, nowhere, to, move_of}
 use Rattle.json_scan.specs.WorkingEnds.{token_at, followed}
 use Rattle.json_scan.specs.WorkingReads.{came, ReadsOn}
-use Rattle.json_scan.proofs.Reading.{Takes, ReadsToken, reads_none, reads_followed, takes_followed, takes_more}
-use Rattle.json_scan.proofs.Settled.{Told, settled_place, reads_place, reads_stop}
+use Rattle.json_scan.proofs.Reading.{ReadsToken, reads_none, reads_followed}
 use Rattle.json_scan.proofs.White.{token_told, token_further, token_on, token_stuck}
 use Rattle.json_string.specs.WorkingText.{text_end}
-use Rattle.json_string.proofs.Texts.{text_reads, text_takes}
+use Rattle.json_string.proofs.Texts.{text_reads}
 use Rattle.json_separators.specs.WorkingSeparators.{mark_end, name_end}
 use Rattle.json_separators.proofs.Steps.{name_begins, no_name, colon_stands, no_colon}
 
@@ -39,13 +38,6 @@ module _ (mark : ℕ) (bytes : List ℕ) (at : ℕ) {t : Token} (b : t ≡ token
 module _ (mark : ℕ) (bytes : List ℕ) (at : ℕ) where
   abbrev there : Token
   there = token_at bytes at
-
-  mark_takes : Takes at (came (mark_end mark bytes at))
-  mark_takes =
-      ⊎_elim
-      (λ t. subst⁻¹ (λ (r : Reached). Takes at (came r)) (mark_stands mark bytes at refl (eqb-true there.byte mark t)) (omega (arith, token_further (token_told bytes at refl))))
-      (λ t. subst⁻¹ (λ (r : Reached). Takes at (came r)) (mark_missing mark bytes at refl (eqb-false there.byte mark t)) tt)
-      (outcome (eqb there.byte mark))
 
   -- if it is what is due, and not the byte behind the end
   mark_reads :
@@ -71,13 +63,13 @@ module _ (bytes : List ℕ) (at : ℕ) where
   behind_mark i = followed (text_end i (drop i bytes)) behind_text
 
   -- how it ends, by how its mark and its text do
-  pub name_unmarked : {i : ℕ} → mark_end 34 bytes at ≡ Err i → name_end bytes at ≡ Err i
+  pub name_unmarked : {i : ℕ} → Err i ≡ mark_end 34 bytes at → name_end bytes at ≡ Err i
   unfolding name_end
-  name_unmarked e = ap (λ (r : Reached). followed r behind_mark) e
+  name_unmarked e = ap (λ (r : Reached). followed r behind_mark) (sym e)
 
-  pub name_marked : {i : ℕ} {r : Reached} → mark_end 34 bytes at ≡ Ok i → text_end i (drop i bytes) ≡ r → name_end bytes at ≡ followed r behind_text
+  pub name_marked : {i : ℕ} {r : Reached} → Ok i ≡ mark_end 34 bytes at → r ≡ text_end i (drop i bytes) → name_end bytes at ≡ followed r behind_text
   unfolding name_end
-  name_marked e f = ap (λ (r : Reached). followed r behind_mark) e ∙ ap (λ (r : Reached). followed r behind_text) f
+  name_marked e f = ap (λ (r : Reached). followed r behind_mark) (sym e) ∙ ap (λ (r : Reached). followed r behind_text) (sym f)
 
   -- it is read on from there
   pub name_reads : ReadsToken bytes at (between name) (between value) (came (name_end bytes at))
@@ -86,25 +78,3 @@ module _ (bytes : List ℕ) (at : ℕ) where
       reads_followed (mark_end 34 bytes at) behind_mark (mark_reads 34 bytes at name (text colon) (λ z. omega (arith, z)) name_begins no_name room)
       (λ i e. reads_followed (text_end i (drop i bytes)) behind_text (text_reads bytes i colon room)
       (λ j f. mark_reads 58 bytes j colon (between value) (λ z. omega (arith, z)) colon_stands no_colon room))
-
-  pub name_takes : Takes (at + 1) (came (name_end bytes at))
-  unfolding name_end
-  name_takes =
-      takes_followed (at + 1) (mark_end 34 bytes at) behind_mark
-      (λ i e. let one : at < i = subst (λ (r : Reached). Takes at (came r)) e (mark_takes 34 bytes at) in
-      takes_followed (at + 1) (text_end i (drop i bytes)) behind_text
-      (λ j f. let two : i < j = subst (λ (r : Reached). Takes i (came r)) f (text_takes bytes i) in
-      takes_more j (came (behind_text j)) (omega arith) (mark_takes 58 bytes j)))
-
--- ---- as it is told
-
-module _ (bytes : List ℕ) (at r before after : ℕ) (t : Told (name_end bytes at) r before after) where
-  pub name_stops : {next : State} → r ≡ 0 → ReadsToken bytes at (between name) next (came (Err after))
-  name_stops z room = reads_stop (name_end bytes at) r before after (takes_more (at + 1) (came (name_end bytes at)) (omega arith) (name_takes bytes at)) t z (name_reads bytes at room)
-
-  pub name_placed : 0 < r → ReadsToken bytes at (between name) (between value) (came (Ok r))
-  name_placed l room = reads_place (name_end bytes at) r before after t l (name_reads bytes at room)
-
-  -- behind two bytes at least
-  pub name_further : 0 < r → at + 1 < r
-  name_further l = subst (λ (x : Reached). Takes (at + 1) (came x)) (settled_place (name_end bytes at) r before after t l).0 (name_takes bytes at)
