@@ -1,6 +1,6 @@
 -- Objects and arrays, from the opening byte to the closing one: what was read so far, and what is left to read.
-use Rattle.std.specs.Prelude.{Result, Ok, Err}
-use mathlib.Core.Path.{◌≡◌, refl, sym, ap, subst, ◌∙◌}
+use Rattle.std.specs.Prelude.{Ok, Err}
+use mathlib.Core.Path.{◌≡◌, refl, sym, ap, subst, subst⁻¹, ◌∙◌}
 use mathlib.Core.Bool.{false}
 use mathlib.Core.List.{List, ◌∷◌}
 use mathlib.Core.Logic.{⊎_elim}
@@ -12,14 +12,13 @@ use Rattle.bytes_number.proofs.Truth.{outcome}
 use lib.ListN.{length, drop, get_or}
 use Rattle.json_scan.specs.Scan.{Verdict}
 use Rattle.json_scan.specs.declared.Fault.{Fault}
-use Rattle.json_scan.specs.declared.Fault.TheVariants.{NotJson, TooDeep}
+use Rattle.json_scan.specs.declared.Fault.TheVariants.{TooDeep}
 use Rattle.json_scan.specs.declared.Token.{Token}
 use Rattle.json_scan.specs.Scan.{is_white, Kind, in_object, in_array, first_name, first_value, name, value, behind, State, between, text, to, value_step, behind_step, token_move, between_move, move_of, go_on, scan}
-use Rattle.json_scan.specs.WorkingReads.{Came, resumed, ReadsOn}
+use Rattle.json_scan.specs.WorkingReads.{Came, came, resumed, ReadsOn}
 use Rattle.json_scan.proofs.Scanning.{scan_at, go_on_lem, go_deeper}
 use Rattle.json_scan.proofs.Reading.{scan_alike}
 use Rattle.json_scan.proofs.White.{TokenAt, token_begins, scan_white, token_further, token_there, token_dark, scan_on}
-use Rattle.json_separators.specs.declared.Next.{Next}
 use Rattle.json_separators.specs.declared.Next.TheVariants.{More, Closed}
 use Rattle.json_separators.specs.WorkingSeparators.{next_of}
 use Rattle.json_separators.proofs.Steps.{closing, again, no_zero_closes}
@@ -112,19 +111,19 @@ module _ {bytes : List ℕ} {room at : ℕ} {kind : Kind} where
   inside_failed inside one = record { same = λ around. inside.same around ∙ one.same (kind ∷ around); onward = omega (arith, inside.onward, one.onward) }
 
   -- what stands behind it
-  pub held_more : {j k : ℕ} {r : Result Next ℕ} → r ≡ Ok (More k) → Held bytes room at kind j → r ≡ next_of (closing kind) bytes j → Inside bytes room at kind k
-  held_more {j} e held told =
-      let m = next_told (closing kind) bytes j told e in
+  pub held_more : {j k : ℕ} → Held bytes room at kind j → Ok (More k) ≡ came (next_of (closing kind) bytes j) → Inside bytes room at kind k
+  held_more {j} held told =
+      let m = next_told (closing kind) bytes j told in
       record { same = λ around. held.same around ∙ m.same kind refl room around; onward = omega (arith, held.onward, m.further.0) }
 
-  pub held_closed : {j k : ℕ} {r : Result Next ℕ} → r ≡ Ok (Closed k) → Held bytes room at kind j → r ≡ next_of (closing kind) bytes j → Nests bytes room at kind (Ok k)
-  held_closed {j} e held told =
-      let m = next_told (closing kind) bytes j told e in
+  pub held_closed : {j k : ℕ} → Held bytes room at kind j → Ok (Closed k) ≡ came (next_of (closing kind) bytes j) → Nests bytes room at kind (Ok k)
+  held_closed {j} held told =
+      let m = next_told (closing kind) bytes j told in
       record { same = λ around. held.same around ∙ m.same kind refl room around; onward = omega (arith, held.onward, m.further) }
 
-  pub held_neither : {j k : ℕ} {r : Result Next ℕ} → r ≡ Err k → Held bytes room at kind j → r ≡ next_of (closing kind) bytes j → Nests bytes room at kind (Err (NotJson k))
-  held_neither {j} e held told =
-      let m = next_told (closing kind) bytes j told e in
+  pub held_neither : {j : ℕ} {fault : Fault} → Held bytes room at kind j → Err fault ≡ came (next_of (closing kind) bytes j) → Nests bytes room at kind (Err fault)
+  held_neither {j} held told =
+      let m = next_told (closing kind) bytes j told in
       record { same = λ around. held.same around ∙ m.same kind refl room around; onward = omega (arith, held.onward, m.further) }
 
 -- ---- a value that is an object or an array
@@ -161,10 +160,10 @@ module _ {bytes : List ℕ} (kind : Kind) (room at : ℕ) (l : at < length bytes
       (λ t. let some : 0 < room = omega (arith, eqb-false room 0 t) in nested some (opened.nests some))
       (outcome (eqb room 0))
 
--- a comma lies further on, and within the bytes; a closing byte lies behind something
-module _ (close : ℕ) (bytes : List ℕ) (j : ℕ) {k : ℕ} {r : Result Next ℕ} (told : r ≡ next_of close bytes j) where
-  pub more_further : r ≡ Ok (More k) → (j < k) × (k ≤ length bytes)
-  more_further e = (next_told close bytes j told e).further
+-- it stopped
+pub opened_stop : {bytes : List ℕ} {room at : ℕ} {kind : Kind} {r : Came} {fault : Fault} → 0 < room → r ≡ Err fault → Nests bytes (room - 1) (at + 1) kind (Err fault) → Opened bytes room at kind r
+opened_stop {bytes} {room} {at} {kind} some is nests = opened_nest some (subst⁻¹ (Nests bytes (room - 1) (at + 1) kind) is nests)
 
-  pub closed_further : r ≡ Ok (Closed k) → j < k
-  closed_further e = (next_told close bytes j told e).further
+-- a comma lies further on, and within the bytes
+pub more_further : (close : ℕ) (bytes : List ℕ) (j : ℕ) {k : ℕ} → Ok (More k) ≡ came (next_of close bytes j) → (j < k) × (k ≤ length bytes)
+more_further close bytes j told = (next_told close bytes j told).further

@@ -1,5 +1,5 @@
 -- In front of the outer object and behind it.
-use Rattle.std.specs.Prelude.{Result, Ok, Err}
+use Rattle.std.specs.Prelude.{Ok, Err}
 use mathlib.Core.Path.{◌≡◌, refl, sym, ap, ◌∙◌}
 use mathlib.Core.Bool.{false}
 use mathlib.Core.List.{List, []}
@@ -7,7 +7,7 @@ use Prim.Native.Nat.{ℕ, ◌+◌, ◌<◌, ◌≤◌}
 use native.Mathlib.Omega.{arith}
 use borrow.Author.Tests.{ne_eqb}
 use lib.ListN.{length, drop, get_or}
-use Rattle.json_scan.specs.declared.Fault.TheVariants.{NotJson, TooDeep}
+use Rattle.json_scan.specs.declared.Fault.TheVariants.{NotJson}
 use Rattle.json_scan.specs.Scan.{is_white, outer, value, behind, between, ended, nowhere, to, value_step, behind_step, token_move, between_move, move_of, go_on, scan, depth_limit, verdict_of}
 use Rattle.json_scan.specs.WorkingEnds.{end_of}
 use Rattle.json_scan.specs.WorkingReads.{Came, resumed, ReadsOn}

@@ -4,7 +4,7 @@
 
 ghost use Rattle.std.specs.Prelude.{◌≡◌, ◌<◌, length};
 ghost use Rattle.json_scan.specs.Scan.{in_object, in_array, value, behind, between, verdict_of};
-ghost use Rattle.json_scan.specs.WorkingReads.{ReadsOn};
+ghost use Rattle.json_scan.specs.WorkingReads.{ReadsOn, came};
 ghost use Rattle.json_check.specs.WorkingNested.{Stands, Opened, Ends};
 
 use json_scalar::scalar_end;
@@ -15,6 +15,13 @@ use json_string::text_end;
 // How many levels may be open, the outer object among them.
 const MOST: u8 = 32;
 
+// What a reader of a token answers: where it stopped, the payload is not JSON.
+fn not_json<T>(read: Result<T, usize>) -> Result<T, Fault>
+    ensures { result ≡ came read }
+{
+    read.map_err(Fault::NotJson)
+}
+
 // A value at its first byte, with so many levels left for it.
 #[cycle(array_end_object_end_value_end)]
 fn value_end(bytes: &[u8], at: usize, first: u8, room: u8) -> Result<usize, Fault>
@@ -22,10 +29,10 @@ fn value_end(bytes: &[u8], at: usize, first: u8, room: u8) -> Result<usize, Faul
     ensures { ReadsOn bytes.now room at (between value) (between behind) result }
 {
     match first {
-        b'"' => text_end(bytes, at + 1).map_err(Fault::NotJson),
+        b'"' => not_json(text_end(bytes, at + 1)),
         b'{' => object_end(bytes, at, room),
         b'[' => array_end(bytes, at, room),
-        _ => scalar_end(bytes, at).map_err(Fault::NotJson),
+        _ => not_json(scalar_end(bytes, at)),
     }
 }
 
@@ -44,10 +51,10 @@ fn object_end(bytes: &[u8], at: usize, room: u8) -> Result<usize, Fault>
     }
     let mut i = first.at;
     loop {
-        let name = name_end(bytes, i).map_err(Fault::NotJson)?;
+        let name = not_json(name_end(bytes, i))?;
         let t = token_at(bytes, name);
         let end = value_end(bytes, t.at, t.byte, room - 1)?;
-        match next_value(bytes, end, b'}').map_err(Fault::NotJson)? {
+        match not_json(next_value(bytes, end, b'}'))? {
             Next::More(k) => i = k,
             Next::Closed(k) => return Ok(k),
         }
@@ -71,7 +78,7 @@ fn array_end(bytes: &[u8], at: usize, room: u8) -> Result<usize, Fault>
     loop {
         let t = token_at(bytes, i);
         let end = value_end(bytes, t.at, t.byte, room - 1)?;
-        match next_value(bytes, end, b']').map_err(Fault::NotJson)? {
+        match not_json(next_value(bytes, end, b']'))? {
             Next::More(k) => i = k,
             Next::Closed(k) => return Ok(k),
         }

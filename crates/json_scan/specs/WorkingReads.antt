@@ -2,7 +2,6 @@
 use Rattle.std.specs.Prelude.{◌≡◌, List, ℕ, ◌+◌, ◌≤◌, length, drop, Result, Ok, Err}
 use Rattle.json_scan.specs.declared.Fault.{Fault}
 use Rattle.json_scan.specs.declared.Fault.TheVariants.{NotJson, TooDeep}
-use Rattle.json_scan.specs.WorkingEnds.{Reached}
 use Rattle.json_scan.specs.Scan.{Kind, State, Verdict, scan}
 
 -- how far a reader came: behind what it read, or to the place where it shows that the payload is not JSON
@@ -14,9 +13,9 @@ place_of (Ok i) = i
 place_of (Err (NotJson i)) = i
 place_of (Err (TooDeep i)) = i
 
--- a reader of a token opens no level
-abbrev pub came : Reached → Came
-came (Ok i) = Ok i
+-- a reader of a token opens no level: where it stops, the payload is not JSON
+abbrev pub came : {A : Type 0} → Result A ℕ → Result A Fault
+came (Ok a) = Ok a
 came (Err i) = Err (NotJson i)
 
 -- what the whole comes to, if behind the token it is read on so

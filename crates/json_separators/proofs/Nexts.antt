@@ -1,6 +1,6 @@
 -- What stands behind a value within an object or an array, and what the whole comes to then.
 use Rattle.std.specs.Prelude.{Result, Ok, Err}
-use mathlib.Core.Path.{◌≡◌, refl, sym, ap, subst, ◌∙◌}
+use mathlib.Core.Path.{◌≡◌, refl, sym, ap, subst, subst⁻¹, ◌∙◌}
 use mathlib.Core.Bool.{cond}
 use mathlib.Core.List.{List, ◌∷◌}
 use mathlib.Core.Logic.{⊎_elim}
@@ -11,6 +11,8 @@ use lib.Dec.{eqb, ltb}
 use lib.ListN.{length, drop, drop_of_length-le}
 use Rattle.bytes_number.proofs.Truth.{outcome}
 use Rattle.json_scan.specs.Scan.{Verdict}
+use Rattle.json_scan.specs.declared.Fault.{Fault}
+use Rattle.json_scan.specs.WorkingReads.{place_of, came}
 use Rattle.json_scan.specs.declared.Fault.TheVariants.{NotJson, TooDeep}
 use Rattle.json_scan.specs.declared.Token.{Token}
 use Rattle.json_scan.specs.Scan.{Kind, behind, between, scan}
@@ -52,19 +54,19 @@ module _ (close : ℕ) (bytes : List ℕ) (at : ℕ) {t : Token} (e : t ≡ toke
 
 -- ---- what the whole comes to then
 
-abbrev pub separated : List ℕ → ℕ → Kind → List Kind → Result Next ℕ → Verdict
+abbrev pub separated : List ℕ → ℕ → Kind → List Kind → Result Next Fault → Verdict
 separated bytes most kind around (Ok (More k)) = scan most (between (again kind)) (kind ∷ around) k (drop k bytes)
 separated bytes most kind around (Ok (Closed k)) = scan most (between behind) around k (drop k bytes)
-separated bytes most kind around (Err k) = Err (NotJson k)
+separated bytes most kind around (Err fault) = Err fault
 
 -- it was read on by so much: the comma lies within the bytes
-abbrev pub Further : List ℕ → ℕ → Result Next ℕ → Type 0
+abbrev pub Further : List ℕ → ℕ → Result Next Fault → Type 0
 Further bytes at (Ok (More k)) = (at < k) × (k ≤ length bytes)
 Further bytes at (Ok (Closed k)) = at < k
-Further bytes at (Err k) = at ≤ k
+Further bytes at (Err fault) = at ≤ place_of (Err fault)
 
 -- whatever is open around it, as long as this byte closes it
-pub record Separates (bytes : List ℕ) (at close : ℕ) (r : Result Next ℕ) : Type 0 where
+pub record Separates (bytes : List ℕ) (at close : ℕ) (r : Result Next Fault) : Type 0 where
   pub same :
       (kind : Kind) → close ≡ closing kind → (room : ℕ) (around : List Kind) →
       scan (length (kind ∷ around) + room) (between behind) (kind ∷ around) at (drop at bytes) ≡ separated bytes (length (kind ∷ around) + room) kind around r
@@ -86,14 +88,14 @@ module _ {bytes : List ℕ} {at : ℕ} {t : Token} (close : ℕ) (b : TokenAt by
         further = omega (arith, token_further b);
       }
 
-  marks_neither : (t.byte ≡ 44 → ⊥) → ((kind : Kind) → close ≡ closing kind → t.byte ≡ closing kind → ⊥) → Separates bytes at close (Err t.at)
+  marks_neither : (t.byte ≡ 44 → ⊥) → ((kind : Kind) → close ≡ closing kind → t.byte ≡ closing kind → ⊥) → Separates bytes at close (Err (NotJson t.at))
   marks_neither f g =
       record {
         same = λ kind is room around. scan_stuck b (length (kind ∷ around) + room) behind (kind ∷ around) (omega arith) (λ dark. neither kind around t.byte dark f (g kind is));
         further = token_further b;
       }
 
-pub next_separates : (close : ℕ) (bytes : List ℕ) (at : ℕ) → Separates bytes at close (next_of close bytes at)
+pub next_separates : (close : ℕ) (bytes : List ℕ) (at : ℕ) → Separates bytes at close (came (next_of close bytes at))
 next_separates close bytes at =
     let t = token_at bytes at in
     let b = token_told bytes at refl in
@@ -112,9 +114,9 @@ next_separates close bytes at =
     by (next_over close bytes at refl l refl) (marks_neither close b (λ e. omega (arith, none, e)) (λ kind is. no_zero_closes kind none)))
     (outcome (ltb t.at (length bytes)))
   where
-    by : {r : Result Next ℕ} → r ≡ next_of close bytes at → Separates bytes at close r → Separates bytes at close (next_of close bytes at)
-    by e = subst (Separates bytes at close) e
+    by : {r : Result Next ℕ} → r ≡ next_of close bytes at → Separates bytes at close (came r) → Separates bytes at close (came (next_of close bytes at))
+    by e = subst (λ (r : Result Next ℕ). Separates bytes at close (came r)) e
 
 -- the same of what was told
-pub next_told : (close : ℕ) (bytes : List ℕ) (at : ℕ) {r s : Result Next ℕ} → r ≡ next_of close bytes at → r ≡ s → Separates bytes at close s
-next_told close bytes at told e = subst (Separates bytes at close) (sym told ∙ e) (next_separates close bytes at)
+pub next_told : (close : ℕ) (bytes : List ℕ) (at : ℕ) {r : Result Next Fault} → r ≡ came (next_of close bytes at) → Separates bytes at close r
+next_told close bytes at told = subst⁻¹ (Separates bytes at close) told (next_separates close bytes at)

@@ -13,14 +13,14 @@ decreases-object_end l = l.room + l.room
 abbrev pub decreases-value_end : goal.decreases-value_end
 decreases-value_end l = l.room + l.room + 1
 
-abbrev pub invariant-array_end-loop-at : goal.invariant-array_end-loop-at
-invariant-array_end-loop-at l = Inside l.bytes (l.room - 1) (l.at + 1) in_array l.i
+abbrev pub invariant-array_end-loop-end : goal.invariant-array_end-loop-end
+invariant-array_end-loop-end l = Inside l.bytes (l.room - 1) (l.at + 1) in_array l.i
 
-abbrev pub decreases-array_end-loop-at : goal.decreases-array_end-loop-at
-decreases-array_end-loop-at l = length l.bytes - l.i
+abbrev pub decreases-array_end-loop-end : goal.decreases-array_end-loop-end
+decreases-array_end-loop-end l = length l.bytes - l.i
 
-abbrev pub invariant-object_end-loop-at : goal.invariant-object_end-loop-at
-invariant-object_end-loop-at l = Inside l.bytes (l.room - 1) (l.at + 1) in_object l.i
+abbrev pub invariant-object_end-loop-name : goal.invariant-object_end-loop-name
+invariant-object_end-loop-name l = Inside l.bytes (l.room - 1) (l.at + 1) in_object l.i
 
-abbrev pub decreases-object_end-loop-at : goal.decreases-object_end-loop-at
-decreases-object_end-loop-at l = length l.bytes - l.i
+abbrev pub decreases-object_end-loop-name : goal.decreases-object_end-loop-name
+decreases-object_end-loop-name l = length l.bytes - l.i
