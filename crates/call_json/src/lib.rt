@@ -4,7 +4,7 @@
 ghost use Rattle.std.specs.Prelude.{◌≡◌};
 ghost use Rattle.call_specs.specs.JsonCalls.{told_byte, ChecksJson};
 
-use json_scan::Verdict;
+use json_scan::Fault;
 use refusal::Refusal;
 
 // Bytes of the record: two numbers.
@@ -25,15 +25,15 @@ pub fn check_json(payload: &[u8], row: &mut [u8]) -> u32
         return u32::from(Refusal::OutputShort);
     }
     match json_check::check_payload(payload) {
-        Verdict::Json => {
+        Ok(()) => {
             bytes_number::put_row(row, &[1, 0]);
             0
         }
-        Verdict::NotJson(byte) => {
+        Err(Fault::NotJson(byte)) => {
             bytes_number::put_row(row, &[2, told(byte)]);
             0
         }
-        Verdict::TooDeep(byte) => {
+        Err(Fault::TooDeep(byte)) => {
             bytes_number::put_row(row, &[0, told(byte)]);
             u32::from(Refusal::JsonDeep)
         }

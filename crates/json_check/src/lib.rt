@@ -24,14 +24,15 @@ fn not_json<T>(read: Result<T, usize>) -> Result<T, Fault>
 
 // A value at its first byte, with so many levels left for it.
 #[cycle(array_end_object_end_value_end)]
+#[inline(always)]
 fn value_end(bytes: &[u8], at: usize, first: u8, room: u8) -> Result<usize, Fault>
     requires { Stands bytes.now at first }
     ensures { ReadsOn bytes.now room at (between value) (between behind) result }
 {
     match first {
         b'"' => not_json(text_end(bytes, at + 1)),
-        b'{' => object_end(bytes, at, room),
-        b'[' => array_end(bytes, at, room),
+        b'{' => Ok(object_end(bytes, at, room)?),
+        b'[' => Ok(array_end(bytes, at, room)?),
         _ => not_json(scalar_end(bytes, at)),
     }
 }

@@ -87,6 +87,7 @@ fn int_end(bytes: &[u8], at: usize, first: u8) -> usize
 }
 
 // A number behind its minus, or one that has none.
+#[inline(always)]
 pub fn number_end(bytes: &[u8], at: usize) -> Result<usize, usize>
     ensures { result ≡ number_end minus at (drop at bytes.now) }
 {

@@ -4,9 +4,6 @@ use native.Mathlib.Nat.{one-le-pow}
 use lib.Arith.{lt-one, mod-mul}
 use lib.Count.{count_trailing_zeros, under}
 use lib.Pow.{mod-pow-add}
-use Rattle.std.specs.Int.{from_le_bytes}
-use Rattle.std.proofs.Common.{w64}
-use Rattle.std.proofs.lemmas.List.{take_all}
 use Rattle.json_plain.specs.WorkingWords.{word_of}
 
 -- ---- the word at a place
@@ -17,7 +14,7 @@ word_more bytes at j k l =
     ap (λ (xs : List ℕ). word_of (take (suc k) xs)) (drop-cons bytes (at + j) 0 l)
     ∙ ap (λ (n : ℕ). word_of (take k (drop n bytes)) * 256 + get_or bytes (at + j) 0) (sym (add-suc at j))
 
-word_from :
+pub word_from :
     (bytes : List ℕ) (at : ℕ) → at + 8 ≤ length bytes → {a b c d e f g h : ℕ} →
     a ≡ get_or bytes at 0 → b ≡ get_or bytes (at + 1) 0 → c ≡ get_or bytes (at + 2) 0 → d ≡ get_or bytes (at + 3) 0 →
     e ≡ get_or bytes (at + 4) 0 → f ≡ get_or bytes (at + 5) 0 → g ≡ get_or bytes (at + 6) 0 → h ≡ get_or bytes (at + 7) 0 →
@@ -28,10 +25,6 @@ word_from bytes at l is-a is_b is_c is-d is-e is_f is-g is-h =
     let first : word_of (take 8 (drop at bytes)) ≡ word_of (take 7 (drop (at + 1) bytes)) * 256 + get_or bytes at 0 = rw add-zero at (more 0 7 (omega arith)) in
     let none : word_of (take 0 (drop (at + 8) bytes)) ≡ 0 = refl in
     omega (arith, more 1 6 (omega arith), more 2 5 (omega arith), more 3 4 (omega arith), more 4 3 (omega arith), more 5 2 (omega arith), more 6 1 (omega arith), more 7 0 (omega arith))
-
--- as std has it
-pub word_of_le : (xs : List ℕ) → length xs ≡ 8 → from_le_bytes w64 xs ≡ word_of xs
-word_of_le xs l = word_from xs 0 (omega (arith, l)) refl refl refl refl refl refl refl refl ∙ ap word_of (take_all 8 xs (omega (arith, l)))
 
 -- ---- a word of k bytes less the byte c at each of its places
 

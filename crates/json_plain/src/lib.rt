@@ -27,7 +27,16 @@ fn word_at(bytes: &[u8], at: usize) -> u64
     requires { at + 8 ≤ length bytes.now }
     ensures { result ≡ word_of (take 8 (drop at bytes.now)) }
 {
-    u64::from_le_bytes(*bytes[at..].first_chunk().unwrap())
+    u64::from_le_bytes([
+        bytes[at],
+        bytes[at + 1],
+        bytes[at + 2],
+        bytes[at + 3],
+        bytes[at + 4],
+        bytes[at + 5],
+        bytes[at + 6],
+        bytes[at + 7],
+    ])
 }
 
 // The high bit of each byte of a word that does not stand for itself. A borrow out of such a byte can set bits above it too, so only the lowest one counts. A byte above 7F has its mark by the quote's difference or the backslash's: no byte is both but for the high bit.

@@ -172,13 +172,13 @@ module _ (payload_reached : (depth : ℕ) (payload : List ℕ) → payload_to de
 
   only_not : (v : Verdict) → Told v → (place : ℕ) → NoAt payload place → v ≡ Err (NotJson place)
   only_not (Ok tt) g place n = absurd (not_json n g)
-  only_not (Err (NotJson i)) m place n = ap Err (Err (NotJson (same_place i place (no_before m n.begun n.within) (no_before n m.begun m.within))))
+  only_not (Err (NotJson i)) m place n = ap (λ (k : ℕ). Err (NotJson k)) (same_place i place (no_before m n.begun n.within) (no_before n m.begun m.within))
   only_not (Err (TooDeep i)) d place n = absurd (not_deep n d)
 
   only_deep : (v : Verdict) → Told v → (place : ℕ) → DeepAt payload place → v ≡ Err (TooDeep place)
   only_deep (Ok tt) g place d = absurd (not_deep_json d g)
   only_deep (Err (NotJson i)) n place d = absurd (not_deep n d)
-  only_deep (Err (TooDeep i)) m place d = ap Err (TooDeep (same_place i place (deep_before m d.begun) (deep_before d m.begun)))
+  only_deep (Err (TooDeep i)) m place d = ap (λ (k : ℕ). Err (TooDeep k)) (same_place i place (deep_before m d.begun) (deep_before d m.begun))
 
   pub no_at : (place : ℕ) → NoAt payload place → verdict_of payload ≡ Err (NotJson place)
   no_at = only_not (verdict_of payload) says

@@ -134,15 +134,25 @@ value_end-returns-in-34 t c =
     subst⁻¹ (ReadsOn bytes c.args.room c.args.at (between value) (between behind)) (c.not_json.ensures ∙ ap came c.text_end.ensures)
     (reads_more (text behind) (inside bytes c.args.at (λ z. omega (arith, stands.there, z))) (λ around. begins_text around _ (omega (arith, stands.there))) (text_reads bytes from behind c.args.room))
 
-pub value_end-returns-in-123 : goal.value_end-returns-in-123
-value_end-returns-in-123 t c =
-    let stands = c.requires in
-    reads_opened in_object _ _ (inside c.args.bytes.now c.args.at (λ z. omega (arith, stands.there, z))) (omega (arith, stands.there)) c.object_end.ensures
+pub value_end-returns-in_err-object_end-in-123 : goal.value_end-returns-in_err-object_end-in-123
+value_end-returns-in_err-object_end-in-123 t c =
+    let stops : c.from_residual.result ≡ Err c.in_err-object_end-in-123.field-0.0 = search rules in
+    subst⁻¹ (ReadsOn c.args.bytes.now c.args.room c.args.at (between value) (between behind)) stops
+    (reads_opened in_object _ _ (inside c.args.bytes.now c.args.at (λ z. omega (arith, c.requires.there, z))) (omega (arith, c.requires.there)) c.in_err-object_end-in-123.ensures)
 
-pub value_end-returns-in-91 : goal.value_end-returns-in-91
-value_end-returns-in-91 t c =
-    let stands = c.requires in
-    reads_opened in_array _ _ (inside c.args.bytes.now c.args.at (λ z. omega (arith, stands.there, z))) (omega (arith, stands.there)) c.array_end.ensures
+pub value_end-returns-in_ok-object_end-in-123 : goal.value_end-returns-in_ok-object_end-in-123
+value_end-returns-in_ok-object_end-in-123 t c =
+    reads_opened in_object _ _ (inside c.args.bytes.now c.args.at (λ z. omega (arith, c.requires.there, z))) (omega (arith, c.requires.there)) c.in_ok-object_end-in-123.ensures
+
+pub value_end-returns-in_err-array_end-in-91 : goal.value_end-returns-in_err-array_end-in-91
+value_end-returns-in_err-array_end-in-91 t c =
+    let stops : c.from_residual-in_err-array_end-in-91.result ≡ Err c.in_err-array_end-in-91.field-0.0 = search rules in
+    subst⁻¹ (ReadsOn c.args.bytes.now c.args.room c.args.at (between value) (between behind)) stops
+    (reads_opened in_array _ _ (inside c.args.bytes.now c.args.at (λ z. omega (arith, c.requires.there, z))) (omega (arith, c.requires.there)) c.in_err-array_end-in-91.ensures)
+
+pub value_end-returns-in_ok-array_end-in-91 : goal.value_end-returns-in_ok-array_end-in-91
+value_end-returns-in_ok-array_end-in-91 t c =
+    reads_opened in_array _ _ (inside c.args.bytes.now c.args.at (λ z. omega (arith, c.requires.there, z))) (omega (arith, c.requires.there)) c.in_ok-array_end-in-91.ensures
 
 pub value_end-returns-in_default : goal.value_end-returns-in_default
 value_end-returns-in_default t c =

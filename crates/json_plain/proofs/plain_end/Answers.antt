@@ -1,8 +1,7 @@
 -- A word with no mark is passed, and the lowest mark is where it ends; so it is with the bytes behind the words.
-use Rattle.std.proofs.Common.{◌≡◌, ◌+◌, sym, ◌∙◌, rules, arith}
+use Rattle.std.proofs.Common.{◌≡◌, ◌+◌, ◌∙◌, rules, arith}
 use Rattle.bytes_number.proofs.Numbers.{bytes_of_lem}
 use Rattle.json_scan.specs.WorkingEnds.{end_of}
-use Rattle.json_scan.proofs.Leading.{end_more, end_here, end_over}
 use Rattle.json_plain.specs.WorkingPlain.{is_plain}
 use Rattle.json_plain.proofs.Passing.{Told, told}
 use Rattle.json_plain.proofs.plain_end.Goals as goal
