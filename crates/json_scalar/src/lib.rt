@@ -17,7 +17,11 @@ fn literal_end(bytes: &[u8], at: usize, word: &[u8]) -> Result<usize, usize>
         .zip(word)
         .take_while(|(c, x)| **c == **x)
         .count();
-    if passed == word.len() { Ok(at + passed) } else { Err(at + passed) }
+    if passed == word.len() {
+        Ok(at + passed)
+    } else {
+        Err(at + passed)
+    }
 }
 
 // Where a value is due and no string, object or array begins.

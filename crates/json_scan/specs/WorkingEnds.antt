@@ -26,4 +26,3 @@ rest_end (k ∷ ks) at (x ∷ xs) = cond (holds k x) (rest_end ks (at + 1) xs) (
 abbrev pub followed : Reached → (ℕ → Reached) → Reached
 followed (Ok i) next = next i
 followed (Err i) next = Err i
-

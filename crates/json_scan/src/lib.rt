@@ -61,12 +61,25 @@ pub fn digits_end(bytes: &[u8], at: usize) -> usize
 }
 
 // Behind so many bytes that pass the test, or at the first that does not.
-pub fn run_end<F: Fn(u8) -> bool>(bytes: &[u8], at: usize, count: usize, passes: F) -> Result<usize, usize>
+pub fn run_end<F: Fn(u8) -> bool>(
+    bytes: &[u8],
+    at: usize,
+    count: usize,
+    passes: F,
+) -> Result<usize, usize>
     requires { F.IsAlwaysCallable passes }
     ensures { (k : Class) → ((c : ℕ) (b : Bool) → F.post passes c b → b ≡ holds k c) → result ≡ rest_end (replicate count k) at (drop at bytes.now) }
 {
-    let passed = rest_of(bytes, at).iter().take(count).take_while(|c| passes(**c)).count();
-    if passed == count { Ok(at + passed) } else { Err(at + passed) }
+    let passed = rest_of(bytes, at)
+        .iter()
+        .take(count)
+        .take_while(|c| passes(**c))
+        .count();
+    if passed == count {
+        Ok(at + passed)
+    } else {
+        Err(at + passed)
+    }
 }
 
 // Where a token may begin, and the byte there, as `byte_at` has it.
