@@ -12,6 +12,7 @@ use frame_message::Header;
 use refusal::Refusal;
 
 // The fields in the 20 bytes of a header.
+#[tactic(auto, unfolding(frame_message::specs::Header::header_in))]
 fn fields(p: &[u8]) -> Header
     requires { 20 ≤ length p.now }
     ensures { result ≡ header_in p.now }
