@@ -51,6 +51,7 @@ fn routes_good(body: &[u8], routes: usize) -> bool
     if frame_message::MOST_ROUTES < routes {
         return false;
     }
+    // Stays a loop by index: no chunks of the body, which may be shorter than so many routes if one of the first parts is none.
     for i in 0..routes {
         let at = i * ROUTE_PART;
         if body[at] != ROUTE_SIZE {

@@ -9,6 +9,7 @@ use frame_part_size::LONG;
 
 // Writes a part to the front of out, if there is room for it, and tells how many bytes it took; where there is none it tells 0. So the next
 // part can be lent what follows.
+// Stays a number and no Option, which is no plainer here: each caller knows that there is room, and adds the numbers up.
 pub fn write_part(out: &mut [u8], data: &[u8]) -> usize
     ensures value { result ≡ laid_count (part_bytes «data».now) out.old }
     ensures out_after { out.new ≡ laid_if_room (part_bytes «data».now) out.old }

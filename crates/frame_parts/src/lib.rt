@@ -44,6 +44,7 @@ pub fn count_parts(body: &[u8], most: usize) -> Result<PartCounts, Stop>
         last: 0,
     };
     let mut at = 0;
+    // Stays a loop over a place: how far a part reaches is known only once its size is read, and a stop tells the place.
     while at != body.len() {
         if counts.count == most {
             return Err(Stop {
