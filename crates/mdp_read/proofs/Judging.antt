@@ -7,7 +7,7 @@ use native.Mathlib.Omega.{arith}
 use lib.ListN.{length, get_or, take, drop, length-append, length-drop}
 use borrow.Author.Tests.{eqb-true}
 use lib.Seq.{drop-drop, drop_at, take_at, get_or-drop}
-use Rattle.bytes_number.proofs.Truth.{clash, true_false}
+use Rattle.bytes_number.proofs.Truth.{true_false}
 use Rattle.refusal.specs.declared.Refusal.TheVariants.{PartCountWrong, NameWrong, AddressWrong, SeparatorWrong}
 use Rattle.refusal.specs.Answer.{Answer, refused, answered}
 use Rattle.frame_forms.specs.Forms.{is_route}
@@ -23,37 +23,17 @@ use Rattle.frame_message.specs.declared.Stretch.{Stretch}
 use native.Mathlib.Decide.{dec_lt}
 use Rattle.frame_part_size.specs.WorkingSizes.{size_at}
 use Rattle.mdp_command.specs.declared.CommandPlaces.{CommandPlaces}
-use Rattle.mdp_command.specs.Command.{Command, has_name, has_address, has_body, is_command_name}
+use Rattle.mdp_command.specs.Command.{Command, has_body, is_command_name}
 use Rattle.mdp_command.specs.CommandBytes.{mark_of}
 use Rattle.mdp_command.specs.CommandWriting.{body_fits}
 use Rattle.mdp_command.specs.CommandReading.{command_as}
 use Rattle.mdp_command.specs.Places.{places_of}
 use Rattle.mdp_command.specs.Working.{command_read_as, parts_there}
-use Rattle.mdp_command.proofs.Carrying.{Carries, Kind, asks, ready, works, bare}
+use Rattle.mdp_command.proofs.Carrying.{Carries}
 use Rattle.mdp_command.proofs.Commands.{holding, named_short, named_judged, addressed_short, addressed_judged, bare_judged}
 use Rattle.mdp_command.proofs.Placing.{stretch_of, places_at, named_places, addressed_places, bare_places}
 use Rattle.mdp_read.specs.WorkingOpening.{OpenedAs}
 use Rattle.mdp_read.proofs.Opening.{Fore, fore, fixed_part, fixed_size}
-
--- ---- what a command carries, by the tests of the code
-
-carries_name : {sender code : ℕ} → Kind sender code → has_name sender code ≡ true → Carries sender code true false (has_body sender code)
-carries_name (asks e k) n = record { named = n; addressed = k.addressed; bodied = refl }
-carries_name (ready e k) n = record { named = n; addressed = k.addressed; bodied = refl }
-carries_name (works e k) n = clash _ n k.named
-carries_name (bare e k) n = clash _ n k.named
-
-carries_address : {sender code : ℕ} → Kind sender code → has_name sender code ≡ false → has_address sender code ≡ true → Carries sender code false true true
-carries_address (asks e k) n a = clash _ k.named n
-carries_address (ready e k) n a = clash _ k.named n
-carries_address (works e k) n a = k
-carries_address (bare e k) n a = clash _ a k.addressed
-
-carries_nothing : {sender code : ℕ} → Kind sender code → has_name sender code ≡ false → has_address sender code ≡ false → Carries sender code false false false
-carries_nothing (asks e k) n a = clash _ k.named n
-carries_nothing (ready e k) n a = clash _ k.named n
-carries_nothing (works e k) n a = clash _ k.addressed a
-carries_nothing (bare e k) n a = k
 
 -- ---- the third part
 
@@ -103,10 +83,7 @@ module _ {b : List ℕ} {count sender code : ℕ} (o : OpenedAs b count sender c
   pub nine_at_least : 9 ≤ length b
   nine_at_least = omega (arith, f.long)
 
-  module _ (named : has_name sender code ≡ true) where
-    k : Carries sender code true false (has_body sender code)
-    k = carries_name f.kind named
-
+  module _ (k : Carries sender code true false (has_body sender code)) where
     named_few : count < 3 → Says (Err PartCountWrong)
     named_few h = go f.rest refl (omega (arith, f.many))
       where
@@ -200,10 +177,7 @@ module _ {b : List ℕ} {count sender code : ℕ} (o : OpenedAs b count sender c
         go (yes few) = named_few few
         go (no n) = named_unfit (omega arith) (h (omega arith))
 
-  module _ (unnamed : has_name sender code ≡ false) (addressed : has_address sender code ≡ true) where
-    w : Carries sender code false true true
-    w = carries_address f.kind unnamed addressed
-
+  module _ (w : Carries sender code false true true) where
     addressed_few : count < 4 → Says (Err PartCountWrong)
     addressed_few h = says (refused PartCountWrong) refl (addressed_short sender code w (mark_of sender) (code ∷ []) f.rest (omega (arith, f.many)))
 
@@ -294,9 +268,6 @@ module _ {b : List ℕ} {count sender code : ℕ} (o : OpenedAs b count sender c
                 let j : rules (refused SeparatorWrong) = addressed_judged sender code w (mark_of sender) (code ∷ []) address gap work ∙ rw (some_work, good, some) in
                 says (refused SeparatorWrong) is j
 
-            pub addressed_within : get_or b 47 0 ≡ 0 → 48 ≤ length b
-            addressed_within z = omega (arith, gap_within)
-
             pub addressed_good : get_or b 47 0 ≡ 0 → {has : Bool} → has ≡ true → {parts : ℕ} → parts ≡ count - 4 →
                 Says (Ok (places_at sender code (stretch_of 0 0) 10 (stretch_of (cond has 48 0) (length b - 48)) parts))
             addressed_good z {has} e {parts} p =
@@ -317,10 +288,7 @@ module _ {b : List ℕ} {count sender code : ℕ} (o : OpenedAs b count sender c
         go (yes few) = addressed_few few
         go (no n) = addressed_unfit (omega arith) (h (omega arith))
 
-  module _ (unnamed : has_name sender code ≡ false) (unaddressed : has_address sender code ≡ false) where
-    n : Carries sender code false false false
-    n = carries_nothing f.kind unnamed unaddressed
-
+  module _ (n : Carries sender code false false false) where
     rest_count : count - 2 ≡ length f.rest
     rest_count = omega (arith, f.many)
 
