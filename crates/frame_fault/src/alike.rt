@@ -10,6 +10,7 @@ use frame_parts::{PartCounts, Stop, count_parts};
 const FOUR: usize = 4;
 
 // How many parts of a route's size stand in front of another part: at most 64, and four at a time.
+// Stays apart from the next: of 65 routes the bound has 64 instructions left, one for each (docs/landings/13-fault.md, Speed).
 fn leading_fours(body: &[u8]) -> usize
     ensures { Alike body.now result }
 {
