@@ -14,7 +14,7 @@ fn place(table: &[u8], width: usize, order: &[u16; MOST_RECORDS], i: usize) -> u
     requires { (i < most_records) × (i * width + width ≤ length table.now) × Ordered (record_at width table.now) order.now i }
     ensures { Placed (record_at width table.now) order.now i result }
 {
-    // Stays a search by hand: `partition_point` asks a closure that may be called with any number, also with one that is no record's.
+    // Stays a search by hand, since `partition_point` would want the law that the order is parted at record i beside those on the order.
     let mut low = 0;
     let mut high = i;
     while low < high {

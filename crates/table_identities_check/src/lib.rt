@@ -14,15 +14,8 @@ use refusal::Refusal;
 fn are_routes(identities: &[u8]) -> bool
     ensures { result ≡ all_below (length identities.now / route_length) (λ rank. is_route (identity_at identities.now rank)) }
 {
-    let n = identities.len() / ROUTE;
-    let mut rank = 0;
-    while rank < n {
-        if !frame_forms::is_route(table_records::record_at(identities, ROUTE, rank)) {
-            return false;
-        }
-        rank += 1;
-    }
-    true
+    let (routes, _) = identities.as_chunks::<ROUTE>();
+    routes.iter().all(|route| frame_forms::is_route(route))
 }
 
 // Whether the bytes are the identities of a tree's ranks.

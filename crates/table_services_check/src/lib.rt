@@ -12,22 +12,21 @@ use table_services::WIDTH;
 pub fn are_services(tree: &[u8], services: &[u8]) -> bool
     ensures { result ≡ services_good tree.now services.now }
 {
-    let n = services.len() / WIDTH;
-    if n > table_records::MOST_RECORDS {
+    let (records, rest) = services.as_chunks::<WIDTH>();
+    if records.len() > table_records::MOST_RECORDS {
         return false;
     }
-    if services.len() != n * WIDTH {
+    if !rest.is_empty() {
         return false;
     }
     let ranks = table_tree::ranks_in(tree);
-    let mut i = 0;
-    while i < n {
-        if !table_services::is_service(table_records::record_at(services, WIDTH, i), ranks) {
-            return false;
-        }
-        i += 1;
+    if !records
+        .iter()
+        .all(|row| table_services::is_service(row, ranks))
+    {
+        return false;
     }
-    table_distinct::are_distinct(services, WIDTH as u8, n)
+    table_distinct::are_distinct(services, WIDTH as u8, records.len())
 }
 
 // The service check: 14, then 15, or how many records there are.

@@ -1,23 +1,16 @@
--- A turn looks at the identity of `rank`.
-use Rattle.std.proofs.Common.{◌/◌, ℕ, Bool, sym, ◌∙◌, arith, length}
+-- Each record is of a route's form, among the records.
+use Rattle.std.proofs.Common.{rules, ◌/◌, length, ◌∙◌}
+use borrow.Author.Tests.{tests}
+use Rattle.std.specs.Simd.{first_chunks}
+use Rattle.std.proofs.lemmas.Iterator.{YieldsList-from_slice}
+use Rattle.std.proofs.lemmas.Iterator.Search.{all_from_yields_List}
 use Rattle.frame_forms.specs.Forms.{is_route}
-use Rattle.bytes_number.proofs.Truth.{and_both as both}
-use Rattle.table_records.proofs.Below.{all_none, all_more, all_fails}
-use Rattle.table_identities.specs.Identities.{identity_at}
+use Rattle.table_records.proofs.Rows.{rows_all}
 use Rattle.table_identities_check.proofs.are_routes.Goals as goal
 
-pub loop-rank-init : goal.loop-rank-init
-loop-rank-init c = (omega arith, all_none _)
-
-pub returns-then-not-is_route : goal.returns-then-not-is_route
-returns-then-not-is_route c =
-    let form : ℕ → Bool = λ rank. is_route (identity_at c.args.identities.now rank) in
-    sym (all_fails form (length c.args.identities.now / 37) c.loop-rank.rank (omega arith)
-    (rw (← c.record_at.ensures) (sym c.is_route.ensures ∙ c.if-not-is_route.true)))
-
-pub loop-rank-preserved : goal.loop-rank-preserved
-loop-rank-preserved c =
-    let form : ℕ → Bool = λ rank. is_route (identity_at c.args.identities.now rank) in (
-      omega arith,
-      all_more form c.loop-rank.rank ∙ both c.loop-rank.invariant.1 (rw (← c.record_at.ensures) (sym c.is_route.ensures ∙ c.if-not-is_route.false)),
-    )
+pub returns : goal.returns
+returns c =
+    let identities = c.args.identities.now in
+    all_from_yields_List is_route _ _ c.all.result c.all.ensures.ran
+    (YieldsList-from_slice (first_chunks 37 (length identities / 37) identities) (c.iter.ensures.rest ∙ c.as_chunks.ensures.front)) (λ x b q k. search (rules, tests))
+    ∙ rows_all is_route 37 (length identities / 37) identities
