@@ -34,15 +34,6 @@ pub const MAGIC: u8 = 142;
 
 pub const VERSION: u8 = 1;
 
-// The types of a message.
-pub const REQUEST: u8 = 1;
-
-pub const RESPONSE: u8 = 2;
-
-pub const EVENT: u8 = 4;
-
-pub const CONTROL: u8 = 8;
-
 // A message's type: a name and its number.
 #[derive(Clone, Copy, Debug, PartialEq, Eq)]
 pub enum Kind {
