@@ -1,4 +1,5 @@
 -- The way of a request by the conditions of specs/Rules.antt: each leads to one way, and one of them holds.
+use Rattle.std.specs.Prelude.{Option, None, Some}
 use mathlib.Core.Path.{◌≡◌, refl, sym, ap, ◌∙◌}
 use mathlib.Core.Logic.{⊎_elim}
 use Prim.Native.Nat.{ℕ, ◌<◌}
@@ -8,8 +9,6 @@ use lib.Dec.{eqb, ltb}
 use Rattle.bytes_number.proofs.Truth.{outcome}
 use Rattle.frame_message.specs.Header.{is_upstream}
 use Rattle.frame_message.specs.Message.{Message}
-use Rattle.table_records.specs.declared.Found.{Found}
-use Rattle.table_records.specs.declared.Found.TheVariants.{At, Nothing}
 use Rattle.table_tree.specs.Tree.{ranks_in, parent_of}
 use Rattle.table_tree_hops.specs.Towards.{towards}
 use Rattle.table_services.proofs.Services.{good_services}
@@ -40,24 +39,24 @@ pub data Fails (t : Tables) (b : Broker) (m : Message) (errnum : ℕ) : Type 0 w
 module _ (t : Tables) (b : Broker) (m : Message) (right : Right t b) where
   -- ---- the record that is found registers the service, and no other
 
-  abbrev found : Found
+  abbrev found : Option ℕ
   found = registered t.services b.rank m.topic
 
-  found_registers : (number : ℕ) → found ≡ At number → Registers t b m number
+  found_registers : (number : ℕ) → found ≡ Some number → Registers t b m number
   found_registers = registers t b m
 
-  registers_found : (number : ℕ) → Registers t b m number → found ≡ At number
+  registers_found : (number : ℕ) → Registers t b m number → found ≡ Some number
   registers_found number r =
       found_only t.services b.rank (service_of m.topic) t.tree (good_services t.tree t.services right.tables.services) number r.within r.rank r.name
 
-  none_found : Unregistered t b m → found ≡ Nothing
+  none_found : Unregistered t b m → found ≡ None
   none_found none = go found refl
     where
-      go : (f : Found) → found ≡ f → found ≡ Nothing
-      go (At number) e = absurd (none number (found_registers number e))
-      go Nothing e = e
+      go : (f : Option ℕ) → found ≡ f → found ≡ None
+      go (Some number) e = absurd (none number (found_registers number e))
+      go None e = e
 
-  found_none : found ≡ Nothing → Unregistered t b m
+  found_none : found ≡ None → Unregistered t b m
   found_none e number r =
       let there = registers_found number r in
       clashing cc
@@ -90,16 +89,16 @@ module _ (t : Tables) (b : Broker) (m : Message) (right : Right t b) where
       way_upstream t.tree t.services b.rank m.topic m.header u.other u.set ∙ up_skipped t.tree t.services b.rank m.topic (eq-eqb b.rank n c)
 
   pub way_served : (number : ℕ) → Tries b m → Registers t b m number → way ≡ Deliver number
-  way_served number (Tries.any a) r = anyhow a ∙ ap (λ (f : Found). deliver_or f up) (registers_found number r)
-  way_served number (Tries.upstream u c) r = upstream_tried u c ∙ ap (λ (f : Found). deliver_or f up) (registers_found number r)
-  way_served number (Tries.target f e) r = there f (omega arith) ∙ ap (λ (f : Found). deliver_or f (Fail 38)) (registers_found number r)
+  way_served number (Tries.any a) r = anyhow a ∙ ap (λ (f : Option ℕ). deliver_or f up) (registers_found number r)
+  way_served number (Tries.upstream u c) r = upstream_tried u c ∙ ap (λ (f : Option ℕ). deliver_or f up) (registers_found number r)
+  way_served number (Tries.target f e) r = there f (omega arith) ∙ ap (λ (f : Option ℕ). deliver_or f (Fail 38)) (registers_found number r)
 
   way_up : GoesUp t b m → way ≡ up
-  way_up (GoesUp.any a none) = anyhow a ∙ ap (λ (f : Found). deliver_or f up) (none_found none)
+  way_up (GoesUp.any a none) = anyhow a ∙ ap (λ (f : Option ℕ). deliver_or f up) (none_found none)
   way_up (GoesUp.upstream u none) =
       ⊎_elim
       (λ c. upstream_skipped u (eqb-true b.rank n c))
-      (λ c. upstream_tried u (eqb-false b.rank n c) ∙ ap (λ (f : Found). deliver_or f up) (none_found none))
+      (λ c. upstream_tried u (eqb-false b.rank n c) ∙ ap (λ (f : Option ℕ). deliver_or f up) (none_found none))
       (outcome (eqb b.rank n))
   way_up (GoesUp.skipped u c) = upstream_skipped u c
 
@@ -111,7 +110,7 @@ module _ (t : Tables) (b : Broker) (m : Message) (right : Right t b) where
 
   pub way_no_service : NoService t b m → way ≡ Fail 38
   way_no_service (NoService.top g e) = way_up g ∙ parent_none t.tree b.rank (omega arith)
-  way_no_service (NoService.target f e none) = there f (omega arith) ∙ ap (λ (f : Found). deliver_or f (Fail 38)) (none_found none)
+  way_no_service (NoService.target f e none) = there f (omega arith) ∙ ap (λ (f : Option ℕ). deliver_or f (Fail 38)) (none_found none)
 
   pub way_no_rank : Unreachable t m → way ≡ Fail 113
   way_no_rank o =
@@ -131,9 +130,9 @@ module _ (t : Tables) (b : Broker) (m : Message) (right : Right t b) where
   looking : Tries b m → (Unregistered t b m → Which t b m) → Which t b m
   looking tries else = go found refl
     where
-      go : (f : Found) → found ≡ f → Which t b m
-      go (At number) e = served number tries (found_registers number e)
-      go Nothing e = else (found_none e)
+      go : (f : Option ℕ) → found ≡ f → Which t b m
+      go (Some number) e = served number tries (found_registers number e)
+      go None e = else (found_none e)
 
   upstream_which : Upstream m → Which t b m
   upstream_which u =

@@ -1,4 +1,5 @@
 -- The rules on error replies and on noresponse.
+use Rattle.std.specs.Prelude.{None, Some, Ok, Err}
 use mathlib.Core.Path.{◌≡◌, refl, sym, ap, ◌∙◌}
 use mathlib.Core.Bool.{true, false, ◌||◌}
 use mathlib.Core.Logic.{inl, ⊎_elim}
@@ -15,11 +16,10 @@ use Rattle.frame_message.specs.Message.{Message}
 use Rattle.frame_message.specs.Frame.{body_of}
 use Rattle.frame_message.specs.Writing.{most_routes}
 use Rattle.table_identities.specs.Identities.{identity_at}
+use Rattle.step_routing.specs.Responses.{Back}
 use Rattle.step_routing.specs.declared.Broker.{Broker}
 use Rattle.step_routing.specs.declared.Way.{Way}
 use Rattle.step_routing.specs.declared.Way.TheVariants.{Deliver, Forward, Fail}
-use Rattle.step_routing.specs.declared.Back.{Back}
-use Rattle.step_routing.specs.declared.Back.TheVariants.{Home, To, Stray}
 use Rattle.step_routing.specs.Requests.{request_way}
 use Rattle.step_routing.specs.Messages.{pushed, error_reply, too_large}
 use Rattle.step_routing.specs.Routed.{Tables, replied, requested, responded, routed}
@@ -128,9 +128,9 @@ module _ (t : Tables) (b : Broker) (m : Message) where
     request_silently (Fail errnum) = rw (now_set f clear, clear)
 
     response_silently : (way : Back) → responded (hushed m) way ≡ silently (responded m way)
-    response_silently Home = refl
-    response_silently (To broker) = refl
-    response_silently Stray = refl
+    response_silently (Ok None) = refl
+    response_silently (Ok (Some broker)) = refl
+    response_silently (Err r) = refl
 
   pub only_silence : no_response f ≡ false → routed t b (hushed m) ≡ silently (routed t b m)
   only_silence clear =

@@ -16,6 +16,7 @@ use Rattle.frame_message.specs.Frame.{frame_of}
 use Rattle.frame_message.proofs.Messages.{written}
 use Rattle.step_routing.specs.declared.Broker.{Broker}
 use Rattle.step_routing.specs.Routed.{Tables, routed}
+use Rattle.step_routing.proofs.Ways.{stray_only}
 use Rattle.step_routing.proofs.Outcomes.{way_of, back_of, clashing, came, routed_request, routed_response, routed_neither, refused_is, stray_is}
 use Rattle.claim_steps.specs.Rules.{EventOrControl, OthersByTheRules}
 use Rattle.claim_steps.proofs.ErrorReplies.{by_type}
@@ -46,7 +47,7 @@ module _ (t : Tables) (b : Broker) (m : Message) where
       let other = (refused_is (came t b m (way_of t b m)) NotRouted (sym (routed_request t b m one) ∙ e)).2 in
       clashing cc)
       (λ n two.
-      let other = (stray_is m (back_of t b m) NotRouted (sym (routed_response t b m two) ∙ e)).1 in
+      let other = stray_only t.tree t.identities b.rank m.routes (stray_is m (back_of t b m) NotRouted (sym (routed_response t b m two) ∙ e)) in
       clashing cc)
       (λ n k. type_left m.header known n k)
 

@@ -1,4 +1,5 @@
 -- The rules on responses.
+use Rattle.std.specs.Prelude.{Option, None, Some, Ok, Err}
 use mathlib.Core.Path.{◌≡◌, refl, sym, ap, ◌∙◌}
 use mathlib.Core.Logic.{inr, ⊎_elim}
 use Prim.Native.Nat.{ℕ, ◌+◌, ◌<◌}
@@ -10,8 +11,6 @@ use Rattle.refusal.specs.declared.Refusal.TheVariants.{NoNeighbour}
 use Rattle.refusal.specs.Answer.{answered}
 use Rattle.frame_message.specs.Message.{Message}
 use Rattle.frame_message.specs.Frame.{frame_of}
-use Rattle.table_records.specs.declared.Found.{Found}
-use Rattle.table_records.specs.declared.Found.TheVariants.{At, Nothing}
 use Rattle.table_tree.proofs.Tree.{whole_few}
 use Rattle.table_tree.proofs.Depths.{good_whole}
 use Rattle.table_tree_hops.specs.Towards.{is_neighbour}
@@ -19,12 +18,10 @@ use Rattle.table_tree_hops.proofs.Paths.{not_itself}
 use Rattle.table_identities.specs.Identities.{broker_of}
 use Rattle.table_identities.proofs.Identities.{GoodIdentities, good_identities, found_holds, found_only}
 use Rattle.step_routing.specs.declared.Broker.{Broker}
-use Rattle.step_routing.specs.declared.Back.{Back}
-use Rattle.step_routing.specs.declared.Back.TheVariants.{Home, To, Stray}
-use Rattle.step_routing.specs.Responses.{towards_broker, response_way}
+use Rattle.step_routing.specs.Responses.{Back, towards_broker, response_way}
 use Rattle.step_routing.specs.Messages.{popped}
 use Rattle.step_routing.specs.Routed.{Tables, forwarded, responded, routed}
-use Rattle.step_routing.proofs.Ways.{back_none, back_top, broker_near, broker_far}
+use Rattle.step_routing.proofs.Ways.{back_none, back_top, broker_near, broker_far, stray_only}
 use Rattle.step_routing.proofs.Made.{popped_frame, popped_writable}
 use Rattle.step_routing.proofs.Outcomes.{back_of, clashing, routed_response, home_is, sent_is, stray_is, not_delivered, not_replied, not_silenced}
 use Rattle.claim_steps.specs.Rules.{Right, Valid, Neighbour, ErrorDue, Names, AtHome, Loses, GoesBack}
@@ -45,40 +42,40 @@ module _ (t : Tables) (b : Broker) (right : Right t b) (m : Message) where
 
   -- ---- each condition leads to one way
 
-  way_top : (top : List ℕ) (below : List (List ℕ)) → m.routes ≡ top ∷ below → (f : Found) → broker_of t.identities top ≡ f → way ≡ towards_broker t.tree b.rank f
+  way_top : (top : List ℕ) (below : List (List ℕ)) → m.routes ≡ top ∷ below → (f : Option ℕ) → broker_of t.identities top ≡ f → way ≡ towards_broker t.tree b.rank f
   way_top top below routes f e =
       ap (response_way t.tree t.identities b.rank) routes ∙ back_top t.tree t.identities b.rank top below ∙ ap (towards_broker t.tree b.rank) e
 
-  way_names : (rank : ℕ) → Names t m rank → way ≡ towards_broker t.tree b.rank (At rank)
-  way_names rank n = way_top n.top n.below n.routes (At rank) (found_only t.tree t.identities good n.top rank n.within n.same)
+  way_names : (rank : ℕ) → Names t m rank → way ≡ towards_broker t.tree b.rank (Some rank)
+  way_names rank n = way_top n.top n.below n.routes (Some rank) (found_only t.tree t.identities good n.top rank n.within n.same)
 
   few : (rank : ℕ) → Names t m rank → rank < 1024
   few rank n = omega (arith, n.within, whole_few t.tree (good_whole t.tree right.tables.tree))
 
-  way_near : (rank : ℕ) → Names t m rank → Neighbour t b rank → way ≡ To rank
+  way_near : (rank : ℕ) → Names t m rank → Neighbour t b rank → way ≡ Ok (Some rank)
   way_near rank n e = way_names rank n ∙ broker_near t.tree b.rank rank (few rank n) (neighbour_passes t b right.rank rank n.within e)
 
-  way_far : (rank : ℕ) → Names t m rank → (Neighbour t b rank → ⊥) → way ≡ Stray
+  way_far : (rank : ℕ) → Names t m rank → (Neighbour t b rank → ⊥) → way ≡ Err NoNeighbour
   way_far rank n e = way_names rank n ∙ broker_far t.tree b.rank rank (few rank n) (neighbour_fails t b right.rank rank n.within e)
 
   -- the broker that is found is the one that is named
-  found_names : (top : List ℕ) (below : List (List ℕ)) → m.routes ≡ top ∷ below → (rank : ℕ) → broker_of t.identities top ≡ At rank → Names t m rank
+  found_names : (top : List ℕ) (below : List (List ℕ)) → m.routes ≡ top ∷ below → (rank : ℕ) → broker_of t.identities top ≡ Some rank → Names t m rank
   found_names top below routes rank e =
       let f = found_holds t.tree t.identities good top rank e in
       record { within = f.0; top = top; below = below; routes = routes; same = f.1 }
 
-  way_empty : m.routes ≡ [] → way ≡ Home
+  way_empty : m.routes ≡ [] → way ≡ Ok None
   way_empty e = ap (response_way t.tree t.identities b.rank) e ∙ back_none t.tree t.identities b.rank
 
-  way_home : AtHome t m → way ≡ Home
+  way_home : AtHome t m → way ≡ Ok None
   way_home (AtHome.no_routes e) = way_empty e
   way_home (AtHome.no_broker none) = go m.routes refl
     where
-      found : (top : List ℕ) (below : List (List ℕ)) → m.routes ≡ top ∷ below → (f : Found) → broker_of t.identities top ≡ f → way ≡ Home
-      found top below routes (At rank) e = absurd (none rank (found_names top below routes rank e))
-      found top below routes Nothing e = way_top top below routes Nothing e
+      found : (top : List ℕ) (below : List (List ℕ)) → m.routes ≡ top ∷ below → (f : Option ℕ) → broker_of t.identities top ≡ f → way ≡ Ok None
+      found top below routes (Some rank) e = absurd (none rank (found_names top below routes rank e))
+      found top below routes None e = way_top top below routes None e
 
-      go : (routes : List (List ℕ)) → m.routes ≡ routes → way ≡ Home
+      go : (routes : List (List ℕ)) → m.routes ≡ routes → way ≡ Ok None
       go [] e = way_empty e
       go (top ∷ below) e = found top below e (broker_of t.identities top) refl
 
@@ -91,16 +88,16 @@ module _ (t : Tables) (b : Broker) (right : Right t b) (m : Message) where
   whither = go m.routes refl
     where
       -- no other rank is named where none is found
-      found : (top : List ℕ) (below : List (List ℕ)) → m.routes ≡ top ∷ below → (f : Found) → broker_of t.identities top ≡ f → Whither t b m
-      found top below routes (At rank) e = named rank (found_names top below routes rank e)
-      found top below routes Nothing e =
+      found : (top : List ℕ) (below : List (List ℕ)) → m.routes ≡ top ∷ below → (f : Option ℕ) → broker_of t.identities top ≡ f → Whither t b m
+      found top below routes (Some rank) e = named rank (found_names top below routes rank e)
+      found top below routes None e =
           ended
           (AtHome.no_broker
           (λ rank n.
           let there = found_only t.tree t.identities good n.top rank n.within n.same in
           let ends : n.top ∷ n.below ≡ top ∷ below = sym n.routes ∙ routes in
           let same : n.top ≡ top = cc in
-          let here : broker_of t.identities top ≡ At rank = rw (← same) there in
+          let here : broker_of t.identities top ≡ Some rank = rw (← same) there in
           clashing cc))
 
       go : (routes : List (List ℕ)) → m.routes ≡ routes → Whither t b m
@@ -109,7 +106,7 @@ module _ (t : Tables) (b : Broker) (right : Right t b) (m : Message) where
 
   -- ---- so each way tells its condition
 
-  home_only : way ≡ Home → AtHome t m
+  home_only : way ≡ Ok None → AtHome t m
   home_only e = go whither
     where
       go : Whither t b m → AtHome t m
@@ -117,7 +114,7 @@ module _ (t : Tables) (b : Broker) (right : Right t b) (m : Message) where
       go (near rank n i) = let w = way_near rank n i in clashing cc
       go (far rank n i) = let w = way_far rank n i in clashing cc
 
-  near_only : (next : ℕ) → way ≡ To next → Names t m next × Neighbour t b next
+  near_only : (next : ℕ) → way ≡ Ok (Some next) → Names t m next × Neighbour t b next
   near_only next e = go whither
     where
       go : Whither t b m → Names t m next × Neighbour t b next
@@ -128,7 +125,7 @@ module _ (t : Tables) (b : Broker) (right : Right t b) (m : Message) where
           rw (← same) (n, i)
       go (far rank n i) = let w = way_far rank n i in clashing cc
 
-  far_only : way ≡ Stray → (rank : ℕ) × Names t m rank × (Neighbour t b rank → ⊥)
+  far_only : way ≡ Err NoNeighbour → (rank : ℕ) × Names t m rank × (Neighbour t b rank → ⊥)
   far_only e = go whither
     where
       go : Whither t b m → (rank : ℕ) × Names t m rank × (Neighbour t b rank → ⊥)
@@ -155,7 +152,7 @@ module _ (t : Tables) (b : Broker) (right : Right t b) (m : Message) where
     no_error errnum (ErrorDue.silent e) = not_silenced m way errnum (sym step ∙ e)
 
     module _ (next : ℕ) (new : Message) (e : routed t b m ≡ answered (forwarded next new)) where
-      sent : (way ≡ To next) × (new ≡ popped m)
+      sent : (way ≡ Ok (Some next)) × (new ≡ popped m)
       sent = sent_is m way next new (sym step ∙ e)
 
       names : Names t m next × Neighbour t b next
@@ -182,9 +179,9 @@ module _ (t : Tables) (b : Broker) (right : Right t b) (m : Message) where
                 λ e. ((names next new e).0, (names next new e).1, popped_loses new (sent next new e).1 next (names next new e).0),
                 λ c. step ∙ ap (responded m) (way_near next c.0 c.1) ∙ ap (λ (new : Message). answered (forwarded next new)) (sym (loses_popped new c.2)),
               );
-          no_neighbour = (λ e. far_only (stray_is m way NoNeighbour (sym step ∙ e)).0, λ c. step ∙ ap (responded m) (way_far c.0 c.1 c.2));
+          no_neighbour = (λ e. far_only (stray_is m way NoNeighbour (sym step ∙ e)), λ c. step ∙ ap (responded m) (way_far c.0 c.1 c.2));
           itself = λ n. step ∙ ap (responded m) (way_far b.rank n (fails_neighbour t b right.rank b.rank right.rank (not_itself t.tree right.tables.tree b.rank right.rank)));
-          refusal = λ r e. (stray_is m way r (sym step ∙ e)).1;
+          refusal = λ r e. stray_only t.tree t.identities b.rank m.routes (stray_is m way r (sym step ∙ e));
           shrinks = λ next new e. omega (arith, new_shrinks next new e);
           valid = new_valid;
           not_delivered = λ number e. not_delivered m way number (sym step ∙ e);

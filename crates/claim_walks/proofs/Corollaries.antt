@@ -1,4 +1,5 @@
 -- What follows from demand 3, by its parts; and that a walk is a run, by the law of the crate walk.
+use Rattle.std.specs.Prelude.{Option, None, Some}
 use mathlib.Core.Path.{◌≡◌, refl, ap, ◌∙◌, subst⁻¹}
 use mathlib.Core.Bool.{Bool, true, false, cond}
 use mathlib.Core.Logic.{inl}
@@ -12,8 +13,6 @@ use Rattle.frame_message.specs.Header.{no_response, is_upstream}
 use Rattle.frame_message.specs.Message.{Message}
 use Rattle.frame_message.specs.Frame.{frame_of}
 use Rattle.frame_message.specs.Reading.{final}
-use Rattle.table_records.specs.declared.Found.{Found}
-use Rattle.table_records.specs.declared.Found.TheVariants.{At, Nothing}
 use Rattle.table_tree.specs.Tree.{ranks_in}
 use Rattle.walk_path.specs.Path.{End, fails, Path, record_of, served_at, up_path, rank_path, end_at, ending, stopping, any_path, upstream_path, target_path, path_of, links_of}
 use Rattle.walk_path.proofs.Chains.{tree_depth_most}
@@ -34,9 +33,9 @@ use Rattle.claim_walks.proofs.Demand3.{rested_sound, response_goes, along, path_
 
 -- ---- a path's error is a small number
 
-found_error : (found : Found) (errnum : ℕ) → end_at found ≡ fails errnum → errnum ≤ 113
-found_error (At number) errnum e = absurd (let z : ◌≡◌ {A = ℕ} 0 1 = cc in omega arith)
-found_error Nothing errnum e = let same : errnum ≡ 38 = cc in omega arith
+found_error : (found : Option ℕ) (errnum : ℕ) → end_at found ≡ fails errnum → errnum ≤ 113
+found_error (Some number) errnum e = absurd (let z : ◌≡◌ {A = ℕ} 0 1 = cc in omega arith)
+found_error None errnum e = let same : errnum ≡ 38 = cc in omega arith
 
 stop_error : {n : ℕ} (errnum : ℕ) → n ≤ 113 → fails n ≡ fails errnum → errnum ≤ 113
 stop_error {n} errnum h e = let same : errnum ≡ n = cc in omega arith
@@ -54,7 +53,7 @@ path_error t entry m errnum =
     let named = target_path t.tree t.services m.topic entry h.first in
     let record-at = record_of t.services m.topic in
     let skipping = served_at t.services m.topic h.first in
-    let found : (serves : ℕ → Found) (brokers : List ℕ) → (ending serves brokers).end ≡ fails errnum → errnum ≤ 113 = λ serves brokers. found_error (serves (final 0 brokers)) errnum in
+    let found : (serves : ℕ → Option ℕ) (brokers : List ℕ) → (ending serves brokers).end ≡ fails errnum → errnum ≤ 113 = λ serves brokers. found_error (serves (final 0 brokers)) errnum in
     either_error (eqb h.first 4294967295) (any_path t.tree t.services m.topic entry) (cond (is_upstream h.flags) up named) errnum
     (found record-at (up_path t.tree record-at entry))
     (either_error (is_upstream h.flags) up named errnum

@@ -1,5 +1,6 @@
 -- Demand 3. The path is followed (the crate walk_path's `followed`), so the request's steps are a run along it (There), and the response's a run back
 -- (Homeward); a run is what the C calls make (Stepping).
+use Rattle.std.specs.Prelude.{Some}
 use mathlib.Core.Path.{◌≡◌, refl, sym, ap, ◌∙◌, subst, subst⁻¹}
 use mathlib.Core.Bool.{Bool, true, false, cond, ◌&&◌}
 use mathlib.Core.Logic.{◌⊎◌, inl, ⊎_elim}
@@ -19,7 +20,6 @@ use Rattle.frame_message.specs.Frame.{body_of, frame_of}
 use Rattle.frame_message.specs.Reading.{front, final}
 use Rattle.frame_message.specs.Writing.{writing}
 use Rattle.frame_message.proofs.Lists.{front-final}
-use Rattle.table_records.specs.declared.Found.TheVariants.{At}
 use Rattle.table_services_find.specs.Lookup.{service_of, registered_as}
 use Rattle.table_services_find.proofs.Lookup.{found_holds}
 use Rattle.table_identities.specs.Identities.{identity_at}
@@ -35,7 +35,7 @@ use Rattle.step_routing.specs.Routed.{Tables, Outcome, delivered, replied, silen
 use Rattle.step_routing.proofs.Made.{reply_writable}
 use Rattle.step_routing.specs.declared.Stepped.{Stepped}
 use Rattle.step_routing.specs.declared.Stepped.TheVariants.{Home}
-use Rattle.step_pass.specs.Step.{left_after, told_as}
+use Rattle.step_pass.specs.Step.{left_after, stepped_of}
 use Rattle.frame_message.proofs.Frames.{frame_long}
 use Rattle.step_pass.proofs.Keeping.{Sound, sound_read, sound_route, sound_short}
 use Rattle.walk.specs.Runs.{Run}
@@ -49,7 +49,7 @@ use Rattle.claim_walks.proofs.Homeward.{BackLinked, home_buffer, response_run, h
 abbrev outcome_of : Owner → End → Message → Outcome
 outcome_of owner = end_outcome owner.userid owner.rolemask
 
-end_told : (owner : Owner) (end : End) (m : Message) → told_as (answered (outcome_of owner end m)) ≡ answer_at end (no_response m.header.flags)
+end_told : (owner : Owner) (end : End) (m : Message) → stepped_of (outcome_of owner end m) ≡ answer_at end (no_response m.header.flags)
 end_told owner (delivers number) m = refl
 end_told owner (fails errnum) m = ⊎_elim (λ q. rw q) (λ l. rw l) (outcome (no_response m.header.flags))
 
@@ -207,7 +207,7 @@ module _ (t : Tables) (owner : Owner) (entry : ℕ) (buffer : List ℕ) (m : Mes
     response_written : writing (with_routes n m.routes) ≡ answered (frame_of (with_routes n m.routes))
     response_written = (home_sound t valid owner.userid owner.rolemask m.routes enters.stranger behind n stack reply_sound responds.held.typed).writes
 
-  pub both_walks : (back : List ℕ) → Bytes back → ((number : ℕ) → end ≡ delivers number → registered_as t.services (final 0 (entry ∷ rest)) (service_of m.topic) ≡ At number) →
+  pub both_walks : (back : List ℕ) → Bytes back → ((number : ℕ) → end ≡ delivers number → registered_as t.services (final 0 (entry ∷ rest)) (service_of m.topic) ≡ Some number) →
       ThereAndHome t owner entry buffer m path back
   both_walks back back-bytes ends =
       record {
@@ -231,7 +231,7 @@ pub record Along (t : Tables) (entry : ℕ) (m : Message) (path : Path) : Type 0
   pub leads : Leads (λ r. request_way t.tree t.services r m.header m.topic) (entry ∷ rest) path.end
   pub linked : Linked t.tree (entry ∷ rest)
   pub few : length (entry ∷ rest) ≤ 2 * tree_depth t.tree + 1
-  pub ends : (number : ℕ) → path.end ≡ delivers number → registered_as t.services (final 0 (entry ∷ rest)) (service_of m.topic) ≡ At number
+  pub ends : (number : ℕ) → path.end ≡ delivers number → registered_as t.services (final 0 (entry ∷ rest)) (service_of m.topic) ≡ Some number
 
 abbrev pub path_in : Tables → ℕ → Message → Path
 path_in t entry m = path_of t.tree t.services entry m.header m.topic
@@ -246,7 +246,7 @@ along t entry buffer m enters =
       leads = subst (λ (l : List ℕ). Leads (λ r. request_way t.tree t.services r m.header m.topic) l path.end) f.starts f.leads;
       linked = subst (λ (l : List ℕ). Linked t.tree l) f.starts f.linked;
       few = subst (λ (l : List ℕ). length l ≤ 2 * tree_depth t.tree + 1) f.starts f.few;
-      ends = subst (λ (l : List ℕ). (number : ℕ) → path.end ≡ delivers number → registered_as t.services (final 0 l) (service_of m.topic) ≡ At number) f.starts f.ends;
+      ends = subst (λ (l : List ℕ). (number : ℕ) → path.end ≡ delivers number → registered_as t.services (final 0 l) (service_of m.topic) ≡ Some number) f.starts f.ends;
     }
 
 -- "A release with step and walk has this whole, or it isn't a release."

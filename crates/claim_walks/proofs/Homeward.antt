@@ -1,4 +1,5 @@
 -- A response's walk: back over the brokers whose identities are its routes, to the one at which these end.
+use Rattle.std.specs.Prelude.{Option, None, Some, Ok, Err}
 use mathlib.Core.Path.{◌≡◌, refl, sym, ap, ◌∙◌, subst}
 use mathlib.Core.Bool.{true, false}
 use mathlib.Core.Logic.{inr}
@@ -13,8 +14,6 @@ use Rattle.refusal.specs.Answer.{answered, and_then}
 use Rattle.frame_message.specs.Message.{Message}
 use Rattle.frame_message.specs.Frame.{part_bytes, body_of, frame_of}
 use Rattle.frame_message.specs.Reading.{reading_of}
-use Rattle.table_records.specs.declared.Found.{Found}
-use Rattle.table_records.specs.declared.Found.TheVariants.{At, Nothing}
 use Rattle.table_tree.specs.Tree.{ranks_in}
 use Rattle.table_tree.proofs.Tree.{whole_few}
 use Rattle.table_tree.proofs.Depths.{good_whole}
@@ -25,9 +24,7 @@ use Rattle.walk_path.specs.WorkingLeading.{Linked}
 use Rattle.walk_path.proofs.Leading.{linked_rank, linked_neighbour, linked_on}
 use Rattle.frame_rewrite.specs.Renewed.{cleared}
 use Rattle.step_routing.specs.declared.Broker.{Broker}
-use Rattle.step_routing.specs.declared.Back.{Back}
-use Rattle.step_routing.specs.declared.Back.TheVariants.{Home, To}
-use Rattle.step_routing.specs.Responses.{towards_broker, response_way}
+use Rattle.step_routing.specs.Responses.{Back, towards_broker, response_way}
 use Rattle.step_routing.specs.Messages.{with_routes, popped}
 use Rattle.step_routing.specs.Routed.{Tables, forwarded, home, responded, ValidTables}
 use Rattle.step_routing.proofs.Ways.{broker_near}
@@ -79,14 +76,14 @@ module _ (t : Tables) (valid : ValidTables t) (b : Broker) (m : Message) (buffer
       ∙ pass_as t b buffer inside m read (routed_response t b m kind ∙ ap (responded m) w)
 
   -- "if there are no routes, or the top route is no broker's identity, the response is home"
-  way_home : (routes : List (List ℕ)) → Strangers t routes → response_way t.tree t.identities b.rank routes ≡ Home
+  way_home : (routes : List (List ℕ)) → Strangers t routes → response_way t.tree t.identities b.rank routes ≡ Ok None
   unfolding response_way
   way_home [] strangers = refl
   way_home (top ∷ below) strangers = by_found (broker_of t.identities top) refl
     where
-      by_found : (found : Found) → broker_of t.identities top ≡ found → towards_broker t.tree b.rank (broker_of t.identities top) ≡ Home
-      by_found Nothing e = ap (towards_broker t.tree b.rank) e
-      by_found (At rank) e =
+      by_found : (found : Option ℕ) → broker_of t.identities top ≡ found → towards_broker t.tree b.rank (broker_of t.identities top) ≡ Ok None
+      by_found None e = ap (towards_broker t.tree b.rank) e
+      by_found (Some rank) e =
           let holds = found_holds t.tree t.identities (good_identities t.tree t.identities valid.identities) top rank e in
           absurd (true_false (sym holds.1 ∙ strangers top below refl rank holds.0))
 
@@ -96,7 +93,7 @@ module _ (t : Tables) (valid : ValidTables t) (b : Broker) (m : Message) (buffer
   -- "If it names a neighbour (parent or child), remove it and forward there."
   module _ (next : ℕ) (below : List (List ℕ)) (routes : m.routes ≡ identity_at t.identities next ∷ below) (there : next < ranks_in t.tree)
       (near : is_neighbour t.tree b.rank next ≡ true) where
-    way_on : way ≡ To next
+    way_on : way ≡ Ok (Some next)
     unfolding response_way
     way_on =
         let own = found_own t.tree t.identities (good_identities t.tree t.identities valid.identities) next there in

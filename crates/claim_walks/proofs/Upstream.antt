@@ -1,4 +1,5 @@
 -- Whom upstream skips, by the path (`upstream-skips`).
+use Rattle.std.specs.Prelude.{Option, None, Some}
 use mathlib.Core.Path.{◌≡◌, refl, sym, ap, ◌∙◌, subst}
 use mathlib.Core.Bool.{true}
 use mathlib.Core.List.{List, [], ◌∷◌}
@@ -10,8 +11,6 @@ use Rattle.frame_message.specs.declared.Header.{Header}
 use Rattle.frame_message.specs.Header.{is_upstream}
 use Rattle.frame_message.specs.Reading.{final}
 use Rattle.frame_message.proofs.Lists.{Each, each_at}
-use Rattle.table_records.specs.declared.Found.{Found}
-use Rattle.table_records.specs.declared.Found.TheVariants.{At, Nothing}
 use Rattle.table_tree.specs.Tree.{ranks_in}
 use Rattle.table_tree.specs.Depths.{depth_of, tree_good}
 use Rattle.walk_path.specs.Path.{chain, is_in, delivers, Path, record_of, served_at, is_found, up_path, end_at, ending, any_path, path_of}
@@ -22,7 +21,7 @@ use Rattle.walk_path.proofs.Leading.{path_upstream, up_here, followed, linked_ra
 
 module _ (tree services : List ℕ) (entry : ℕ) (h : Header) (topic : List ℕ) (g : tree_good tree ≡ true) (inside : entry < ranks_in tree)
     (u : is_upstream h.flags ≡ true) (n : h.first ≡ 4294967295 → ⊥) where
-  abbrev serves : ℕ → Found
+  abbrev serves : ℕ → Option ℕ
   serves = served_at services topic h.first
 
   abbrev path : Path
@@ -39,12 +38,12 @@ module _ (tree services : List ℕ) (entry : ℕ) (h : Header) (topic : List ℕ
   skipped number ends last =
       let at_last = end_found (serves (final 0 (up_path tree serves entry))) number (sym (ap (λ (p : Path). p.end) is) ∙ ends) in
       let there : final 0 (up_path tree serves entry) ≡ h.first = sym (ap (λ (p : Path). final 0 p.brokers) is) ∙ last in
-      let named : serves h.first ≡ At number = rw there at at_last in
-      let nothing : Nothing ≡ At number = rw (eq-eqb h.first h.first refl) at named in
+      let named : serves h.first ≡ Some number = rw there at at_last in
+      let nothing : None ≡ Some number = rw (eq-eqb h.first h.first refl) at named in
       absurd (let no : ◌≡◌ {A = ℕ} 0 1 = cc in omega arith)
 
   other :
-      (r : ℕ) → is_in r path.brokers ≡ true → (r ≡ h.first → ⊥) → (number : ℕ) → record_of services topic r ≡ At number →
+      (r : ℕ) → is_in r path.brokers ≡ true → (r ≡ h.first → ⊥) → (number : ℕ) → record_of services topic r ≡ Some number →
       (path.end ≡ delivers number) × (final 0 path.brokers ≡ r)
   unfolding up_path
   other r within apart number registers =
@@ -52,7 +51,7 @@ module _ (tree services : List ℕ) (entry : ℕ) (h : Header) (topic : List ℕ
       let last = search_ends (λ s. is_found (serves s)) (chain tree entry) r (sym (ap (λ (p : Path). is_in r p.brokers) is) ∙ within) (ap is_found here) in
       (ap (λ (p : Path). p.end) is ∙ ap (λ (s : ℕ). end_at (serves s)) last ∙ ap end_at here, ap (λ (p : Path). final 0 p.brokers) is ∙ last)
 
-  own : (entry ≡ h.first → ⊥) → (number : ℕ) → record_of services topic entry ≡ At number → path ≡ record { brokers = entry ∷ []; end = delivers number }
+  own : (entry ≡ h.first → ⊥) → (number : ℕ) → record_of services topic entry ≡ Some number → path ≡ record { brokers = entry ∷ []; end = delivers number }
   unfolding up_path chain
   own apart number registers =
       let here = unnamed entry apart ∙ registers in

@@ -1,10 +1,9 @@
 -- Whom upstream skips, by the path: "So the broker whose rank equals nodeid is skipped, and no other; a nodeid outside the tree skips nobody." (paper 02,
 -- ticket 3)
-use Rattle.std.specs.Prelude.{◌≡◌, true, List, [], ◌∷◌, ℕ, ◌<◌, ◌≤◌}
+use Rattle.std.specs.Prelude.{Some, ◌≡◌, true, List, [], ◌∷◌, ℕ, ◌<◌, ◌≤◌}
 use Rattle.frame_message.specs.declared.Header.{Header}
 use Rattle.frame_message.specs.Header.{is_upstream}
 use Rattle.frame_message.specs.Reading.{final}
-use Rattle.table_records.specs.declared.Found.TheVariants.{At}
 use Rattle.table_tree.specs.Tree.{ranks_in}
 use Rattle.table_tree.specs.Depths.{tree_good}
 use Rattle.walk_path.specs.Path.{is_in, delivers, Path, record_of, any_path, path_of}
@@ -14,11 +13,11 @@ pub record SkipsTheNamed (tree services : List ℕ) (entry named : ℕ) (topic :
   pub skipped : (number : ℕ) → path.end ≡ delivers number → final 0 path.brokers ≡ named → ⊥
   -- "and no other": whoever of the path registers the service, and is not named, delivers the request
   pub other :
-      (r : ℕ) → is_in r path.brokers ≡ true → (r ≡ named → ⊥) → (number : ℕ) → record_of services topic r ≡ At number →
+      (r : ℕ) → is_in r path.brokers ≡ true → (r ≡ named → ⊥) → (number : ℕ) → record_of services topic r ≡ Some number →
       (path.end ≡ delivers number) × (final 0 path.brokers ≡ r)
   -- "Entry at rank 3, nodeid 5": rank 3's own service is tried, and so is that of every entry which is not named
   pub own :
-      (entry ≡ named → ⊥) → (number : ℕ) → record_of services topic entry ≡ At number →
+      (entry ≡ named → ⊥) → (number : ℕ) → record_of services topic entry ≡ Some number →
       path ≡ record { brokers = entry ∷ []; end = delivers number }
   -- "a nodeid outside the tree skips nobody": the path is that of any rank
   pub nobody : ranks_in tree ≤ named → path ≡ any_path tree services topic entry

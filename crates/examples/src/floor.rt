@@ -1,6 +1,7 @@
 // The floor of paper 01: its tables, a step and a walk on them, and a picture of it.
+use refusal::Refusal;
 use std::io;
-use step_routing::{Broker, Stepped};
+use step_routing::{Broker, Stepped, Tables};
 use walk::Walked;
 
 // "Parents none,0,0,1,1,2,2."
@@ -40,18 +41,28 @@ fn broker_of(rank: u32) -> Broker {
     }
 }
 
-pub(crate) fn step(rank: u32, buffer: &mut [u8]) -> Stepped {
-    step::step(&TREE, &SERVICES, &IDENTITIES, broker_of(rank), buffer)
+pub(crate) fn step(rank: u32, buffer: &mut [u8]) -> Result<Stepped, Refusal> {
+    let t = Tables {
+        tree: &TREE,
+        services: &SERVICES,
+        identities: &IDENTITIES,
+    };
+    step::step(t, broker_of(rank), buffer)
 }
 
 pub(crate) fn walk(rank: u32, buffer: &mut [u8]) -> Walked {
-    walk::walk(&TREE, &SERVICES, &IDENTITIES, broker_of(rank), buffer)
+    let t = Tables {
+        tree: &TREE,
+        services: &SERVICES,
+        identities: &IDENTITIES,
+    };
+    walk::walk(t, broker_of(rank), buffer)
 }
 
 // Puts a byte in a place of the picture.
 fn put(picture: &mut [u8], at: usize, mark: u8) {
-    if at < picture.len() {
-        picture[at] = mark;
+    if let Some(place) = picture.get_mut(at) {
+        *place = mark;
     }
 }
 

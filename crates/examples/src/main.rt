@@ -1,9 +1,10 @@
 // Runs the bytes that paper 01 gives to be reproduced, and prints them.
 #![tactic(auto)]
 
-use frame_layout::{Reading, Stretch};
-use frame_message::{Header, Written};
+use frame_message::{Header, Kind, Stretch};
+use frame_write_given::Draft;
 use print::Hex;
+use refusal::Refusal;
 use std::io;
 
 mod floor;
@@ -14,7 +15,7 @@ mod words;
 // A request for "log" to any rank, with matchtag 1 and no routes; flags 09, or 0B with a payload.
 fn log_request(flags: u8) -> Header {
     Header {
-        kind: 1,
+        kind: u8::from(Kind::Request),
         flags,
         userid: 4294967295,
         rolemask: 0,
@@ -25,26 +26,36 @@ fn log_request(flags: u8) -> Header {
 
 // Prints a frame of n bytes, and what it is read as.
 fn show_frame(rt: &impl Print, out: &[u8], n: usize) -> io::Result<()> {
-    if n <= out.len() {
-        println!(rt; "  {}", Hex { bytes: &out[..n] })?;
+    if let Some(bytes) = out.get(..n) {
+        println!(rt; "  {}", Hex { bytes })?;
         print!(rt; "  read back: ")?;
         print::reading(rt, frame_read::read(out))?;
     }
     Ok(())
 }
 
+// A message without routes.
+fn draft<'a>(header: Header, topic: &'a [u8], payload: &'a [u8]) -> Draft<'a> {
+    Draft {
+        header,
+        routes: b"",
+        topic,
+        payload,
+    }
+}
+
 // Writes a message, prints its frame, and reads it again.
 fn show_message(rt: &impl Print, header: Header, topic: &[u8]) -> io::Result<()> {
     let mut out = [0u8; 64];
-    match frame_write::write(header, b"", topic, b"", &mut out) {
-        Written::Refused(r) => print::refused(rt, r),
-        Written::Frame(n) => show_frame(rt, &out, n),
+    match frame_write::write(&draft(header, topic, b""), &mut out) {
+        Err(why) => print::refused(rt, why),
+        Ok(n) => show_frame(rt, &out, n),
     }
 }
 
 // Writes the request for "log" with a payload.
-fn write_log(payload: &[u8], out: &mut [u8]) -> Written {
-    frame_write::write(log_request(11), b"", b"log", payload, out)
+fn write_log(payload: &[u8], out: &mut [u8]) -> Result<usize, Refusal> {
+    frame_write::write(&draft(log_request(11), b"log", payload), out)
 }
 
 // Writes that request, and says how long the frame is.
@@ -55,18 +66,10 @@ fn show_limit(rt: &impl Print, payload: &[u8], out: &mut [u8]) -> io::Result<()>
 
 // The bytes between the topic and the payload: the payload's size.
 fn print_size(rt: &impl Print, frame: &[u8], topic: Stretch, end: usize) -> io::Result<()> {
-    if end <= frame.len() {
-        if topic.len < end {
-            let before = end - topic.len - 1;
-            if topic.start <= before {
-                let start = topic.start + topic.len + 1;
-                print!(rt;
-                    "{}",
-                    Hex {
-                        bytes: &frame[start..end]
-                    }
-                )?;
-            }
+    if topic.len < end && topic.start <= end - topic.len - 1 {
+        let start = topic.start + topic.len + 1;
+        if let Some(bytes) = frame.get(start..end) {
+            print!(rt; "{}", Hex { bytes })?;
         }
     }
     Ok(())
@@ -75,8 +78,8 @@ fn print_size(rt: &impl Print, frame: &[u8], topic: Stretch, end: usize) -> io::
 // Reads a frame and prints its payload's size. Says where the payload starts.
 fn read_size(rt: &impl Print, frame: &[u8]) -> io::Result<usize> {
     match frame_read::read(frame) {
-        Reading::Refused(_) => Ok(0),
-        Reading::Accepted(f) => {
+        Err(_) => Ok(0),
+        Ok(f) => {
             let start = f.payload.start;
             print_size(rt, frame, f.topic, start)?;
             Ok(start)
@@ -87,7 +90,10 @@ fn read_size(rt: &impl Print, frame: &[u8]) -> io::Result<usize> {
 // Writes the request with some payload and prints the payload's size. Says where the payload starts.
 fn show_size(rt: &impl Print, payload: &[u8], out: &mut [u8]) -> io::Result<usize> {
     print!(rt; "  {} bytes of data have the size ", payload.len())?;
-    write_log(payload, out);
+    if let Err(why) = write_log(payload, out) {
+        print::refused(rt, why)?;
+        return Ok(0);
+    }
     let start = read_size(rt, out)?;
     println!(rt)?;
     Ok(start)
@@ -95,10 +101,8 @@ fn show_size(rt: &impl Print, payload: &[u8], out: &mut [u8]) -> io::Result<usiz
 
 // Puts 254 in front of a place.
 fn spoil(out: &mut [u8], place: usize) {
-    if 0 < place {
-        if place <= out.len() {
-            out[place - 1] = 254;
-        }
+    if 0 < place && place <= out.len() {
+        out[place - 1] = 254;
     }
 }
 
@@ -114,7 +118,7 @@ fn show_sizes(rt: &impl Print) -> io::Result<()> {
 
 fn control() -> Header {
     Header {
-        kind: 8,
+        kind: u8::from(Kind::Control),
         flags: 0,
         userid: 4294967295,
         rolemask: 0,

@@ -1,6 +1,5 @@
 // How bytes, and what the reader and the writer answered, are printed.
-use frame_layout::{Layout, Reading};
-use frame_message::Written;
+use frame_layout::Layout;
 use refusal::Refusal;
 use std::{fmt, io};
 
@@ -37,17 +36,17 @@ fn frame(rt: &impl Print, f: Layout) -> io::Result<()> {
     )
 }
 
-pub(crate) fn reading(rt: &impl Print, r: Reading) -> io::Result<()> {
+pub(crate) fn reading(rt: &impl Print, r: Result<Layout, Refusal>) -> io::Result<()> {
     match r {
-        Reading::Refused(x) => refused(rt, x),
-        Reading::Accepted(f) => frame(rt, f),
+        Err(why) => refused(rt, why),
+        Ok(f) => frame(rt, f),
     }
 }
 
 // What the writer answered.
-pub(crate) fn written(rt: &impl Print, w: Written) -> io::Result<()> {
+pub(crate) fn written(rt: &impl Print, w: Result<usize, Refusal>) -> io::Result<()> {
     match w {
-        Written::Refused(r) => refused(rt, r),
-        Written::Frame(n) => println!(rt; "a frame of {n} bytes"),
+        Err(why) => refused(rt, why),
+        Ok(n) => println!(rt; "a frame of {n} bytes"),
     }
 }

@@ -1,7 +1,7 @@
 // The walks of paper 01's last table, and three upstream: each request goes by steps and by the walk call, and a response comes home the same two ways.
-use crate::{floor, words};
-use frame_layout::{Reading, Stretch};
-use frame_message::{FRONT, Header};
+use crate::{floor, print, words};
+use frame_message::{FRONT, Header, Kind, Stretch};
+use frame_write_given::Draft;
 use refusal::Refusal;
 use std::io;
 use step_routing::Stepped;
@@ -17,10 +17,16 @@ const UPSTREAM: u8 = 0x19;
 
 const NORESPONSE: u8 = 0x0D;
 
+// No walk crosses more.
+const MOST_LINKS: u32 = 64;
+
+// A buffer that a walk takes.
+type Buffer = [u8; 32776];
+
 // The header of a message from nobody that is known, with matchtag 1.
-fn header(kind: u8, flags: u8, first: u32) -> Header {
+fn header(kind: Kind, flags: u8, first: u32) -> Header {
     Header {
-        kind,
+        kind: u8::from(kind),
         flags,
         userid: 4294967295,
         rolemask: 0,
@@ -32,36 +38,19 @@ fn header(kind: u8, flags: u8, first: u32) -> Header {
 // Steps from a broker on, until one does something else than forward. Says and brackets the brokers.
 fn go(rt: &impl Print, entry: u32, picture: &mut [u8], buffer: &mut [u8]) -> io::Result<Walked> {
     let mut rank = entry;
-    let mut links: u32 = 0;
-    while links < 64 {
+    for links in 0..MOST_LINKS {
         floor::visit(rt, picture, rank, links)?;
         let step = floor::step(rank, buffer);
-        if let Stepped::Forwarded(next) = step {
-            rank = next;
-            links += 1;
-        } else {
+        let Ok(Stepped::Forwarded(next)) = step else {
             return Ok(Walked { step, rank, links });
-        }
+        };
+        rank = next;
     }
     Ok(Walked {
-        step: Stepped::Refused(Refusal::ForwardLong),
+        step: Err(Refusal::ForwardLong),
         rank,
-        links,
+        links: MOST_LINKS,
     })
-}
-
-// The numbers of a walk's end, as a C program gets them.
-fn put_end(out: &mut [u8], w: Walked) {
-    bytes_number::put_row(out, &call_step_record::walk_row(w, 0));
-}
-
-// Whether two walks ended with the same answer, at the same rank, after as many links.
-fn is_same(a: Walked, b: Walked) -> bool {
-    let mut x = [0u8; 24];
-    let mut y = [0u8; 24];
-    put_end(&mut x, a);
-    put_end(&mut y, b);
-    table_records::same(&x, &y)
 }
 
 // Says how the steps ended, and whether the walk call ended otherwise or left other bytes.
@@ -73,17 +62,10 @@ fn tell(
     copy: &[u8],
 ) -> io::Result<()> {
     words::end(rt, &stepped)?;
-    if is_same(stepped, walked) {
-        if table_records::same(buffer, copy) {
-            return Ok(());
-        }
+    if stepped == walked && buffer == copy {
+        return Ok(());
     }
     println!(rt; "*** THE STEPS AND THE WALK CALL DIFFER ***")
-}
-
-fn walk_copy(entry: u32, buffer: &[u8], copy: &mut [u8]) -> Walked {
-    bytes_copy::copy(buffer, copy);
-    floor::walk(entry, copy)
 }
 
 // Takes the message in buffer as far as it goes, by steps, and a copy of it by the walk call.
@@ -91,10 +73,10 @@ fn travel(
     rt: &impl Print,
     entry: u32,
     picture: &mut [u8],
-    buffer: &mut [u8],
+    buffer: &mut Buffer,
 ) -> io::Result<Walked> {
-    let mut copy = [0u8; 32776];
-    let walked = walk_copy(entry, buffer, &mut copy);
+    let mut copy = *buffer;
+    let walked = floor::walk(entry, &mut copy);
     let stepped = go(rt, entry, picture, buffer)?;
     tell(rt, stepped, walked, buffer, &copy)?;
     Ok(stepped)
@@ -102,35 +84,27 @@ fn travel(
 
 // How many bytes of the body come up to a topic's end, the zero byte there with them.
 fn front_of(topic: Stretch) -> usize {
-    let start = topic.start;
-    let len = topic.len;
-    if FRONT <= start {
-        if start <= frame_message::MOST_BODY {
-            if len <= 255 {
-                return start - FRONT + len + 1;
-            }
-        }
+    if FRONT <= topic.start && topic.start <= frame_message::MOST_BODY && topic.len <= 255 {
+        topic.start - FRONT + topic.len + 1
+    } else {
+        0
     }
-    0
 }
 
 fn front_in(frame: &[u8]) -> usize {
-    match frame_read::read(frame) {
-        Reading::Refused(_) => 0,
-        Reading::Accepted(f) => front_of(f.topic),
-    }
+    frame_read::read(frame).map_or(0, |f| front_of(f.topic))
 }
 
 // Makes a response of the request at rest, with its routes, topic and matchtag.
 fn respond(buffer: &mut [u8]) {
     let front = front_in(buffer);
-    frame_rewrite::put_header(buffer, front, header(2, PLAIN, 0));
+    frame_rewrite::put_header(buffer, front, header(Kind::Response, PLAIN, 0));
 }
 
 // What goes home from where a request ended: the error reply, or a response that is made there.
 fn begin_home(rt: &impl Print, end: Walked, buffer: &mut [u8]) -> io::Result<()> {
     print!(rt; "{}", words::home(&end.step))?;
-    if let Stepped::Replied(_) = end.step {
+    if let Ok(Stepped::Replied(_)) = end.step {
         return Ok(());
     }
     respond(buffer);
@@ -142,7 +116,7 @@ fn there_and_back(
     rt: &impl Print,
     entry: u32,
     picture: &mut [u8],
-    buffer: &mut [u8],
+    buffer: &mut Buffer,
 ) -> io::Result<()> {
     let end = travel(rt, entry, picture, buffer)?;
     begin_home(rt, end, buffer)?;
@@ -151,7 +125,7 @@ fn there_and_back(
 }
 
 // Both ways, and the picture of them.
-fn draw(rt: &impl Print, entry: u32, buffer: &mut [u8]) -> io::Result<()> {
+fn draw(rt: &impl Print, entry: u32, buffer: &mut Buffer) -> io::Result<()> {
     let mut picture = floor::PICTURE;
     there_and_back(rt, entry, &mut picture, buffer)?;
     rt.write_all(&picture)
@@ -167,13 +141,15 @@ fn show(
 ) -> io::Result<()> {
     words::request(rt, case, entry, nodeid, flags, topic)?;
     let mut buffer = [0u8; 32776];
-    frame_write::write(
-        header(1, flags, nodeid),
-        b"",
-        topic.as_bytes(),
-        b"",
-        &mut buffer,
-    );
+    let draft = Draft {
+        header: header(Kind::Request, flags, nodeid),
+        routes: b"",
+        topic: topic.as_bytes(),
+        payload: b"",
+    };
+    if let Err(why) = frame_write::write(&draft, &mut buffer) {
+        return print::refused(rt, why);
+    }
     draw(rt, entry, &mut buffer)
 }
 

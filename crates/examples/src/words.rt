@@ -1,5 +1,6 @@
 // What is asked, and what a walk came to, in words.
 use crate::floor;
+use refusal::Refusal;
 use std::io;
 use step_routing::Stepped;
 use walk::Walked;
@@ -40,10 +41,10 @@ pub(crate) fn request(
 }
 
 // What goes home after a request's last step.
-pub(crate) fn home(step: &Stepped) -> &'static str {
+pub(crate) fn home(step: &Result<Stepped, Refusal>) -> &'static str {
     match step {
-        Stepped::Replied(_) => "    reply     ",
-        Stepped::Silenced(_) => "    nobody replies; a response would go ",
+        Ok(Stepped::Replied(_)) => "    reply     ",
+        Ok(Stepped::Silenced(_)) => "    nobody replies; a response would go ",
         _ => "    response  ",
     }
 }
@@ -58,15 +59,17 @@ fn meaning(errnum: u32) -> &'static str {
 }
 
 // A step's answer, and where it was made.
-fn answer(rt: &impl Print, step: &Stepped, rank: u32) -> io::Result<()> {
+fn answer(rt: &impl Print, step: &Result<Stepped, Refusal>, rank: u32) -> io::Result<()> {
     match step {
-        Stepped::Delivered(number) => print!(rt;
+        Ok(Stepped::Delivered(number)) => print!(rt;
             "delivered at rank {rank}, record {number} ({}),",
             floor::service(*number)
         ),
-        Stepped::Replied(e) => { print!(rt; "error {e}{} at rank {rank}, one reply,", meaning(*e)) }
-        Stepped::Silenced(e) => print!(rt; "silenced: error {e}{} at rank {rank}", meaning(*e)),
-        Stepped::Home => print!(rt; "home at rank {rank}"),
+        Ok(Stepped::Replied(e)) => {
+            print!(rt; "error {e}{} at rank {rank}, one reply,", meaning(*e))
+        }
+        Ok(Stepped::Silenced(e)) => print!(rt; "silenced: error {e}{} at rank {rank}", meaning(*e)),
+        Ok(Stepped::Home) => print!(rt; "home at rank {rank}"),
         _ => print!(rt; "stopped at rank {rank}"),
     }
 }

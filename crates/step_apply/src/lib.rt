@@ -10,7 +10,13 @@ use step_routing::{Broker, Stepped};
 
 // Forwards a request with so many routes and a body of so many bytes: this broker's identity goes in front of the body.
 #[tactic(auto, unfolding(crate::specs::WorkingApply::grown_to))]
-pub fn forward(buffer: &mut [u8], routes: usize, size: usize, identity: &[u8], next: u32) -> Result<Stepped, Refusal>
+pub fn forward(
+    buffer: &mut [u8],
+    routes: usize,
+    size: usize,
+    identity: &[u8],
+    next: u32,
+) -> Result<Stepped, Refusal>
     ensures { AppliesForward routes size identity.now next buffer.old result buffer.new }
 {
     if routes >= frame_message::MOST_ROUTES {

@@ -19,8 +19,8 @@ fn deliver_or(services: &[u8], rank: u32, topic: &[u8], other: Way) -> Way
     ensures { result ≡ deliver_or (registered services.now rank topic.now) other }
 {
     let service = table_services_find::service_of(topic);
-    table_services_find::find_service(services, rank, service)
-        .map_or(other, |number| Way::Deliver(number))
+    let found = table_services_find::find_service(services, rank, service);
+    found.map_or(other, Way::Deliver)
 }
 
 // To the parent, and an error at rank 0.

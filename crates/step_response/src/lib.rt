@@ -18,8 +18,7 @@ pub fn response_way(t: Tables, rank: u32, top: &[u8]) -> Result<Option<u32>, Ref
         None => Ok(None),
         Some(broker)
             if broker < MOST_RECORDS
-                && table_tree_hops::is_neighbour(t.tree, rank, broker as u32) =>
-        {
+                && table_tree_hops::is_neighbour(t.tree, rank, broker as u32) => {
             Ok(Some(broker as u32))
         }
         Some(_) => Err(Refusal::NoNeighbour),

@@ -1,4 +1,5 @@
 -- The brokers of a path follow it: each by its own step sends the request to the next one, and the last ends it as the path does (`followed`).
+use Rattle.std.specs.Prelude.{Option, None, Some}
 use mathlib.Core.Path.{◌≡◌, refl, sym, ap, ◌∙◌}
 use mathlib.Core.Bool.{Bool, true, false, cond}
 use mathlib.Core.List.{List, [], ◌∷◌, ◌++◌}
@@ -13,8 +14,6 @@ use Rattle.frame_message.specs.declared.Header.{Header}
 use Rattle.frame_message.specs.Header.{is_upstream}
 use Rattle.frame_message.specs.Reading.{final}
 use Rattle.frame_message.proofs.Lists.{Each}
-use Rattle.table_records.specs.declared.Found.{Found}
-use Rattle.table_records.specs.declared.Found.TheVariants.{At, Nothing}
 use Rattle.table_tree.specs.Tree.{ranks_in, parent_of}
 use Rattle.table_tree.specs.Depths.{depth_of, tree_good}
 use Rattle.table_tree.proofs.Depths.{parent_in, depth_below}
@@ -103,35 +102,35 @@ module _ (tree : List ℕ) where
 
 -- ---- up to the nearest broker that serves it
 
-abbrev passes : (ℕ → Found) → ℕ → Bool
+abbrev passes : (ℕ → Option ℕ) → ℕ → Bool
 passes serves r = is_found (serves r)
 
-module _ (tree : List ℕ) (serves : ℕ → Found) where
-  pub up_here : (n r number : ℕ) → serves r ≡ At number → up_to (passes serves) (climbed tree n r) ≡ r ∷ []
+module _ (tree : List ℕ) (serves : ℕ → Option ℕ) where
+  pub up_here : (n r number : ℕ) → serves r ≡ Some number → up_to (passes serves) (climbed tree n r) ≡ r ∷ []
   unfolding climbed up_to
   up_here zero r number e = rw e refl
   up_here (suc n) r number e = rw e refl
 
-  up_top : (r : ℕ) → serves r ≡ Nothing → up_to (passes serves) (climbed tree 0 r) ≡ r ∷ []
+  up_top : (r : ℕ) → serves r ≡ None → up_to (passes serves) (climbed tree 0 r) ≡ r ∷ []
   unfolding climbed up_to
   up_top r e = rw e refl
 
-  up_on : (n r : ℕ) → serves r ≡ Nothing → up_to (passes serves) (climbed tree (suc n) r) ≡ r ∷ up_to (passes serves) (climbed tree n (parent_of tree r))
+  up_on : (n r : ℕ) → serves r ≡ None → up_to (passes serves) (climbed tree (suc n) r) ≡ r ∷ up_to (passes serves) (climbed tree n (parent_of tree r))
   unfolding climbed up_to
   up_on n r e = rw e refl
 
 -- ---- brokers the last of which has the say
 
-deliver_or_fail : (f : Found) → deliver_or f (Fail 38) ≡ way_of (end_at f)
-deliver_or_fail (At n) = refl
-deliver_or_fail Nothing = refl
+deliver_or_fail : (f : Option ℕ) → deliver_or f (Fail 38) ≡ way_of (end_at f)
+deliver_or_fail (Some n) = refl
+deliver_or_fail None = refl
 
-found_or_not : (f : Found) → ((number : ℕ) × (f ≡ At number)) ⊎ (f ≡ Nothing)
-found_or_not (At number) = inl (number, refl)
-found_or_not Nothing = inr refl
+found_or_not : (f : Option ℕ) → ((number : ℕ) × (f ≡ Some number)) ⊎ (f ≡ None)
+found_or_not (Some number) = inl (number, refl)
+found_or_not None = inr refl
 
 -- by what a broker does with the request, and by what it serves
-module _ (tree : List ℕ) (way : ℕ → Way) (serves : ℕ → Found) where
+module _ (tree : List ℕ) (way : ℕ → Way) (serves : ℕ → Option ℕ) where
   -- from r the request goes along these brokers, at most so many, and ends as the last one serves it
   record Trail (r : ℕ) (brokers : List ℕ) (most : ℕ) : Type 0 where
     rest : List ℕ
@@ -159,14 +158,14 @@ module _ (tree : List ℕ) (way : ℕ → Way) (serves : ℕ → Found) where
   module _ (g : tree_good tree ≡ true) where
     -- where each broker of the tree delivers the request if it serves it, or else sends it to its parent
     module _ (ways : (s : ℕ) → s < ranks_in tree → way s ≡ deliver_or (serves s) (to_parent tree s)) where
-      trail_here : (n r number : ℕ) → r < ranks_in tree → serves r ≡ At number → Trail r (up_to (passes serves) (climbed tree n r)) (suc n)
+      trail_here : (n r number : ℕ) → r < ranks_in tree → serves r ≡ Some number → Trail r (up_to (passes serves) (climbed tree n r)) (suc n)
       trail_here n r number inside e =
           rw (up_here tree serves n r number e) (trail_within r (r ∷ []) 1 (suc n) (omega arith) (trail_last r inside (ways r inside ∙ rw e refl)))
 
-      trail_top : (r : ℕ) → r < ranks_in tree → depth_of tree r ≡ 0 → serves r ≡ Nothing → Trail r (up_to (passes serves) (climbed tree 0 r)) 1
+      trail_top : (r : ℕ) → r < ranks_in tree → depth_of tree r ≡ 0 → serves r ≡ None → Trail r (up_to (passes serves) (climbed tree 0 r)) 1
       trail_top r inside d e = rw (up_top tree serves r e) (trail_last r inside (ways r inside ∙ rw e (parent_none tree r (depth_none tree g r inside d))))
 
-      trail_on : (n r : ℕ) → r < ranks_in tree → (r ≡ 0 → ⊥) → serves r ≡ Nothing → Trail (parent_of tree r) (up_to (passes serves) (climbed tree n (parent_of tree r))) (suc n) → Trail r (up_to (passes serves) (climbed tree (suc n) r)) (suc (suc n))
+      trail_on : (n r : ℕ) → r < ranks_in tree → (r ≡ 0 → ⊥) → serves r ≡ None → Trail (parent_of tree r) (up_to (passes serves) (climbed tree n (parent_of tree r))) (suc n) → Trail r (up_to (passes serves) (climbed tree (suc n) r)) (suc (suc n))
       trail_on n r inside apart e t =
           rw (up_on tree serves n r e)
           (trail_next r (parent_of tree r) (up_to (passes serves) (climbed tree n (parent_of tree r))) (suc n) inside
@@ -226,11 +225,11 @@ module _ (tree : List ℕ) (way : ℕ → Way) (serves : ℕ → Found) where
 
 -- ---- who serves, where the named rank is skipped
 
-served : (services topic : List ℕ) (named r n : ℕ) → served_at services topic named r ≡ At n → record_of services topic r ≡ At n
+served : (services topic : List ℕ) (named r n : ℕ) → served_at services topic named r ≡ Some n → record_of services topic r ≡ Some n
 served services topic named r n e = go (eqb r named) refl
   where
-    go : (t : Bool) → eqb r named ≡ t → record_of services topic r ≡ At n
-    go true q = absurd (let z : cond true Nothing (record_of services topic r) ≡ At n = rw q at e in let no : ◌≡◌ {A = ℕ} 0 1 = cc in omega arith)
+    go : (t : Bool) → eqb r named ≡ t → record_of services topic r ≡ Some n
+    go true q = absurd (let z : cond true None (record_of services topic r) ≡ Some n = rw q at e in let no : ◌≡◌ {A = ℕ} 0 1 = cc in omega arith)
     go false q = rw q at e
 
 -- a broker that is skipped serves nothing
@@ -239,9 +238,9 @@ upwards_served tree services r topic named = ⊎_elim (λ q. rw q) (λ l. rw l) 
 
 -- ---- the claim
 
-pub end_found : (f : Found) (n : ℕ) → end_at f ≡ delivers n → f ≡ At n
-end_found (At m) n e = cc
-end_found Nothing n e = cc
+pub end_found : (f : Option ℕ) (n : ℕ) → end_at f ≡ delivers n → f ≡ Some n
+end_found (Some m) n e = cc
+end_found None n e = cc
 
 module _ (tree services : List ℕ) (entry : ℕ) (h : Header) (topic : List ℕ) (inside : entry < ranks_in tree) where
   abbrev way : ℕ → Way
@@ -259,7 +258,7 @@ module _ (tree services : List ℕ) (entry : ℕ) (h : Header) (topic : List ℕ
       }
 
   -- what is served is registered
-  follows_trail : (serves : ℕ → Found) → ((r n : ℕ) → serves r ≡ At n → record_of services topic r ≡ At n) → (brokers : List ℕ) (most : ℕ) → most ≤ 2 * tree_depth tree + 1 → Trail tree way serves entry brokers most → Follows tree services entry h topic (ending serves brokers)
+  follows_trail : (serves : ℕ → Option ℕ) → ((r n : ℕ) → serves r ≡ Some n → record_of services topic r ≡ Some n) → (brokers : List ℕ) (most : ℕ) → most ≤ 2 * tree_depth tree + 1 → Trail tree way serves entry brokers most → Follows tree services entry h topic (ending serves brokers)
   follows_trail serves registers brokers most l t =
       record {
         rest = t.rest;

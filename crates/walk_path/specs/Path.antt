@@ -1,10 +1,8 @@
 -- "The path that a request takes. Own definition, without the step": lists of ranks, from chains of parents alone.
-use Rattle.std.specs.Prelude.{ℕ, zero, suc, ◌-◌, max, Bool, true, false, cond, ◌||◌, List, [], ◌∷◌, ◌++◌, reverse, eqb, ltb, length}
+use Rattle.std.specs.Prelude.{Option, None, Some, ℕ, zero, suc, ◌-◌, max, Bool, true, false, cond, ◌||◌, List, [], ◌∷◌, ◌++◌, reverse, eqb, ltb, length}
 use Rattle.frame_message.specs.declared.Header.{Header}
 use Rattle.frame_message.specs.Header.{is_upstream}
 use Rattle.frame_message.specs.Reading.{final}
-use Rattle.table_records.specs.declared.Found.{Found}
-use Rattle.table_records.specs.declared.Found.TheVariants.{At, Nothing}
 use Rattle.table_tree.specs.Tree.{ranks_in, parent_of}
 use Rattle.table_tree.specs.Depths.{depth_of}
 use Rattle.table_services_find.specs.Lookup.{service_of, registered_as}
@@ -39,19 +37,19 @@ is_in r (s ∷ rs) = eqb s r || is_in r rs
 -- ---- the brokers of a path
 
 -- "registers the service": the record that does it at a rank, or none
-abbrev pub record_of : List ℕ → List ℕ → ℕ → Found
+abbrev pub record_of : List ℕ → List ℕ → ℕ → Option ℕ
 record_of services topic r = registered_as services r (service_of topic)
 
-abbrev pub is_found : Found → Bool
-is_found (At number) = true
-is_found Nothing = false
+abbrev pub is_found : Option ℕ → Bool
+is_found (Some number) = true
+is_found None = false
 
 -- "registers the service and is not the named rank" (paper 02, ticket 3): the same, but that the named rank is skipped
-abbrev pub served_at : List ℕ → List ℕ → ℕ → ℕ → Found
-served_at services topic named r = cond (eqb r named) Nothing (record_of services topic r)
+abbrev pub served_at : List ℕ → List ℕ → ℕ → ℕ → Option ℕ
+served_at services topic named r = cond (eqb r named) None (record_of services topic r)
 
 -- "from the entry up to the nearest broker, itself included, that registers the service, else up to rank 0", by what a broker serves
-unfoldable pub up_path : List ℕ → (ℕ → Found) → ℕ → List ℕ
+unfoldable pub up_path : List ℕ → (ℕ → Option ℕ) → ℕ → List ℕ
 up_path tree serves entry = up_to (λ r. is_found (serves r)) (chain tree entry)
 
 -- "the lowest common ancestor": the first in the chain of the one that is in the chain of the other
@@ -76,12 +74,12 @@ pub record Path : Type 0 where
   pub end : End
 
 -- "delivers if it registers the service; if not, the error is 38"
-abbrev pub end_at : Found → End
-end_at (At number) = delivers number
-end_at Nothing = fails 38
+abbrev pub end_at : Option ℕ → End
+end_at (Some number) = delivers number
+end_at None = fails 38
 
 -- "In all other cases the last broker of the path delivers if .."
-abbrev pub ending : (ℕ → Found) → List ℕ → Path
+abbrev pub ending : (ℕ → Option ℕ) → List ℕ → Path
 ending serves brokers = record { brokers = brokers; end = end_at (serves (final 0 brokers)) }
 
 -- an error "on 0 links"

@@ -1,8 +1,7 @@
 -- A path is followed: each of its brokers, by its own step, sends the request to the next one, and the last ends it as the path does.
-use Rattle.std.specs.Prelude.{◌≡◌, true, ℕ, ◌+◌, ◌*◌, ◌<◌, ◌≤◌, List, [], ◌∷◌, length}
+use Rattle.std.specs.Prelude.{Some, ◌≡◌, true, ℕ, ◌+◌, ◌*◌, ◌<◌, ◌≤◌, List, [], ◌∷◌, length}
 use Rattle.frame_message.specs.declared.Header.{Header}
 use Rattle.frame_message.specs.Reading.{final}
-use Rattle.table_records.specs.declared.Found.TheVariants.{At}
 use Rattle.table_tree.specs.Tree.{ranks_in}
 use Rattle.table_tree.specs.Depths.{tree_good}
 use Rattle.table_tree_hops.specs.Towards.{is_neighbour}
@@ -39,7 +38,7 @@ pub record Follows (tree services : List ℕ) (entry : ℕ) (h : Header) (topic 
   -- at most up and down again
   pub few : length path.brokers ≤ 2 * tree_depth tree + 1
   -- delivered by the record that the last broker has for the service
-  pub ends : (n : ℕ) → path.end ≡ delivers n → registered_as services (final 0 path.brokers) (service_of topic) ≡ At n
+  pub ends : (n : ℕ) → path.end ≡ delivers n → registered_as services (final 0 path.brokers) (service_of topic) ≡ Some n
 
 abbrev pub Followed : List ℕ → List ℕ → ℕ → Header → List ℕ → Type 0
 Followed tree services entry h topic = Follows tree services entry h topic (path_of tree services entry h topic)

@@ -62,7 +62,6 @@ returns-in-Response c =
     (routed_response (tables_in c.args.t) c.args.b (held_in c.args.buffer.now) kind))
     c.response.ensures
 
-
 -- what was read has one of the four types
 pub returns-in_err-kind : goal.returns-in_err-kind
 returns-in_err-kind c =
