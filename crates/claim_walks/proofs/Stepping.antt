@@ -31,7 +31,7 @@ tells_says : {o : Outcome} {buffer row : List ℕ} {r : ℕ} {after listed : Lis
     Says (stepped_of o) row r after listed × (after ≡ left_after o buffer)
 tells_says {o} {row = row} {after = after} w =
     let numbers = step_row (stepped_of o) (frame_length after) in
-    let sixteen : length (row_bytes numbers) ≡ 16 = omega (arith, row_length numbers, four_numbers o (frame_length after)) in
+    let sixteen : length (row_bytes numbers) ≡ 16 = omega (arith, row_length numbers, four_numbers (stepped_of o) (frame_length after)) in
     (record { returns = w.returns; lists = w.lists ∙ ap (λ (n : ℕ). row_bytes numbers ++ drop n row) sixteen }, w.leaves)
 
 -- what the definition of the step answers, the host's call says
@@ -93,7 +93,7 @@ run_plays t owner first buffer ranks left o run long few row r after listed room
     let links : 0 + (length ranks - 1) ≡ length ranks - 1 = omega arith in
     let six = numbers ++ (final 0 ranks ∷ (length ranks - 1) ∷ []) in
     let same : numbers ++ (final 0 ranks ∷ (0 + (length ranks - 1)) ∷ []) ≡ six = ap (λ (n : ℕ). numbers ++ (final 0 ranks ∷ n ∷ [])) links in
-    let long-row : length (row_bytes six) ≡ 24 = omega (arith, row_length six, length-append numbers (final 0 ranks ∷ (length ranks - 1) ∷ []), four_numbers o (frame_length left)) in
+    let long-row : length (row_bytes six) ≡ 24 = omega (arith, row_length six, length-append numbers (final 0 ranks ∷ (length ranks - 1) ∷ []), four_numbers (stepped_of o) (frame_length left)) in
     record {
       returns = reports.returns;
       lists = reports.lists ∙ ap (λ (ns : List ℕ). laid (row_bytes ns) row) same ∙ ap (λ (n : ℕ). row_bytes six ++ drop n row) long-row;
