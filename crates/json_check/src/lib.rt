@@ -30,10 +30,10 @@ fn value_end(bytes: &[u8], at: usize, first: u8, room: u8) -> Result<usize, Faul
     ensures { ReadsOn bytes.now room at (between value) (between behind) result }
 {
     match first {
-        b'"' => not_json(text_end(bytes, at + 1)),
+        b'"' => Ok(not_json(text_end(bytes, at + 1))?),
         b'{' => Ok(object_end(bytes, at, room)?),
         b'[' => Ok(array_end(bytes, at, room)?),
-        _ => not_json(scalar_end(bytes, at)),
+        _ => Ok(not_json(scalar_end(bytes, at))?),
     }
 }
 

@@ -17,6 +17,9 @@ pub enum Fault {
 fn is_white(c: u8) -> bool
     ensures { result ≡ is_white c }
 {
+    if c > b' ' {
+        return false;
+    }
     matches!(c, b' ' | b'\n' | b'\r' | b'\t')
 }
 

@@ -1,6 +1,6 @@
 -- A value, and what stands in an object or an array: item by item from the opening byte to the closing one.
 use Rattle.std.specs.Prelude.{Ok, Err}
-use Rattle.std.proofs.Common.{◌≡◌, ◌∙◌, sym, ap, ℕ, ◌+◌, List, arith, rules}
+use Rattle.std.proofs.Common.{◌≡◌, ◌∙◌, sym, ap, ℕ, ◌+◌, List, drop, arith, rules}
 use mathlib.Core.Path.{subst⁻¹}
 use Rattle.json_scan.specs.declared.Token.{Token}
 use Rattle.json_scan.specs.Scan.{is_white, in_object, in_array, name, value, behind, between, text}
@@ -9,10 +9,13 @@ use Rattle.json_scan.specs.WorkingReads.{Came, came, ReadsOn}
 use Rattle.json_scan.proofs.Scanning.{inside}
 use Rattle.json_scan.proofs.Reading.{reads_more, reads_then, reads_failed}
 use Rattle.json_scan.proofs.White.{token_told, reads_white, token_there, token_dark}
+use Rattle.json_string.specs.WorkingText.{text_end}
 use Rattle.json_string.proofs.Texts.{text_reads}
+use Rattle.json_scalar.specs.WorkingScalars.{scalar_end}
 use Rattle.json_scalar.proofs.Scalars.{scalar_reads}
 use Rattle.json_separators.specs.WorkingSeparators.{name_end}
 use Rattle.json_separators.proofs.Names.{name_reads}
+use Rattle.json_check.specs.WorkingNested.{Stands}
 use Rattle.json_check.proofs.Nesting.{begins_text, nest_closed, inside_first, inside_held, inside_failed, held_more, held_closed, held_neither, more_further, opened_nest, opened_stop, reads_opened}
 use Rattle.json_check.proofs.+array_end_object_end_value_end.Goals as goal
 
@@ -126,17 +129,34 @@ object_end-returns-in-Closed t c =
 
 -- ---- a value
 
-pub value_end-returns-in-34 : goal.value_end-returns-in-34
-value_end-returns-in-34 t c =
-    let bytes = c.args.bytes.now in
-    let from = c.args.at + 1 in
-    let stands = c.requires in
-    subst⁻¹ (ReadsOn bytes c.args.room c.args.at (between value) (between behind)) (c.not_json.ensures ∙ ap came c.text_end.ensures)
-    (reads_more (text behind) (inside bytes c.args.at (λ z. omega (arith, stands.there, z))) (λ around. begins_text around _ (omega (arith, stands.there))) (text_reads bytes from behind c.args.room))
+-- a string, and any other value that holds none, whatever its reader told
+string :
+    {bytes : List ℕ} {room at first : ℕ} {r : Came} → Stands bytes at first → first ≡ 34 → r ≡ came (text_end (at + 1) (drop (at + 1) bytes)) →
+    ReadsOn bytes room at (between value) (between behind) r
+string {bytes} {room} {at} stands e told =
+    subst⁻¹ (ReadsOn bytes room at (between value) (between behind)) told
+    (reads_more (text behind) (inside bytes at (λ z. omega (arith, stands.there, z, e))) (λ around. begins_text around _ (omega (arith, stands.there, e))) (text_reads bytes (at + 1) behind room))
+
+scalar :
+    {bytes : List ℕ} {room at first : ℕ} {r : Came} → Stands bytes at first → (first ≡ 34 → ⊥) → (first ≡ 123 → ⊥) → (first ≡ 91 → ⊥) → r ≡ came (scalar_end at (drop at bytes)) →
+    ReadsOn bytes room at (between value) (between behind) r
+scalar {bytes} {room} {at} stands q o a told =
+    subst⁻¹ (ReadsOn bytes room at (between value) (between behind)) told
+    (scalar_reads bytes at
+    (λ l. record { dark = ap is_white (sym stands.there) ∙ stands.dark l; no_string = λ e. q (stands.there ∙ e); no_object = λ e. o (stands.there ∙ e); no_array = λ e. a (stands.there ∙ e) })
+    room)
+
+pub value_end-returns-in_err-not_json-in-34 : goal.value_end-returns-in_err-not_json-in-34
+value_end-returns-in_err-not_json-in-34 t c =
+    let stops : c.from_residual.result ≡ Err c.in_err-not_json-in-34.field-0.0 = search rules in
+    subst⁻¹ (ReadsOn c.args.bytes.now c.args.room c.args.at (between value) (between behind)) stops (string c.requires c.in-34.is (c.in_err-not_json-in-34.ensures ∙ ap came c.text_end.ensures))
+
+pub value_end-returns-in_ok-not_json-in-34 : goal.value_end-returns-in_ok-not_json-in-34
+value_end-returns-in_ok-not_json-in-34 t c = string c.requires c.in-34.is (c.in_ok-not_json-in-34.ensures ∙ ap came c.text_end.ensures)
 
 pub value_end-returns-in_err-object_end-in-123 : goal.value_end-returns-in_err-object_end-in-123
 value_end-returns-in_err-object_end-in-123 t c =
-    let stops : c.from_residual.result ≡ Err c.in_err-object_end-in-123.field-0.0 = search rules in
+    let stops : c.from_residual-in_err-object_end-in-123.result ≡ Err c.in_err-object_end-in-123.field-0.0 = search rules in
     subst⁻¹ (ReadsOn c.args.bytes.now c.args.room c.args.at (between value) (between behind)) stops
     (reads_opened in_object _ _ (inside c.args.bytes.now c.args.at (λ z. omega (arith, c.requires.there, z))) (omega (arith, c.requires.there)) c.in_err-object_end-in-123.ensures)
 
@@ -154,12 +174,12 @@ pub value_end-returns-in_ok-array_end-in-91 : goal.value_end-returns-in_ok-array
 value_end-returns-in_ok-array_end-in-91 t c =
     reads_opened in_array _ _ (inside c.args.bytes.now c.args.at (λ z. omega (arith, c.requires.there, z))) (omega (arith, c.requires.there)) c.in_ok-array_end-in-91.ensures
 
-pub value_end-returns-in_default : goal.value_end-returns-in_default
-value_end-returns-in_default t c =
-    let bytes = c.args.bytes.now in
-    let at = c.args.at in
-    let stands = c.requires in
-    subst⁻¹ (ReadsOn bytes c.args.room at (between value) (between behind)) (c.not_json-in_default.ensures ∙ ap came c.scalar_end.ensures)
-    (scalar_reads bytes at
-    (λ l. record { dark = ap is_white (sym stands.there) ∙ stands.dark l; no_string = λ e. omega (arith, stands.there, e); no_object = λ e. omega (arith, stands.there, e); no_array = λ e. omega (arith, stands.there, e) })
-    c.args.room)
+pub value_end-returns-in_err-not_json-in_default : goal.value_end-returns-in_err-not_json-in_default
+value_end-returns-in_err-not_json-in_default t c =
+    let stops : c.from_residual-in_err-not_json-in_default.result ≡ Err c.in_err-not_json-in_default.field-0.0 = search rules in
+    subst⁻¹ (ReadsOn c.args.bytes.now c.args.room c.args.at (between value) (between behind)) stops
+    (scalar c.requires (λ e. omega (arith, e)) (λ e. omega (arith, e)) (λ e. omega (arith, e)) (c.in_err-not_json-in_default.ensures ∙ ap came c.scalar_end.ensures))
+
+pub value_end-returns-in_ok-not_json-in_default : goal.value_end-returns-in_ok-not_json-in_default
+value_end-returns-in_ok-not_json-in_default t c =
+    scalar c.requires (λ e. omega (arith, e)) (λ e. omega (arith, e)) (λ e. omega (arith, e)) (c.in_ok-not_json-in_default.ensures ∙ ap came c.scalar_end.ensures)

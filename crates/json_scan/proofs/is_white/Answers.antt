@@ -3,6 +3,9 @@ use Rattle.std.proofs.Common.{arith}
 use Rattle.json_scan.proofs.Bytes.{white_blank, white_tab, white_none}
 use Rattle.json_scan.proofs.is_white.Goals as goal
 
+pub returns-then-c-gt32 : goal.returns-then-c-gt32
+returns-then-c-gt32 c = white_none c.args.c (λ e. omega arith) (λ e. omega arith) (λ e. omega arith) (λ e. omega arith)
+
 pub returns-in_default : goal.returns-in_default
 returns-in_default c = white_none c.args.c (λ e. omega arith) (λ e. omega arith) (λ e. omega arith) (λ e. omega arith)
 
