@@ -2,6 +2,5 @@
 pub mod Below
 pub mod Bytes
 pub mod Records
-pub mod Front
 pub mod Search
 pub mod Rows
