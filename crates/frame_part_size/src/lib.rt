@@ -2,12 +2,20 @@
 #![tactic(auto)]
 
 ghost use Rattle.std.specs.Prelude.{◌≡◌, ◌+◌, ◌^◌, ◌<◌, length};
+ghost use Rattle.frame_message.specs.Frame.{size_bytes};
 ghost use Rattle.frame_part_size.specs.WorkingSizes.{data_at, size_at};
 
 use frame_message::Stretch;
 
 // A part of so many bytes or more has a size of five bytes, the first of which is this.
 pub const LONG: usize = 255;
+
+// How many bytes the size of a part of n bytes takes.
+pub fn size_length(n: usize) -> usize
+    ensures { result ≡ length (size_bytes n) }
+{
+    if n < LONG { 1 } else { 5 }
+}
 
 // The data of so many bytes behind a part's size; None where s has fewer.
 fn data_at(s: &[u8], start: usize, len: usize) -> Option<Stretch>

@@ -1,9 +1,9 @@
 // A part written: its size, and its data behind that.
 #![tactic(auto)]
 
-ghost use Rattle.std.specs.Prelude.{◌≡◌, ◌≤◌, length};
+ghost use Rattle.std.specs.Prelude.{◌≡◌};
 ghost use Rattle.frame_message.specs.Frame.{part_bytes, joined, part_if};
-ghost use Rattle.bytes_number.specs.WorkingLays.{laid_count, laid_if_room, Lays};
+ghost use Rattle.bytes_number.specs.WorkingLays.{laid_count, laid_if_room};
 
 use frame_part_size::LONG;
 
@@ -32,10 +32,11 @@ pub fn write_part(out: &mut [u8], data: &[u8]) -> usize
     n + 5
 }
 
-// Writes a part where it is given, and tells how many bytes it took: none where it is not.
+// Writes a part where it is given, if there is room for it, and tells how many bytes it took: none
+// where it is not.
 pub fn write_part_if(out: &mut [u8], given: bool, data: &[u8]) -> usize
-    requires { length (joined (part_if given «data».now)) ≤ length out.old }
-    ensures { Lays (joined (part_if given «data».now)) out.old out.new result }
+    ensures value { result ≡ laid_count (joined (part_if given «data».now)) out.old }
+    ensures out_after { out.new ≡ laid_if_room (joined (part_if given «data».now)) out.old }
 {
     if given { write_part(out, data) } else { 0 }
 }

@@ -1,10 +1,10 @@
 // How long the parts and the body are that will be written.
-ghost use Rattle.std.specs.Prelude.{◌≡◌, ◌+◌, ◌≤◌, ◌%◌, length};
-ghost use Rattle.frame_message.specs.Frame.{size_bytes, body_of};
+ghost use Rattle.std.specs.Prelude.{◌≡◌, ◌≤◌, ◌%◌, length};
+ghost use Rattle.frame_message.specs.Frame.{body_of};
 ghost use Rattle.frame_write_given.specs.Drafts.{drafted};
 ghost use Rattle.frame_write_check.specs.Working.{part_length, group_length};
 
-use frame_part_size::LONG;
+use frame_part_size::size_length;
 use frame_write_given::Draft;
 
 // How many bytes the routing group takes: 38 a route, and one for the delimiter.
@@ -19,20 +19,12 @@ fn group_length(given: bool, n: usize) -> usize
     }
 }
 
-// How many bytes a part of n bytes takes: its size has one byte, or five.
-pub fn length_with_size(n: usize) -> usize
-    requires { n ≤ 32768 }
-    ensures { result ≡ length (size_bytes n) + n }
-{
-    if n < LONG { 1 + n } else { 5 + n }
-}
-
 // How many bytes a part of n bytes takes where it is there.
 fn part_length(given: bool, n: usize) -> usize
     requires { n ≤ 32768 }
     ensures { result ≡ part_length given n }
 {
-    if given { length_with_size(n) } else { 0 }
+    if given { size_length(n) + n } else { 0 }
 }
 
 // The body's length, of parts that are short enough for it to be added up.

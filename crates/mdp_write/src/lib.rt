@@ -22,7 +22,7 @@ pub fn write_command(command: &Command, out: &mut [u8]) -> Result<usize, Refusal
     let carried = mdp_rules::carries(sender, command.code)?;
     // Before the check: a copy of bytes that have just been laid down, as those of the mark are, waits for them.
     let mark = sender.mark();
-    let n = mdp_write_check::check_command(command, carried, out.len())?;
+    let n = mdp_write_check::check_command(command, out.len())?;
     whole::write_whole(out, &mark, carried, command);
     Ok(n)
 }

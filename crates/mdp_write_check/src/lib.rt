@@ -1,7 +1,7 @@
-// What the writer of commands refuses, in the paper's order, before it writes anything; 33 comes before all of it.
+// What the writer of commands refuses, in the paper's order, before it writes anything.
 #![tactic(auto)]
 
-ghost use Rattle.std.specs.Prelude.{◌≡◌, ◌≤◌};
+ghost use Rattle.std.specs.Prelude.{◌≡◌, ◌≤◌, OnOk};
 ghost use Rattle.std.specs.Bool.{MatchBool};
 ghost use Rattle.bytes_number.specs.Number.{Bytes};
 ghost use Rattle.frame_message.specs.Writing.{is_empty};
@@ -13,10 +13,10 @@ ghost use Rattle.mdp_rules.specs.WorkingCarried.{named, addressed, CarriedBy};
 ghost use Rattle.mdp_write_check.specs.WorkingChecks.{cut_as, front_length};
 
 use frame_forms::is_route;
+use frame_part_size::size_length;
 use frame_parts::count_parts;
 use frame_write_check::fit;
-use frame_write_check::length::length_with_size;
-use mdp_command::{Command, MOST_BYTES, START};
+use mdp_command::{Command, MOST_BYTES, START, Sender};
 use mdp_name::is_name;
 use mdp_rules::Carried;
 use refusal::Refusal;
@@ -53,14 +53,14 @@ fn front_length(carried: Carried, n: usize) -> usize
     ensures { result ≡ front_length (named carried) (addressed carried) n }
 {
     match carried {
-        Carried::NameAndBody | Carried::Name => START + length_with_size(n),
+        Carried::NameAndBody | Carried::Name => START + size_length(n) + n,
         Carried::AddressAndBody => ADDRESSED,
         Carried::Nothing => START,
     }
 }
 
-// The refusal, or the length of the command to be written into so much room, where there is such a command: 30, 34, 35, 36, then 31 and 11.
-pub fn check_command(command: &Command, carried: Carried, room: usize) -> Result<usize, Refusal>
+// 30, 34, 35, 36, then 31 and 11, of a command that there is and that carries this.
+fn check_carried(command: &Command, carried: Carried, room: usize) -> Result<usize, Refusal>
     requires { CarriedBy command.now.sender command.now.code carried }
     ensures value { result ≡ written_as (command_into room (given_in command.now)) }
     ensures body_value { Bytes command.now.body.now }
@@ -77,4 +77,15 @@ pub fn check_command(command: &Command, carried: Carried, room: usize) -> Result
     }
     let whole = front_length(carried, command.name.len()) + command.body.len();
     fit(whole, MOST_BYTES, Refusal::CommandLong, room)
+}
+
+// The refusal, or the length of the command to be written into so much room: 33, then 30, 34, 35, 36,
+// then 31 and 11.
+pub fn check_command(command: &Command, room: usize) -> Result<usize, Refusal>
+    ensures value { result ≡ written_as (command_into room (given_in command.now)) }
+    ensures body_value { OnOk result (Bytes command.now.body.now) }
+{
+    let sender = Sender::try_from(command.sender)?;
+    let carried = mdp_rules::carries(sender, command.code)?;
+    check_carried(command, carried, room)
 }

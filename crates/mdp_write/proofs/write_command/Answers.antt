@@ -34,9 +34,9 @@ returns-in_err-carried-clause-out_after c =
 
 pub write_whole-requires-clause-body_in_bounds : goal.write_whole-requires-clause-body_in_bounds
 write_whole-requires-clause-body_in_bounds c =
-    (told_given (length c.args.out.now) (given_in c.args.command.now) c.check_command.ensures.body_value (sym c.in_ok-n.ensures.value)).fits
+    (told_given (length c.args.out.now) (given_in c.args.command.now) c.in_ok-n.ensures.body_value (sym c.in_ok-n.ensures.value)).fits
 
 pub returns-clause-out_after : goal.returns-clause-out_after
 returns-clause-out_after c =
-    let t = told_given (length c.args.out.now) (given_in c.args.command.now) c.check_command.ensures.body_value (sym c.in_ok-n.ensures.value) in
+    let t = told_given (length c.args.out.now) (given_in c.args.command.now) c.in_ok-n.ensures.body_value (sym c.in_ok-n.ensures.value) in
     c.write_whole.ensures ∙ ap (λ (a : Answer (List ℕ)). written_over a c.args.out.now) (sym t.writes)

@@ -17,15 +17,12 @@ write_topic-at-requires-clause-topic_in_bounds c =
     let room : Room c.args.draft.now (length c.args.out.now) = record { body = c.requires.payload_in_bounds } in
     lays_rest c.write_group-at.ensures _ (topic_fits room c.has_route.ensures c.has_topic.ensures refl)
 
-pub write_part_if-at-requires : goal.write_part_if-at-requires
-write_part_if-at-requires c =
-    let room : Room c.args.draft.now (length c.args.out.now) = record { body = c.requires.payload_in_bounds } in
-    lays_rest (lays_more c.write_group-at.ensures c.write_topic-at.ensures) _ (payload_fits room c.has_route.ensures c.has_topic.ensures c.has_payload.ensures)
-
 pub returns : goal.returns
 returns c =
     let room : Room c.args.draft.now (length c.args.out.now) = record { body = c.requires.payload_in_bounds } in
-    let laid = lays_more (lays_more c.write_group-at.ensures c.write_topic-at.ensures) c.write_part_if-at.ensures in
+    let upto_topic = lays_more c.write_group-at.ensures c.write_topic-at.ensures in
+    let payload_room = lays_rest upto_topic _ (payload_fits room c.has_route.ensures c.has_topic.ensures c.has_payload.ensures) in
+    let laid = lays_more upto_topic (lays_counted payload_room c.write_part_if-at.ensures.value c.write_part_if-at.ensures.out_after) in
     let fits = lays_rest laid (part_bytes (header_bytes c.args.draft.now.header)) (header_fits room c.has_route.ensures c.has_topic.ensures c.has_payload.ensures) in
     rw (body_parts c.args.draft.now c.has_route.ensures c.has_topic.ensures c.has_payload.ensures)
     (lays_more laid (lays_counted fits c.write_header.ensures.value c.write_header.ensures.out_after))

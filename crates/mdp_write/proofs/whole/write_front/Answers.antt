@@ -2,7 +2,7 @@
 use Rattle.std.proofs.Common.{◌≡◌, refl, sym, ◌∙◌, ℕ, ◌+◌, ◌-◌, ◌≤◌, List, [], ◌∷◌, ◌++◌, length}
 use borrow.Rule.Slice.PartMut.{put_mid}
 use Rattle.bytes_number.specs.WorkingLays.{Lays}
-use Rattle.bytes_number.proofs.Laying.{lays_more, lays_rest}
+use Rattle.bytes_number.proofs.Laying.{lays_more, lays_rest, lays_counted}
 use Rattle.frame_message.specs.Frame.{part_bytes, joined, part_if}
 use Rattle.frame_part_write.proofs.Writing.{part_laid}
 use Rattle.mdp_command.specs.Command.{has_name, has_address}
@@ -54,18 +54,17 @@ module _ (p : After-write_part) where
       let fits = lays_rest mark_laid (part_bytes numbered) code_fits in
       lays_more mark_laid (part_laid {p = numbered} {q = numbered} refl fits (p.write_part.ensures.value, p.write_part.ensures.out_after))
 
-pub write_part_if-requires : goal.write_part_if-requires
-write_part_if-requires c =
-    let p = (goal.at.write_part_if-requires c).After-write_part in
-    lays_rest (code_laid p) (joined (part_if c.has_name-named.result c.args.command.now.name.now)) (name_fits p)
-
 pub write_address-requires : goal.write_address-requires
 write_address-requires c =
     let p = (goal.at.write_address-requires c).After-write_part in
-    lays_rest (lays_more (code_laid p) c.write_part_if.ensures) (joined (address_parts c.has_address-addressed.result c.args.command.now.address.now)) (address_fits p)
+    let room = lays_rest (code_laid p) (joined (part_if c.has_name-named.result c.args.command.now.name.now)) (name_fits p) in
+    let name = lays_counted room c.write_part_if.ensures.value c.write_part_if.ensures.out_after in
+    lays_rest (lays_more (code_laid p) name) (joined (address_parts c.has_address-addressed.result c.args.command.now.address.now)) (address_fits p)
 
 pub returns : goal.returns
 returns c =
     let p = (goal.at.returns c).After-write_part in
+    let room = lays_rest (code_laid p) (joined (part_if c.has_name-named.result c.args.command.now.name.now)) (name_fits p) in
+    let name = lays_counted room c.write_part_if.ensures.value c.write_part_if.ensures.out_after in
     rw (front_bytes c.args.command.now.sender c.args.command.now.code c.args.command.now.name.now c.args.command.now.address.now (names p) (addresses p))
-    (lays_more (lays_more (code_laid p) c.write_part_if.ensures) c.write_address.ensures)
+    (lays_more (lays_more (code_laid p) name) c.write_address.ensures)
