@@ -49,7 +49,7 @@ pub fn text_end(bytes: &[u8], at: usize) -> Result<usize, usize>
             b'"' => return Ok(i + 1),
             b'\\' => i = escape_end(bytes, i + 1)?,
             0x20..=0x7F => i = plain_end(bytes, i),
-            lead => i = character_end(bytes, i, lead)?,
+            _ => i = character_end(bytes, i)?,
         }
     }
 }

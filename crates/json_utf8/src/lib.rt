@@ -57,10 +57,10 @@ fn second_end(bytes: &[u8], at: usize, lead: u8, more: u8) -> Result<usize, usiz
 }
 
 // A character of two bytes or more, by its first byte; it stops there, if this is no such byte.
-pub fn character_end(bytes: &[u8], at: usize, lead: u8) -> Result<usize, usize>
-    requires { lead ≡ get_or bytes.now at 0 }
-    ensures { result ≡ character_end at (tails_of lead) (drop (at + 1) bytes.now) }
+pub fn character_end(bytes: &[u8], at: usize) -> Result<usize, usize>
+    ensures { result ≡ character_end at (tails_of (get_or bytes.now at 0)) (drop (at + 1) bytes.now) }
 {
+    let lead = byte_at(bytes, at);
     let tails = tails_behind(lead);
     if tails == 0 {
         return Err(at);

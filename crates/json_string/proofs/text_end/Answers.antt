@@ -36,10 +36,10 @@ module _ {bytes : List ℕ} {at i y : ℕ} (b : At bytes at i y) where
   escaped : {r : Reached} → y ≡ 92 → Escaped bytes (i + 1) r → Goes bytes i r
   escaped e = text_escaped i (there (omega arith)) (omega (arith, b.is))
 
-  wide : {r : Reached} → (32 ≤ y → 127 < y) → r ≡ character_end i (tails_of y) (drop (i + 1) bytes) → Goes bytes i r
+  wide : {r : Reached} → (32 ≤ y → 127 < y) → r ≡ character_end i (tails_of (get_or bytes i 0)) (drop (i + 1) bytes) → Goes bytes i r
   wide {r} f told =
       text_wide bytes i (λ l. omega (arith, b.is, f (omega (arith, b.is, l)))) (λ e. omega (arith, b.is, f (omega (arith, b.is, e)), e))
-      (told ∙ ap (λ (x : ℕ). character_end i (tails_of x) (drop (i + 1) bytes)) b.is)
+      told
 
   closes : y ≡ 34 → Ok (i + 1) ≡ end
   closes e = sym (b.so_far ∙ from_closed (text behind) bytes i (there (omega arith)) behind (text_quote behind [] _ (omega (arith, b.is))))

@@ -10,19 +10,21 @@ use Rattle.json_utf8.proofs.character_end.Goals as goal
 pub returns-then-tails-eq0 : goal.returns-then-tails-eq0
 returns-then-tails-eq0 c =
     let xs = drop (c.args.at + 1) c.args.bytes.now in
-    ap (λ (ks : List Class). character_end c.args.at ks xs) (sym (no_tails (tails_of c.args.lead) (omega (arith, c.tails_behind-tails.ensures))))
+    let none = no_tails (tails_of c.byte_at-lead.result) (omega (arith, c.tails_behind-tails.ensures)) in
+    ap (λ (ks : List Class). character_end c.args.at ks xs) (sym none) ∙ ap (λ (lead : ℕ). character_end c.args.at (tails_of lead) xs) c.byte_at-lead.ensures
 
 pub overflow_add-at : goal.overflow_add-at
 overflow_add-at c =
-    let l = inside c.args.bytes.now c.args.at (λ z. omega (arith, c.requires, c.tails_behind-tails.ensures, no_lead_below c.args.lead (omega (arith, c.requires, z)))) in
+    let l = inside c.args.bytes.now c.args.at (λ z. omega (arith, c.tails_behind-tails.ensures, no_lead_below c.byte_at-lead.result (omega (arith, c.byte_at-lead.ensures, z)))) in
     omega (arith, l)
 
 pub returns : goal.returns
 returns c =
-    let lead = c.args.lead in
+    let lead = c.byte_at-lead.result in
     let from = c.args.at + 1 in
     let tails = c.tails_behind-tails.ensures in
     let less : c.tails_behind-tails.result - 1 ≡ length (tails_of lead) - 1 = omega (arith, tails) in
     c.second_end.ensures
     ∙ ap (λ (n : ℕ). rest_end (second_of lead ∷ replicate n tail) from (drop from c.args.bytes.now)) less
     ∙ ap (λ (ks : List Class). character_end c.args.at ks (drop from c.args.bytes.now)) (sym (second_first lead (omega (arith, tails))))
+    ∙ ap (λ (l : ℕ). character_end c.args.at (tails_of l) (drop from c.args.bytes.now)) c.byte_at-lead.ensures

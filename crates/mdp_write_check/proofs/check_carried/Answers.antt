@@ -1,12 +1,12 @@
 -- The refusals in their order, by what was looked at on the way.
 use Rattle.std.proofs.Common.{◌≡◌, Bool, Err, length, arith, rules, sym, ap₂, ◌∙◌}
-use Rattle.refusal.specs.declared.Refusal.TheVariants.{CommandPartWrong, CommandWrong}
+use Rattle.refusal.specs.declared.Refusal.TheVariants.{CommandPartWrong}
 use Rattle.mdp_command.specs.WorkingGiven.{given_in}
 use Rattle.mdp_rules.specs.WorkingCarried.{named, addressed}
 use Rattle.mdp_rules.proofs.Rules.{fits_as}
 use Rattle.mdp_write_check.specs.WorkingChecks.{front_length}
 use Rattle.mdp_write_check.proofs.Measuring.{name_short, front_most}
-use Rattle.mdp_write_check.proofs.Checking.{carried_of, unknown_of, no_sender, cut-none, cut_whole, named_as, addressed_as, check_unknown, check_malformed, check_count, check_name, check_address, check_measured}
+use Rattle.mdp_write_check.proofs.Checking.{cut-none, cut_whole, named_as, addressed_as, check_malformed, check_count, check_name, check_address, check_measured}
 use Rattle.mdp_write_check.proofs.check_carried.Goals as goal
 
 pub returns-in_err-parts-clause-value : goal.returns-in_err-parts-clause-value
