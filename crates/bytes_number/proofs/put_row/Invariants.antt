@@ -1,9 +1,6 @@
-use Rattle.std.proofs.Common.{length, ◌-◌}
+use Rattle.std.proofs.Common.{◌*◌}
 use Rattle.bytes_number.proofs.Rows.{Rowed}
 use Rattle.bytes_number.proofs.put_row.Given as goal
 
 abbrev pub invariant-loop-i : goal.invariant-loop-i
-invariant-loop-i l = Rowed l.row l.fn.out l.out l.at l.i
-
-abbrev pub decreases-loop-i : goal.decreases-loop-i
-decreases-loop-i l = length l.row - l.i
+invariant-loop-i l = Rowed l.row l.fn.out l.out (4 * l.i) l.i
