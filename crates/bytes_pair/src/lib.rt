@@ -9,18 +9,9 @@ ghost use Rattle.bytes_number.specs.WorkingLays.{laid_if_room};
 fn put_eight(out: &mut [u8], w: usize)
     ensures { out.new ≡ laid_if_room (four (w / 4294967296) ++ four w) out.old }
 {
-    let high = w / 4294967296;
-    let held = [
-        (high / 16777216 % 256) as u8,
-        (high / 65536 % 256) as u8,
-        (high / 256 % 256) as u8,
-        (high % 256) as u8,
-        (w / 16777216 % 256) as u8,
-        (w / 65536 % 256) as u8,
-        (w / 256 % 256) as u8,
-        (w % 256) as u8,
-    ];
-    bytes_copy::copy(&held, out);
+    if let Some(front) = out.first_chunk_mut() {
+        *front = w.to_be_bytes();
+    }
 }
 
 // The lowest four bytes of m, and then those of n, as one number.

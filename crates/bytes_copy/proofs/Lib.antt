@@ -1,3 +1,0 @@
--- Laws on copies.
-pub mod Held
-pub mod Copied
