@@ -5,13 +5,6 @@ ghost use Rattle.std.specs.Prelude.{◌≡◌, ◌∷◌, [], get_or, drop};
 ghost use Rattle.bytes_number.specs.Number.{number, four, row_bytes};
 ghost use Rattle.bytes_number.specs.WorkingLays.{laid_if_room};
 
-// A byte as a wider number. A call of its own, so that a byte read from a slice carries its range along.
-pub fn wide(x: u8) -> u32
-    ensures { result ≡ x }
-{
-    x as u32
-}
-
 // The number that four bytes are.
 pub fn number_of(a: u8, b: u8, c: u8, d: u8) -> u32
     ensures { result ≡ number (a ∷ b ∷ c ∷ d ∷ []) }

@@ -62,7 +62,7 @@ pub fn is_service(row: &[u8], ranks: usize) -> bool
     if rank as usize >= ranks {
         return false;
     }
-    let size = bytes_number::wide(row[4]) as usize;
+    let size = usize::from(row[4]);
     if size < 1 {
         return false;
     }

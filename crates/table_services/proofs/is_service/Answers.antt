@@ -11,17 +11,17 @@ returns-then-rank-ranks c =
     sym (whole_row c.args.ranks c.args.row.now (omega arith) ∙ bad_rank c.args.ranks c.args.row.now (omega (arith, c.number_at-rank.ensures, c.if-rank-ranks.true)))
 
 pub returns-then-size-lt1 : goal.returns-then-size-lt1
-returns-then-size-lt1 c = sym (whole_row c.args.ranks c.args.row.now (omega arith) ∙ bad_empty c.args.ranks c.args.row.now (omega (arith, c.wide-size.ensures)))
+returns-then-size-lt1 c = sym (whole_row c.args.ranks c.args.row.now (omega arith) ∙ bad_empty c.args.ranks c.args.row.now (omega (arith, c.from-size.ensures)))
 
 pub returns-then-size-gt-LONGEST : goal.returns-then-size-gt-LONGEST
-returns-then-size-gt-LONGEST c = sym (whole_row c.args.ranks c.args.row.now (omega arith) ∙ bad_long c.args.ranks c.args.row.now (omega (arith, c.wide-size.ensures)))
+returns-then-size-gt-LONGEST c = sym (whole_row c.args.ranks c.args.row.now (omega arith) ∙ bad_long c.args.ranks c.args.row.now (omega (arith, c.from-size.ensures)))
 
 pub returns : goal.returns
 returns c =
     let ranks = c.args.ranks in
     let row = c.args.row.now in
     let whole : length row ≡ 32 = omega arith in
-    let size = c.wide-size.ensures in
+    let size = c.from-size.ensures in
     c.strays.ensures
     ∙ ap (λ (n : ℕ). all_below 32 (λ at. may_stand (5 + n) at (get_or row at 0))) size
     ∙ stands_all row whole (omega (arith, size))
