@@ -1,8 +1,7 @@
-// What the tables share: one record, and bytes compared.
+// What the tables share: one record.
 #![tactic(auto)]
 
 ghost use Rattle.std.specs.Prelude.{◌≡◌};
-ghost use Rattle.table_records.specs.Bytes.{same_bytes};
 ghost use Rattle.table_records.specs.Records.{record_at};
 
 // The most records that a table has: ranks, services or identities.
@@ -25,12 +24,4 @@ pub fn record_at(table: &[u8], width: usize, i: usize) -> &[u8]
         return &table[at..];
     }
     &table[..0]
-}
-
-// Whether two slices hold the same bytes, to the end of both.
-#[tactic(auto, unfolding(crate::specs::Bytes::same_bytes))]
-pub fn same(a: &[u8], b: &[u8]) -> bool
-    ensures { result ≡ same_bytes a.now b.now }
-{
-    a == b
 }
