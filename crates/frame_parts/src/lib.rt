@@ -44,16 +44,19 @@ pub fn count_parts(body: &[u8], most: usize) -> Result<PartCounts, Stop>
         last: 0,
     };
     let mut at = 0;
-    // Stays a loop over a place: how far a part reaches is known only once its size is read, and a stop tells the place.
-    while at != body.len() {
+    // Stays a loop, which breaks with what is told: how far a part reaches is known only once its size is read.
+    loop {
+        if at == body.len() {
+            break Ok(counts);
+        }
         if counts.count == most {
-            return Err(Stop {
+            break Err(Stop {
                 why: Refusal::PartsMany,
                 at,
             });
         }
         let Some(size) = size_at(&body[at..]) else {
-            return Err(Stop {
+            break Err(Stop {
                 why: Refusal::PartWrong,
                 at,
             });
@@ -68,5 +71,4 @@ pub fn count_parts(body: &[u8], most: usize) -> Result<PartCounts, Stop>
         counts.last = at;
         at = next;
     }
-    Ok(counts)
 }

@@ -7,7 +7,7 @@ use native.Mathlib.Omega.{arith}
 use lib.ListN.{length, length-append}
 use Rattle.bytes_number.specs.Number.{four}
 use Rattle.frame_write_given.specs.declared.Draft.{Draft}
-use Rattle.frame_write_given.specs.Drafts.{drafted}
+use Rattle.frame_write_given.specs.WorkingDrafts.{drafted}
 use Rattle.frame_message.specs.Header.{has_topic, has_payload, has_route, header_bytes}
 use Rattle.frame_message.specs.Message.{Message}
 use Rattle.frame_message.specs.Frame.{part_bytes, joined, part_if, group_if, body_of, frame_of}

@@ -3,7 +3,7 @@ ghost use Rattle.std.specs.Prelude.{◌≡◌, ◌≤◌, ◌%◌, length};
 ghost use Rattle.bytes_number.specs.Laid.{laid};
 ghost use Rattle.frame_message.specs.Frame.{body_of, frame_of};
 ghost use Rattle.bytes_number.specs.WorkingLays.{Lays};
-ghost use Rattle.frame_write_given.specs.Drafts.{drafted};
+ghost use Rattle.frame_write_given.specs.WorkingDrafts.{drafted};
 
 use crate::part;
 use frame_message::{FRONT, START};

@@ -5,7 +5,7 @@ ghost use Rattle.std.specs.Prelude.{◌≡◌, length};
 ghost use Rattle.frame_message.specs.Writing.{writing_into};
 ghost use Rattle.frame_message.specs.Working.{written_as};
 ghost use Rattle.refusal.specs.Answer.{written_over};
-ghost use Rattle.frame_write_given.specs.Drafts.{drafted};
+ghost use Rattle.frame_write_given.specs.WorkingDrafts.{drafted};
 
 use frame_write_given::Draft;
 use refusal::Refusal;

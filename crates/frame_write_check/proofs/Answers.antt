@@ -11,7 +11,7 @@ use Rattle.refusal.proofs.Answers.{not_answered}
 use Rattle.refusal.specs.declared.Refusal.TheVariants.{BodyLong, TypeWrong, FlagWrong, PartsDisagree, RouteWrong, TopicWrong, FieldWrong, OutputShort}
 use Rattle.refusal.specs.Answer.{Answer, refused, answered, refuse_if}
 use Rattle.frame_write_given.specs.declared.Draft.{Draft}
-use Rattle.frame_write_given.specs.Drafts.{drafted}
+use Rattle.frame_write_given.specs.WorkingDrafts.{drafted}
 use Rattle.frame_message.specs.Header.{has_topic, is_type, are_flags, parts_fit, fields_good}
 use Rattle.frame_forms.specs.Forms.{is_topic}
 use Rattle.frame_message.specs.Frame.{body_of, frame_of}

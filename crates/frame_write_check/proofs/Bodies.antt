@@ -9,7 +9,7 @@ use lib.ListN.{length, length-append}
 use Rattle.frame_message.proofs.Parts.{joined-append}
 use Rattle.frame_message.proofs.Frames.{frame_long}
 use Rattle.frame_write_given.specs.declared.Draft.{Draft}
-use Rattle.frame_write_given.specs.Drafts.{drafted}
+use Rattle.frame_write_given.specs.WorkingDrafts.{drafted}
 use Rattle.frame_message.specs.Header.{has_topic, has_payload, has_route, header_bytes}
 use Rattle.frame_message.specs.Message.{Message}
 use Rattle.frame_message.specs.Frame.{part_bytes, joined, part_if, group_if, parts_of, body_of, frame_of}

@@ -1,7 +1,7 @@
 // How long the parts and the body are that will be written.
 ghost use Rattle.std.specs.Prelude.{◌≡◌, ◌≤◌, ◌%◌, length};
 ghost use Rattle.frame_message.specs.Frame.{body_of};
-ghost use Rattle.frame_write_given.specs.Drafts.{drafted};
+ghost use Rattle.frame_write_given.specs.WorkingDrafts.{drafted};
 ghost use Rattle.frame_write_check.specs.Working.{part_length, group_length};
 
 use frame_part_size::size_length;

@@ -6,7 +6,7 @@ ghost use Rattle.frame_message.specs.Header.{has_topic, parts_fit};
 ghost use Rattle.frame_forms.specs.Forms.{is_topic};
 ghost use Rattle.frame_message.specs.Writing.{parts_given_fit, routes_good, cut, writing_into};
 ghost use Rattle.frame_message.specs.Working.{written_as};
-ghost use Rattle.frame_write_given.specs.Drafts.{drafted};
+ghost use Rattle.frame_write_given.specs.WorkingDrafts.{drafted};
 ghost use Rattle.frame_write_check.specs.Working.{fitted, measured};
 
 use frame_message::{FRONT, MOST_BODY};

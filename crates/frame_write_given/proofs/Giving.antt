@@ -10,7 +10,7 @@ use borrow.Author.Tests.{ne_eqb, eqb-true}
 use Rattle.frame_message.specs.Header.{has_topic, has_payload, has_route, parts_fit}
 use Rattle.frame_message.specs.Writing.{is_empty, parts_given_fit, given_message}
 use Rattle.frame_write_given.specs.declared.Draft.{Draft}
-use Rattle.frame_write_given.specs.Drafts.{drafted}
+use Rattle.frame_write_given.specs.WorkingDrafts.{drafted}
 use Rattle.frame_write_given.proofs.Cuts.{cut_empty}
 
 empty_length : (xs : List ℕ) → eqb (length xs) 0 ≡ is_empty xs

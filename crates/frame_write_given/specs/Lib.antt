@@ -1,2 +1,2 @@
--- What the promises of the writer's functions cite. To be read behind frame_message/specs/Writing.antt.
-pub mod Drafts
+-- What begins with Working serves the proofs alone: nothing there has to be believed.
+pub mod WorkingDrafts

@@ -4,7 +4,7 @@
 ghost use Rattle.std.specs.Prelude.{◌≡◌, ◌&&◌, ◌||◌};
 ghost use Rattle.frame_message.specs.Header.{parts_fit};
 ghost use Rattle.frame_message.specs.Writing.{is_empty, parts_given_fit, routes_good, cut};
-ghost use Rattle.frame_write_given.specs.Drafts.{drafted};
+ghost use Rattle.frame_write_given.specs.WorkingDrafts.{drafted};
 
 use frame_message::Header;
 

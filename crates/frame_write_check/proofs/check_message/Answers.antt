@@ -1,7 +1,7 @@
 -- The writer's order, at the tests that led to each return.
 use Rattle.std.proofs.Common.{rules, ◌∙◌, not}
 use Rattle.frame_message.specs.Writing.{writing_into}
-use Rattle.frame_write_given.specs.Drafts.{drafted}
+use Rattle.frame_write_given.specs.WorkingDrafts.{drafted}
 use Rattle.frame_write_check.specs.Working.{measured}
 use Rattle.frame_write_check.proofs.Judging.{Order, order_is, told_type, told_flag, told_parts, told_route, told_topic, told_field, told_rest}
 use Rattle.frame_write_check.proofs.check_message.Goals as goal

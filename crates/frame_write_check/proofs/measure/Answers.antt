@@ -1,7 +1,7 @@
 -- What 6 to 10 let through is short enough to be added up, but for the payload.
 use Rattle.std.proofs.Common.{arith, refl, ◌∙◌}
 use Rattle.frame_write_given.proofs.Cuts.{good_few, good_whole}
-use Rattle.frame_write_given.specs.Drafts.{drafted}
+use Rattle.frame_write_given.specs.WorkingDrafts.{drafted}
 use Rattle.frame_write_check.proofs.Bodies.{body_most}
 use Rattle.frame_write_check.proofs.Judging.{topic_short, payload_long, measured_long, measured_fitted}
 use Rattle.frame_write_check.proofs.measure.Goals as goal

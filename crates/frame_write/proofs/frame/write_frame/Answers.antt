@@ -5,7 +5,7 @@ use Rattle.bytes_number.specs.Laid.{laid}
 use Rattle.bytes_number.specs.WorkingLays.{Lays}
 use Rattle.bytes_number.proofs.Buffers.{room_lent}
 use Rattle.bytes_number.proofs.Laying.{lays_room, lays_more}
-use Rattle.frame_write_given.specs.Drafts.{drafted}
+use Rattle.frame_write_given.specs.WorkingDrafts.{drafted}
 use Rattle.frame_write_check.proofs.Bodies.{frame_length_lem}
 use Rattle.frame_write.proofs.Bodies.{frame_bytes}
 use Rattle.frame_write.proofs.frame.write_frame.Goals as goal
