@@ -14,7 +14,8 @@ fn put_eight(out: &mut [u8], w: usize)
     }
 }
 
-// The lowest four bytes of m, and then those of n, as one number.
+// The lowest four bytes of m, and then those of n, as one number. Stays a function of its own: in one
+// with put_eight the compiler makes 31 instructions and not 22.
 fn joined(m: usize, n: usize) -> usize
     ensures { result ≡ m % 4294967296 * 4294967296 + n % 4294967296 }
 {

@@ -16,7 +16,7 @@ mod place;
 mod route;
 mod why;
 
-// A good frame has 0 and 0. 1, 2 and 3 have byte 0, which no other fault has.
+// Stays two numbers: the definition fault_of and lampreycoil_read_fault tell them so. A good frame has 0 and 0. 1, 2 and 3 have byte 0, which no other fault has.
 #[derive(Drop)]
 pub struct Fault {
     pub number: u32,

@@ -58,7 +58,7 @@ pub fn read_header(p: &[u8]) -> Result<Header, Refusal>
     Ok(fields(p))
 }
 
-// Writes a header's part to the front of out, if there is room for it, and tells how many bytes it has, or 0. The header lies in no slice: its
+// Writes a header's part to the front of out, if there is room for it, and tells how many bytes it has, or 0: a number, as write_part tells it. The header lies in no slice: its
 // twenty bytes, of which the last sixteen are four numbers, stand in an array first.
 pub fn write_header(out: &mut [u8], header: Header) -> usize
     ensures value { result ≡ laid_count (part_bytes (header_bytes header)) out.old }

@@ -6,7 +6,7 @@ ghost use Rattle.frame_message.specs.Header.{is_type, are_flags, parts_fit, fiel
 
 use frame_message::{Header, Kind};
 
-// The nodeid that never appears on the wire.
+// The nodeid that never appears on the wire. Stays a number: nodeids are.
 const NO_NODE: u32 = 4294967294;
 
 // The flag that is refused.

@@ -8,7 +8,8 @@ use frame_message::{FRONT, Header, Stretch};
 
 // A message in the caller's bytes: how many bytes its frame took, the header's fields, how many routes there are, where the first
 // one's data starts (0 without routes; they lie 38 bytes apart), the topic without its zero byte, and the payload. All places are
-// counted from the frame's front. Both numbers of a stretch are 0 where the part is absent.
+// counted from the frame's front. Both numbers of a stretch are 0 where the part is absent. They stay numbers: the record of
+// lampreycoil_read has them, and the definition layout_of.
 #[derive(Clone, Copy)]
 pub struct Layout {
     pub taken: usize,

@@ -28,6 +28,7 @@ fn frames_in(bytes: &[u8], list: &mut [u8]) -> Stopped
     let mut start = 0;
     let mut entries = 0;
     let mut used = 0;
+    // Stays a loop: it ends at the reader's refusal, wherever in the bytes that comes.
     loop {
         match frame_read::read(&bytes[start..]) {
             Err(refusal) => {

@@ -51,6 +51,7 @@ fn object_end(bytes: &[u8], at: usize, room: u8) -> Result<usize, Fault>
         return Ok(first.at + 1);
     }
     let mut i = first.at;
+    // Stays a loop over a place: how far a member reaches is known only once it is read.
     loop {
         let name = not_json(name_end(bytes, i))?;
         let t = token_at(bytes, name);
@@ -63,6 +64,7 @@ fn object_end(bytes: &[u8], at: usize, room: u8) -> Result<usize, Fault>
 }
 
 // An array at its opening byte, likewise.
+// Stays apart from object_end: one function for both would ask at each turn whether a name is due.
 #[cycle(array_end_object_end_value_end)]
 fn array_end(bytes: &[u8], at: usize, room: u8) -> Result<usize, Fault>
     requires { at < length bytes.now }
@@ -76,6 +78,7 @@ fn array_end(bytes: &[u8], at: usize, room: u8) -> Result<usize, Fault>
         return Ok(first.at + 1);
     }
     let mut i = first.at;
+    // Stays a loop over a place, likewise.
     loop {
         let t = token_at(bytes, i);
         let end = value_end(bytes, t.at, t.byte, room - 1)?;

@@ -63,6 +63,7 @@ pub fn plain_end(bytes: &[u8], at: usize) -> usize
     let mut i = at;
     if bytes.len() >= WORDS {
         let last = bytes.len() - WORDS;
+        // Stays a loop by index: a turn has two words, and a way out behind each.
         while i <= last {
             let here = marks(word_at(bytes, i));
             if here != 0 {

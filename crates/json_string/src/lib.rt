@@ -44,6 +44,7 @@ pub fn text_end(bytes: &[u8], at: usize) -> Result<usize, usize>
     ensures { result ≡ text_end at (drop at bytes.now) }
 {
     let mut i = at;
+    // Stays a loop over a place: how far an escape or a character reaches is known only once it is read.
     loop {
         match byte_at(bytes, i) {
             b'"' => return Ok(i + 1),

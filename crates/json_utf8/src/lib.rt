@@ -22,6 +22,7 @@ fn is_tail(c: u8) -> bool
 }
 
 // How many bytes come behind the first of a character of two bytes or more; 0 if this is no such byte.
+// Stays a count and no Option: it is the length of tails_of, which has none there.
 fn tails_behind(lead: u8) -> u8
     ensures { result ≡ length (tails_of lead) }
 {

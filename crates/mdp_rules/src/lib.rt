@@ -9,7 +9,8 @@ ghost use Rattle.mdp_rules.specs.WorkingCarried.{named, addressed, bodied, Carry
 use mdp_command::{MOST_PARTS, Sender};
 use refusal::Refusal;
 
-// A client's first command and its last.
+// A client's first command and its last. These stay numbers, as those of a worker: the calls take and
+// tell them so.
 const ASKS_FIRST: u8 = 1;
 
 const ASKS_LAST: u8 = 3;

@@ -7,7 +7,8 @@ ghost use Rattle.step_routing.specs.Requests.{registered, deliver_or, to_parent,
 use frame_message::Header;
 use step_routing::{Tables, Way};
 
-// The nodeid of any rank.
+// The nodeid of any rank. Stays a number, as the two below: they stand in messages, and the
+// definitions of specs/Requests.antt name them.
 const ANY_RANK: u32 = 4294967295;
 // No service: Linux's number for a function that is not implemented.
 const NO_SERVICE: u32 = 38;

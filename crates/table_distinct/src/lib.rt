@@ -68,6 +68,7 @@ fn look(table: &[u8], width: usize, next: &[u16; MOST_RECORDS], i: usize, start:
 {
     let mut at = start;
     let mut left = LONGEST;
+    // Stays a walk by numbers along the chain: no heap, so that the links stand in an array.
     while at != 0 {
         if left == 0 {
             return Seen::Crowded;
@@ -95,6 +96,7 @@ pub fn are_distinct(table: &[u8], width: u8, n: usize) -> bool
     }
     // By the length of the records alone the compiler knows that record i is whole.
     let records = &table[..n * size];
+    // Stay two arrays side by side: no heap, and no map without one.
     let mut head = [0u16; 4096];
     let mut next = [0u16; MOST_RECORDS];
     for i in 0..n {

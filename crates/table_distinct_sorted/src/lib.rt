@@ -54,6 +54,7 @@ pub fn are_distinct(table: &[u8], width: u8, n: usize) -> bool
     }
     // By the length of the records alone the compiler knows that record i is whole.
     let records = &table[..n * width];
+    // Stays an array whose first i numbers count: no heap.
     let mut order = [0u16; MOST_RECORDS];
     for i in 0..n {
         let at = place(records, width, &order, i);

@@ -43,10 +43,8 @@ fn strays(row: &[u8], end: u8) -> u8
     ensures { eqb result 0 ≡ all_below service_width (λ at. may_stand end at (get_or row.now at 0)) }
 {
     let mut n: u8 = 0;
-    let mut at = 0;
-    while at < WIDTH {
+    for at in 0..WIDTH {
         n += stray(row[at], at as u8, end);
-        at += 1;
     }
     n
 }

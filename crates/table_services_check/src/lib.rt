@@ -30,6 +30,7 @@ pub fn are_services(tree: &[u8], services: &[u8]) -> bool
 }
 
 // The service check: 14, then 15, or how many records there are.
+// Stays apart from check_identities: what they share is one test and its refusal.
 pub fn check_services(tree: &[u8], services: &[u8]) -> Result<usize, Refusal>
     ensures { result ≡ result_of (λ n. n) (services_check tree.now services.now) }
 {

@@ -9,7 +9,8 @@ use table_records::MOST_RECORDS;
 
 // Bytes a rank.
 const WIDTH: usize = 4;
-// The number that is no rank's: rank 0 holds it.
+// The number that is no rank's: rank 0 holds it. Stays a number: a tree's bytes have it, and so has
+// the definition parent_of.
 pub const NO_PARENT: u32 = 4294967295;
 
 // How many ranks the tree has.
@@ -31,7 +32,8 @@ pub fn parent_of(tree: &[u8], rank: u32) -> u32
     }
 }
 
-// The depth of a rank, and 17 where 16 parents do not lead from it to rank 0.
+// The depth of a rank, and 17 where 16 parents do not lead from it to rank 0. Stays a number: the
+// definition depth_of has the 17.
 pub fn depth_of(tree: &[u8], rank: u32) -> u8
     ensures { result ≡ depth_of tree.now rank }
 {
