@@ -7,13 +7,13 @@ use Rattle.call_table.proofs.check_tree.Goals as goal
 
 pub returns-then-row-lt-COUNT_RECORD : goal.returns-then-row-lt-COUNT_RECORD
 returns-then-row-lt-COUNT_RECORD c = let s = c.args in
-    fills_none (tree_short s.tree.now (length s.depths.now) (length s.row.now) c.if-row-lt-COUNT_RECORD.true) c.number.ensures
+    fills_none (tree_short s.tree.now (length s.depths.now) (length s.row.now) c.if-row-lt-COUNT_RECORD.true) c.from.ensures
 
 pub returns-in-Err : goal.returns-in-Err
 returns-in-Err c = let s = c.args in
     let r = c.in-Err in
     fills_on (tree_on s.tree.now (length s.depths.now) (length s.row.now) c.if-row-lt-COUNT_RECORD.false)
-    (fills_refused (tree_refused (depths_into (length s.depths.now) s.tree.now) r.r r.ensures.0) c.number-in-Err.ensures r.ensures.1)
+    (fills_refused (tree_refused (depths_into (length s.depths.now) s.tree.now) r.r r.ensures.0) c.from-in-Err.ensures r.ensures.1)
 
 pub returns-in-Ok : goal.returns-in-Ok
 returns-in-Ok c = let s = c.args in
