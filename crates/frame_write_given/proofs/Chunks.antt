@@ -30,10 +30,9 @@ module _ {s t : ChunksExact ℕ} (w : Whole s) where
   -- one is yielded
   pub whole_more : (x : Bor (List ℕ)) → chunks_exact_steps s (Some x) t → Whole t × (cut (chunks_exact_rest s) ≡ x.now ∷ cut (chunks_exact_rest t))
   whole_more x h =
-      let wide : length x.now ≡ 37 = h.1.1 ∙ w.size in
-      (
+      let wide : length x.now ≡ 37 = h.1.1 ∙ w.size in (
         record { size = h.0 ∙ w.size; whole = omega (arith, length-append x.now (chunks_exact_rest t), ap length h.1.0, w.whole, wide) },
-        ap cut h.1.0 ∙ cut_front x.now (chunks_exact_rest t) wide
+        ap cut h.1.0 ∙ cut_front x.now (chunks_exact_rest t) wide,
       )
 
   -- or none is left
