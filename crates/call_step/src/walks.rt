@@ -18,9 +18,7 @@ pub fn walk(t: Tables, rank: u32, buffer: &mut [u8], row: &mut [u8]) -> u32
     }
     let b = Broker { rank, ..NOBODY };
     let walked = walk::walk(t, b, buffer);
-    bytes_number::put_row(
-        row,
-        &call_step_record::walk_row(walked, frame_length(buffer)),
-    );
+    let numbers = call_step_record::walk_row(walked, frame_length(buffer));
+    bytes_number::put_row(row, &numbers);
     call_step_record::refusal_in(walked.step)
 }
