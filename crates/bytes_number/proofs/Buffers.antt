@@ -1,12 +1,12 @@
 -- Laws on bytes laid over the front of a buffer.
 use mathlib.Core.Path.{◌≡◌, refl, ap}
 use Prim.Native.Nat.{ℕ, ◌+◌, ◌-◌, ◌<◌, ◌≤◌}
-use mathlib.Core.List.{List, ◌++◌, append_assoc}
+use mathlib.Core.List.{List, [], ◌∷◌, ◌++◌, append_assoc}
 use native.Mathlib.Omega.{arith}
 use native.Mathlib.Decide.{dec_le}
 use native.Mathlib.Nat.{lt_of_not-le}
 use borrow.Author.Tests.{le-leb, lt-leb}
-use lib.ListN.{length, take, drop, length-append, length-drop}
+use lib.ListN.{length, take, drop, set, length-append, length-drop}
 use lib.Seq.{take_at, drop_at, drop-drop}
 use borrow.Author.Rules.{part_to_end}
 use borrow.Rule.Slice.PartMut.{mid_of, put_mid, same_len_mid}
@@ -52,3 +52,11 @@ count_within xs at out h e = omega (arith, count_most xs (mid_of at (length out 
 pub laid_more : (w x out : List ℕ) → take (length w) (laid w out) ++ laid x (drop (length w) (laid w out)) ≡ laid (w ++ x) out
 laid_more w x out =
     rw (take_at w (drop (length w) out) (length w) refl, drop_at w (drop (length w) out) (length w) refl, drop-drop, length-append, append_assoc)
+
+-- four stores at the front
+pub four_stores : (out : List ℕ) (a b c d : ℕ) → 4 ≤ length out → set (set (set (set out 0 a) 1 b) 2 c) 3 d ≡ laid (a ∷ b ∷ c ∷ d ∷ []) out
+four_stores [] a b c d h = absurd (omega arith)
+four_stores (p ∷ []) a b c d h = absurd (omega arith)
+four_stores (p ∷ q ∷ []) a b c d h = absurd (omega arith)
+four_stores (p ∷ q ∷ r ∷ []) a b c d h = absurd (omega arith)
+four_stores (p ∷ q ∷ r ∷ s ∷ rest) a b c d h = refl

@@ -1,10 +1,11 @@
 -- Laws on bytes and on numbers of four bytes.
-use mathlib.Core.Path.{◌≡◌}
+use mathlib.Core.Path.{◌≡◌, refl}
 use Prim.Native.Nat.{ℕ, zero, suc, ◌+◌, ◌*◌, ◌/◌, ◌%◌, ◌<◌, ◌≤◌}
 use mathlib.Core.List.{List, [], ◌∷◌, ◌++◌}
 use native.Mathlib.Omega.{arith}
-use native.Mathlib.Nat.{not-suc-le-zero, div-div-eq-div-mul, div-add-mod'}
+use native.Mathlib.Nat.{add-zero, not-suc-le-zero, div-div-eq-div-mul, div-add-mod'}
 use lib.ListN.{length, get_or, take, drop}
+use lib.Seq.{get_or-drop}
 use Rattle.bytes_number.specs.Number.{number, four, Bytes}
 
 -- a list whose every place holds a byte, as the rule for a slice of bytes has it
@@ -58,3 +59,7 @@ four-number (p ∷ q ∷ r ∷ s ∷ rest) h (bp, (bq, (br, (bs, _)))) =
     let e₃ : n / 256 % 256 ≡ r = omega arith in
     let e₄ : n % 256 ≡ s = omega arith in
     cc
+
+-- the number that four bytes at a place are
+pub number_at : (xs : List ℕ) (at : ℕ) → number (get_or xs at 0 ∷ get_or xs (at + 1) 0 ∷ get_or xs (at + 2) 0 ∷ get_or xs (at + 3) 0 ∷ []) ≡ number (drop at xs)
+number_at xs at = rw (get_or-drop at xs 0 0, get_or-drop at xs 1 0, get_or-drop at xs 2 0, get_or-drop at xs 3 0, add-zero) refl
