@@ -1,0 +1,2 @@
+-- Laws on copies.
+pub mod Held
