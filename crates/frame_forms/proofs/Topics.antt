@@ -17,6 +17,10 @@ no_zero_found (x ∷ xs) = rw (no_zero_found xs) (by_first (eqb x 0) (list_any (
     by_first true b = refl
     by_first false b = refl
 
+pub topic_empty : (xs : List ℕ) → length xs < 1 → is_topic xs ≡ false
+unfolding is_topic
+topic_empty xs h = rw (lt-leb 1 (length xs) h)
+
 pub topic_long : (xs : List ℕ) → 1 ≤ length xs → 255 < length xs → is_topic xs ≡ false
 unfolding is_topic
 topic_long xs h k = rw (le-leb 1 (length xs) h, lt-leb (length xs) 255 k)
