@@ -1,0 +1,2 @@
+-- Laws on the part that holds a topic.
+pub mod Topics
