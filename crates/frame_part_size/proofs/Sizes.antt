@@ -1,6 +1,6 @@
 -- The size in front of a part: a law for each of its cases.
 use mathlib.Core.Path.{◌≡◌, refl, sym, ap, ◌∙◌}
-use Prim.Native.Nat.{ℕ, suc, ◌+◌, ◌<◌, ◌≤◌}
+use Prim.Native.Nat.{ℕ, suc, ◌+◌, ◌-◌, ◌<◌, ◌≤◌}
 use mathlib.Core.List.{List, [], ◌∷◌}
 use native.Mathlib.Omega.{arith}
 use borrow.Author.Tests.{lt-ltb, le-ltb}
@@ -77,7 +77,15 @@ size_short (x ∷ xs) n p e h = go (dec_lt (length xs) x)
         let fits : x ≤ length xs = omega arith in
         rw (e, short_cut x xs small fits, length-take-le x xs fits, sized_short x small, le-ltb (suc (length xs)) (1 + x) (omega arith))
 
+pub size_short_passes : (s : List ℕ) → 0 < length s → get_or s 0 0 < 255 → length s - 1 < get_or s 0 0 → None ≡ size_at s
+size_short_passes [] p h k = absurd (omega arith)
+size_short_passes (x ∷ xs) p h k = rw (short_passes x xs h (omega arith))
+
 -- it is 255, and the size has four bytes more: n is the number in them
+pub size_cut : (s : List ℕ) → 0 < length s → 255 ≤ get_or s 0 0 → length s - 1 < 4 → None ≡ size_at s
+size_cut [] p h k = absurd (omega arith)
+size_cut (x ∷ xs) p h k = rw (no_size x xs h (omega arith))
+
 module _ (x : ℕ) (xs : List ℕ) (n : ℕ) (e : n ≡ number xs) (h : 255 ≤ x) where
   long_small : n < 255 → first_part x xs ≡ refused PartWrong
   long_small l = go (dec_lt (length xs) 4)
@@ -106,6 +114,13 @@ size_small (x ∷ xs) n e h l = rw (long_small x xs n e h l)
 pub size_long : (s : List ℕ) (n : ℕ) → n ≡ number (drop 1 s) → 255 ≤ get_or s 0 0 → 255 ≤ n → data_at (length s) 5 n ≡ size_at s
 size_long [] n e h l = absurd (omega arith)
 size_long (x ∷ xs) n e h l = long_data x xs n e h l
+
+pub size_long_passes : (s : List ℕ) (n : ℕ) → 255 ≤ get_or s 0 0 → 4 ≤ length s - 1 → n ≡ number (drop 1 s) → 255 ≤ n → length s - 1 - 4 < n → None ≡ size_at s
+size_long_passes [] n h k e l m = absurd (omega arith)
+size_long_passes (x ∷ xs) n h k e l m = rw (long_passes x xs h (omega arith) (rw e at l) (simp length-drop (rw e at (left m))))
+  where
+    left : suc (length xs) - 1 - 4 < n → length xs - 4 < n
+    left m = omega arith
 
 -- ---- the other way: what the size tells of the part
 
