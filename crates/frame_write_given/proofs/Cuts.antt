@@ -1,6 +1,6 @@
 -- Laws on the bytes given as routes, cut into routes of 37 bytes: one route at a time, from the front.
 use mathlib.Core.Path.{◌≡◌, refl, sym, ap, ◌∙◌}
-use mathlib.Core.Bool.{true, false, ◌&&◌, and-false, true≢false}
+use mathlib.Core.Bool.{Bool, true, false, ◌&&◌, and-false, true≢false}
 use Prim.Native.Nat.{ℕ, zero, suc, ◌+◌, ◌-◌, ◌*◌, ◌/◌, ◌%◌, ◌<◌, ◌≤◌}
 use mathlib.Core.List.{List, [], ◌∷◌}
 use native.Mathlib.Omega.{arith}
@@ -8,7 +8,7 @@ use native.Mathlib.Decide.{dec_le, ℕ_discrete}
 use native.Mathlib.Nat.{not-suc-le-zero, lt_of_not-le}
 use lib.Dec.{leb}
 use lib.ListN.{length, take, drop, length-append, length-take, length-drop}
-use lib.Seq.{length-take-le}
+use lib.Seq.{length-take-le, drop-drop}
 use borrow.Author.Tests.{le-leb, lt-leb}
 use Rattle.frame_forms.specs.Forms.{is_route}
 use Rattle.frame_message.specs.Frame.{part_bytes, joined}
@@ -37,6 +37,10 @@ cut_more (x ∷ xs) h =
 -- how long the stretch of a route is
 pub route_width : (i : ℕ) → i + 37 - i ≡ 37
 route_width i = omega arith
+
+-- whether each route from i on is of the form, of which the code looks at the stretch from i to i + 37
+pub all_next : (xs : List ℕ) (i : ℕ) {good : Bool} → i < length xs → good ≡ is_route (take (i + 37 - i) (drop i xs)) → all_routes (cut (drop i xs)) ≡ (good && all_routes (cut (drop (i + 37) xs)))
+all_next xs i h e = rw (cut_more (drop i xs) (simp length-drop (omega arith)), drop-drop, e, route_width i)
 
 pub cut_empty : (xs : List ℕ) → is_empty (cut xs) ≡ is_empty xs
 cut_empty [] = refl
