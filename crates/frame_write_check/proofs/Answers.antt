@@ -8,6 +8,7 @@ use lib.Dec.{ltb}
 use lib.ListN.{length}
 use borrow.Author.Tests.{not-false, ltb-false}
 use Rattle.refusal.proofs.Answers.{not_answered}
+use Rattle.refusal.specs.declared.Refusal.{Refusal}
 use Rattle.refusal.specs.declared.Refusal.TheVariants.{BodyLong, TypeWrong, FlagWrong, PartsDisagree, RouteWrong, TopicWrong, FieldWrong, OutputShort}
 use Rattle.refusal.specs.Answer.{Answer, refused, answered, refuse_if}
 use Rattle.frame_write_given.specs.declared.Draft.{Draft}
@@ -17,10 +18,14 @@ use Rattle.frame_forms.specs.Forms.{is_topic}
 use Rattle.frame_message.specs.Frame.{body_of, frame_of}
 use Rattle.frame_message.specs.Writing.{parts_given_fit, routes_good, cut, writing_into}
 use Rattle.frame_message.specs.Working.{written_as}
-use Rattle.std.specs.Prelude.{Ok}
+use Rattle.std.specs.Prelude.{Ok, Err}
 use Rattle.frame_write_check.specs.Working.{measured}
 use Rattle.frame_write_given.proofs.Cuts.{good_whole}
 use Rattle.frame_write_check.proofs.Judging.{order_is, topic_short}
+
+pub told_refused : (a : Answer (List ℕ)) {r : Refusal} → written_as a ≡ Err r → a ≡ refused r
+told_refused (refused s) e = cc
+told_refused (answered frame) e = absurd (let z : ◌≡◌ {A = ℕ} 0 1 = cc in omega arith)
 
 told_frame : (a : Answer (List ℕ)) {n : ℕ} → written_as a ≡ Ok n → (frame : List ℕ) × (a ≡ answered frame) × (n ≡ length frame)
 told_frame (refused s) e = absurd (let z : ◌≡◌ {A = ℕ} 0 1 = cc in omega arith)

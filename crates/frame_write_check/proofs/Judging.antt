@@ -20,7 +20,7 @@ use Rattle.frame_forms.specs.Forms.{is_topic}
 use Rattle.frame_message.specs.Frame.{body_of, frame_of}
 use Rattle.frame_message.specs.Writing.{is_empty, parts_given_fit, routes_good, cut, writing, writing_into, given_message}
 use Rattle.frame_message.specs.Working.{written_as}
-use Rattle.std.specs.Prelude.{Err}
+use Rattle.std.specs.Prelude.{Ok, Err}
 use Rattle.frame_write_check.specs.Working.{measured, fitted}
 use Rattle.frame_forms.proofs.Topics.{topic_long}
 use Rattle.frame_write_given.proofs.Giving.{is_empty_lem, agrees}
@@ -112,6 +112,14 @@ module _ (room : ℕ) (m : Message) where
   pub measured_long : 32768 < length (body_of m) → Err BodyLong ≡ written_as (measured room m)
   unfolding measured
   measured_long l = rw (lt-ltb 32768 (length (body_of m)) l)
+
+  pub measured_short : length (body_of m) ≤ 32768 → room < length (frame_of m) → Err OutputShort ≡ written_as (measured room m)
+  unfolding measured
+  measured_short l h = rw (le-ltb 32768 (length (body_of m)) l, lt-ltb room (length (frame_of m)) h)
+
+  pub measured_fits : {n : ℕ} → length (body_of m) ≤ 32768 → length (frame_of m) ≤ room → n ≡ length (frame_of m) → Ok n ≡ written_as (measured room m)
+  unfolding measured
+  measured_fits l h e = rw (le-ltb 32768 (length (body_of m)) l, le-ltb room (length (frame_of m)) h, e)
 
   -- a frame is eight bytes longer than its body, and so is the most that it may have
   pub measured_fitted : {n : ℕ} → n ≡ length (body_of m) → fitted (8 + n) 32776 BodyLong room ≡ written_as (measured room m)
