@@ -23,7 +23,7 @@ begun_none routes lent w e = record { left = w; done = []; lays = lays_none lent
 
 module _ {routes lent out : List ℕ} {at : ℕ} {s : ChunksExact ℕ} (b : Begun routes lent out at s) (room : length (joined (cut routes)) ≤ length lent) where
   -- what is laid and what is left have room
-  begun_room : length b.done + length (joined (cut (chunks_exact_rest s))) ≤ length lent
+  pub begun_room : length b.done + length (joined (cut (chunks_exact_rest s))) ≤ length lent
   begun_room = omega (arith, simp length-append at (ap length b.rest))
 
   pub begun_length : length out ≡ length lent
