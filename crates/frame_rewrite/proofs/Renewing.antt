@@ -3,7 +3,9 @@ use mathlib.Core.Path.{◌≡◌, refl, sym, ap, ap₂, ◌∙◌}
 use Prim.Native.Nat.{ℕ, ◌+◌, ◌-◌, ◌<◌, ◌≤◌}
 use native.Mathlib.Omega.{arith}
 use mathlib.Core.List.{List, [], ◌∷◌, ◌++◌, append-nil, append_assoc}
-use borrow.Author.Tests.{le-leb, lt-ltb}
+use borrow.Author.Tests.{le-leb, lt-ltb, lt-leb, le-ltb}
+use lib.Dec.{leb, ltb}
+use Rattle.bytes_number.proofs.Truth.{and_right_fails}
 use lib.ListN.{length, take, drop, replicate, length-drop, length-append, drop_of_length-le, take-append-drop}
 use lib.Seq.{length-take-le, take-append-add, take_at, drop_at, drop-drop, take-add}
 use borrow.Author.Rules.{part_to_end}
@@ -106,6 +108,16 @@ module _ (b part : List ℕ) (size : ℕ) (short : length part < 255) (few : siz
           e₃ ∙ ap (λ (l : List ℕ). renewed l (put_mid 8 (length b₁ - 8) b₁ last)) in_place ∙ renewed_as (part_bytes part ++ body_in size b) (put_mid 8 (length b₁ - 8) b₁ last) b put_long
           ∙ sym (rw (lt-ltb (length part) 255 short, le-leb size 32768 few, le-leb (9 + length part + size) (length b) (omega arith)))
 
+module _ (b part : List ℕ) (size : ℕ) where
+  pub part_large : 255 ≤ length part → with_part part size b ≡ b
+  part_large h = rw (le-ltb (length part) 255 h)
+
+  pub part_many : 32768 < size → with_part part size b ≡ b
+  part_many h = rw (lt-leb size 32768 h, and_right_fails (ltb (length part) 255) refl)
+
+  pub part_tight : length b < 9 + length part + size → with_part part size b ≡ b
+  part_tight h = rw (lt-leb (9 + length part + size) (length b) h, and_right_fails (leb size 32768) refl, and_right_fails (ltb (length part) 255) refl)
+
 -- ---- the body without its front
 
 drop-taken : (n size : ℕ) (xs : List ℕ) → n ≤ size → size ≤ length xs → drop n (take size xs) ≡ take (size - n) (drop n xs)
@@ -142,6 +154,16 @@ module _ (b : List ℕ) (n size : ℕ) (few : size ≤ 32768) (within : n ≤ si
       e₂ ∙ ap (λ (l : List ℕ). renewed l b₁) kept ∙ renewed_as (drop n (body_in size b)) b₁ b shifted_long
       ∙ sym (rw (le-leb size 32768 few, le-leb n size within, le-leb (8 + size) (length b) fits))
 
+module _ (b : List ℕ) (n size : ℕ) where
+  pub front-many : 32768 < size → without_front n size b ≡ b
+  front-many h = rw (lt-leb size 32768 h)
+
+  pub front_past : size < n → without_front n size b ≡ b
+  front_past h = rw (lt-leb n size h, and_right_fails (leb size 32768) refl)
+
+  pub front_cut : length b < 8 + size → without_front n size b ≡ b
+  front_cut h = rw (lt-leb (8 + size) (length b) h, and_right_fails (leb n size) refl, and_right_fails (leb size 32768) refl)
+
 -- ---- a header behind the front of the body
 
 module _ (b : List ℕ) (h : Header) (size : ℕ) (few : size ≤ 32768) (fits : 8 + (size + 21) ≤ length b) {last : List ℕ} (e₁ : last ≡ laid_if_room (part_bytes (header_bytes h)) (mid_of (8 + size) (length b - (8 + size)) b)) where
@@ -173,3 +195,10 @@ module _ (b : List ℕ) (h : Header) (size : ℕ) (few : size ≤ 32768) (fits :
   header_put e₂ =
       e₂ ∙ ap (λ (l : List ℕ). renewed l headed) headed_body ∙ renewed_as (body_in size b ++ part_bytes (header_bytes h)) headed b headed_long
       ∙ sym (rw (le-leb size 32768 few, le-leb (8 + (size + 21)) (length b) fits))
+
+module _ (b : List ℕ) (h : Header) (size : ℕ) where
+  pub header-many : 32768 < size → with_header h size b ≡ b
+  header-many l = rw (lt-leb size 32768 l)
+
+  pub header_tight : length b < 8 + (size + 21) → with_header h size b ≡ b
+  header_tight l = rw (lt-leb (8 + (size + 21)) (length b) l, and_right_fails (leb size 32768) refl)
