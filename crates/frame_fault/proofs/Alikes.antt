@@ -1,9 +1,10 @@
--- The leading parts of a route's size: what they add to the counting of the others.
+-- The leading parts of a route's size: how many they are, and what they add to the counting of the others.
 use mathlib.Core.Path.{◌≡◌, refl, sym, ap, subst, ◌∙◌}
-use Prim.Native.Nat.{ℕ, zero, suc, ◌+◌, ◌-◌, ◌*◌, ◌<◌}
+use Prim.Native.Nat.{ℕ, zero, suc, ◌+◌, ◌-◌, ◌*◌, ◌<◌, ◌≤◌}
 use native.Mathlib.Numerals.{add-one}
 use mathlib.Core.List.{List, [], ◌∷◌, ◌++◌, append_assoc}
 use native.Mathlib.Omega.{arith}
+use native.Mathlib.Decide.{dec_lt}
 use borrow.Author.Tests.{le-ltb}
 use lib.ListN.{length, get_or, drop, length-append, length-drop}
 use Rattle.bytes_number.specs.Number.{Bytes}
@@ -22,6 +23,39 @@ use Rattle.frame_parts.specs.WorkingCounting.{stop_byte, counted_as, counting_of
 use Rattle.frame_parts.proofs.Passing.{Passed, passed_none, passed_none_empty}
 use Rattle.frame_fault.specs.WorkingAlike.{Alike}
 use Rattle.frame_fault.proofs.Sizes.{byte_there}
+
+-- ---- how many they are
+
+pub alike_none : (body : List ℕ) → Alike body 0
+alike_none body = record { sizes = λ k h. absurd (omega arith); behind = λ h. absurd (omega arith); most = omega arith }
+
+pub alike_more : {body : List ℕ} {n : ℕ} → Alike body n → {at : ℕ} → at ≡ 38 * n → n < 64 → get_or body at 0 ≡ 37 → at + 38 < length body → Alike body (suc n)
+alike_more {body} {n} a {at} e few size room = record { sizes = sizes; behind = λ h. omega arith; most = omega arith }
+  where
+    sizes : (k : ℕ) → k < suc n → get_or body (38 * k) 0 ≡ 37
+    sizes k h = go (dec_lt k n)
+      where
+        go : Dec (k < n) → get_or body (38 * k) 0 ≡ 37
+        go (yes l) = a.sizes k l
+        go (no l) = let same : 38 * k ≡ at = omega arith in ap (λ (m : ℕ). get_or body m 0) same ∙ size
+
+-- four at a time
+pub alike_four : {body : List ℕ} {n at : ℕ} → Alike body n → at ≡ 38 * n → n + 4 ≤ 64 → at + 152 < length body →
+    get_or body at 0 ≡ 37 → get_or body (at + 38) 0 ≡ 37 → get_or body (at + 76) 0 ≡ 37 → get_or body (at + 114) 0 ≡ 37 → Alike body (n + 4)
+alike_four {body} {n} {at} a e few room one two three four =
+    let a₁ = alike_more a e (omega arith) one (omega arith) in
+    let a₂ = alike_more a₁ {at = at + 38} (omega arith) (omega arith) two (omega arith) in
+    let a₃ = alike_more a₂ {at = at + 76} (omega arith) (omega arith) three (omega arith) in
+    let a₄ = alike_more a₃ {at = at + 114} (omega arith) (omega arith) four (omega arith) in
+    let last : suc (suc (suc (suc n))) ≡ n + 4 = omega arith in
+    subst (Alike body) last a₄
+
+pub alike_within : {body : List ℕ} {n : ℕ} → Alike body n → 38 * n ≤ length body
+alike_within {body} {n} a = go (dec_lt 0 n)
+  where
+    go : Dec (0 < n) → 38 * n ≤ length body
+    go (yes h) = omega (arith, a.behind h)
+    go (no h) = omega arith
 
 alike_less : {body : List ℕ} {n : ℕ} → Alike body (suc n) → Alike body n
 alike_less a =

@@ -145,6 +145,11 @@ module _ (b : List ℕ) where
   unfolding fault_of
   fault_at e number byte = rw (e, number, byte)
 
+  -- of a frame whose body was counted
+  pub fault_counted : {body : List ℕ} {n at : ℕ} → body ≡ body_in b → n ≡ fault_number (reading_of b) → at ≡ byte_for n (fault_bytes (whole_parts 68 body)) → ◌≡◌ {A = Fault} (record { number = n; byte = at }) (fault_of b)
+  unfolding fault_of
+  fault_counted same number byte = rw (byte, same, number)
+
   -- of a frame whose body is all there
   module _ {body : List ℕ} (o : Opens b body) {r : Refusal} where
     pub body_refuses : reading_of b ≡ refused r → IsRefused body r

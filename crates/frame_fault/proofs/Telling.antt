@@ -12,17 +12,27 @@ use Rattle.refusal.specs.declared.Refusal.TheVariants.{PartsDisagree, RouteWrong
 use Rattle.refusal.specs.Answer.{Answer, and_then}
 use Rattle.frame_message.specs.declared.Header.{Header}
 use Rattle.frame_message.specs.Header.{has_route, parts_fit, header_in}
+use Rattle.frame_message.specs.Message.{Message}
 use Rattle.frame_message.specs.Working.{is_header}
 use Rattle.frame_message.specs.Reading.{parts_in, front, final, parts_agree, judged_as, judged}
 use Rattle.frame_message.proofs.Headers.{header_tested, header_answers}
 use Rattle.frame_message.proofs.Parts.{split}
+use Rattle.std.specs.Prelude.{Ok}
 use Rattle.frame_parts.specs.declared.PartCounts.{PartCounts}
+use Rattle.frame_layout.specs.declared.Layout.{Layout}
+use Rattle.frame_layout.specs.WorkingPlacing.{read_as}
 use Rattle.frame_body.specs.WorkingJudging.{parts_found, parts_wanted, CountsOf, Headed}
 use Rattle.frame_body.proofs.Agreeing.{empty_low, agree_tested, many_routes}
 use Rattle.frame_body.proofs.Sorting.{judged_parts, judged_routes}
-use Rattle.frame_fault.specs.Fault.{header_of_parts}
+use Rattle.frame_body.proofs.Readings.{accepted_read}
+use Rattle.frame_fault.specs.Fault.{header_of_parts, fault_number}
 use Rattle.frame_fault.specs.WorkingFaults.{IsRefused}
 use Rattle.frame_fault.proofs.Parts.{header-byte}
+
+-- ---- the number of what is read
+
+pub accepted_number : (a : Answer Message) {l : Layout} → Ok l ≡ read_as a → 0 ≡ fault_number a
+accepted_number a e = sym (ap fault_number (accepted_read a e).is)
 
 -- ---- 7 and 8, by the header's type and flags
 
