@@ -1,2 +1,3 @@
 -- Laws on copies.
 pub mod Held
+pub mod Copied
