@@ -48,6 +48,10 @@ module _ (row : List ℕ) (rank : ℕ) (service : List ℕ) where
       rw (same_lengths (name_in row) service (λ q. absurd (omega (arith, simp (length-take, length-drop) at q))))
       (right-fails (leb 1 (length service)) (right-fails (eqb (rank_in row) rank) (right-fails (eqb (name_length row) (length service)) refl)))
 
+  pub rest_same : 1 ≤ length service → rank_in row ≡ rank → name_length row ≡ length service → registers row rank service ≡ same_bytes (take (length service) (drop 5 row)) service
+  unfolding registers
+  rest_same h1 hr hl = rw (le-leb _ _ h1, eq-eqb _ _ hr, hl, eq-eqb _ _ refl) refl
+
   -- the bytes behind the length begin with the service
   pub begins : 1 ≤ length service → rank_in row ≡ rank → name_length row ≡ length service → starts_with eqb (drop 5 row) service ≡ registers row rank service
   unfolding registers same_bytes
