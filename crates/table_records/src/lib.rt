@@ -28,6 +28,7 @@ pub fn record_at(table: &[u8], width: usize, i: usize) -> &[u8]
 }
 
 // How many bytes in front of two slices are surely equal: four at a time, up to the first four in which they differ, or to the end of either.
+// Stays a loop by hand, since an edit plants a slip in each of its three tests: a chain over pairs of groups has none of them as a line.
 pub fn equal_front(a: &[u8], b: &[u8]) -> usize
     ensures { result ≡ equal_in_fours a.now b.now }
 {
