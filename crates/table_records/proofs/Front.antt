@@ -1,6 +1,6 @@
 -- Laws on what two slices begin with.
 use mathlib.Core.Path.{◌≡◌, refl, sym, ap, ◌∙◌}
-use mathlib.Core.Bool.{false}
+use mathlib.Core.Bool.{Bool, false}
 use mathlib.Core.List.{List, [], ◌∷◌}
 use mathlib.Core.Logic.{⊎_elim}
 use Prim.Native.Nat.{ℕ, zero, suc, ◌+◌, ◌*◌, ◌-◌, ◌/◌, ◌<◌, ◌≤◌}
@@ -9,6 +9,8 @@ use native.Mathlib.Omega.{arith}
 use borrow.Author.Tests.{eq-eqb}
 use lib.ListN.{length, take, drop, length-take, length-drop}
 use lib.Seq.{take-add, drop-drop}
+use Rattle.std.specs.List.{zip, prefix_len}
+use Rattle.std.specs.Simd.{first_chunks}
 use Rattle.bytes_number.specs.Number.{number, four, Bytes}
 use Rattle.bytes_number.proofs.Numbers.{four-number, bytes_drop}
 use Rattle.bytes_number.proofs.Truth.{outcome}
@@ -106,3 +108,21 @@ module _ (a b : List ℕ) (i : ℕ) where
       fours_more e =
           let same : take 4 (drop i a) ≡ take 4 (drop i b) = sym group ∙ ap four e ∙ group_other in
           rw (one_left, same, same_refl (take 4 (drop i b)), drop-drop 4 i a, drop-drop 4 i b) refl
+
+-- ---- the pairs of groups
+
+abbrev pub are_same : List ℕ × List ℕ → Bool
+are_same pair = same_bytes pair.0 pair.1
+
+-- of n groups and m the equal ones in front, counted in fours
+pub groups_front : (n m : ℕ) (a b : List ℕ) → n * 4 ≤ length a → m ≡ length b / 4 → 4 * prefix_len are_same (zip (first_chunks 4 n a) (first_chunks 4 m b)) ≡ equal_fours n a b
+unfolding equal_fours
+groups_front zero m a b h e = refl
+groups_front (suc n) zero a b h e =
+    rw (same_lengths (take 4 a) (take 4 b) (λ q. absurd (omega (arith, simp length-take at q)))) refl
+groups_front (suc n) (suc m) a b h e =
+    let rest = groups_front n m (drop 4 a) (drop 4 b) (omega (arith, length-drop 4 a)) (omega (arith, length-drop 4 b)) in
+    ⊎_elim
+    (λ t. rw t (omega (arith, rest)))
+    (λ f. rw f refl)
+    (outcome (same_bytes (take 4 a) (take 4 b)))
