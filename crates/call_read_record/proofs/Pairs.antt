@@ -17,7 +17,7 @@ row_two ns i h =
     ap (λ (k : ℕ). row_bytes (take k ns)) next ∙ row_more ns (i + 1) h ∙ ap (λ (xs : List ℕ). xs ++ four (get_or ns (i + 1) 0)) (row_more ns i (omega arith))
     ∙ append_assoc (row_bytes (take i ns)) (four (get_or ns i 0)) (four (get_or ns (i + 1) 0))
 
-rowed_two : {row lent out : List ℕ} {at i : ℕ} → Rowed row lent out at i → 4 * length row ≤ length lent → i + 1 < length row → {last : List ℕ} → last ≡ laid_if_room (four (get_or row i 0) ++ four (get_or row (i + 1) 0)) (mid_of at (length out - at) out) → Rowed row lent (put_mid at (length out - at) out last) (at + 8) (i + 2)
+pub rowed_two : {row lent out : List ℕ} {at i : ℕ} → Rowed row lent out at i → 4 * length row ≤ length lent → i + 1 < length row → {last : List ℕ} → last ≡ laid_if_room (four (get_or row i 0) ++ four (get_or row (i + 1) 0)) (mid_of at (length out - at) out) → Rowed row lent (put_mid at (length out - at) out last) (at + 8) (i + 2)
 rowed_two {row} {lent} {out} {at} {i} r room h e =
     let pair = four (get_or row i 0) ++ four (get_or row (i + 1) 0) in
     let fits : length (row_bytes (take i row) ++ pair) ≤ length lent = simp length-append (omega (arith, row_length (take i row), length-take-le i row r.most)) in

@@ -15,11 +15,12 @@ use Rattle.refusal.specs.declared.Refusal.TheVariants.{OutputShort}
 use Rattle.refusal.specs.Refusals.{number_of}
 use Rattle.refusal.specs.Answer.{Answer, refused, answered}
 use Rattle.step_routing.specs.declared.Broker.{Broker}
-use Rattle.step_routing.specs.Routed.{Tables, Outcome}
+use Rattle.step_routing.specs.Routed.{Tables, Outcome, delivered, forwarded, replied, silenced, home}
 use Rattle.step_routing.specs.declared.Stepped.{Stepped}
 use Rattle.step_routing.specs.declared.Stepped.TheVariants.{Delivered, Forwarded, Replied, Silenced, Home}
 use Rattle.step_pass.specs.Step.{step_of, left_by, stepped_of, told_as}
 use Rattle.call_step_record.specs.Steps.{step_row, frame_length}
+use Rattle.call_step_record.specs.WorkingRows.{refusal_in}
 use Rattle.call_specs.specs.Calls.{step_call, Tells}
 
 module _ (t : Tables) (b : Broker) (buffer : List ℕ) (rowRoom : ℕ) where
@@ -38,6 +39,14 @@ tells_on {buffer = buffer} {row} {left} {listed} {r} e f = subst⁻¹ (λ (a : A
 -- a refusal changes nothing, and its number is returned
 pub tells_refused : {answer : Answer Outcome} {q : Refusal} {buffer row : List ℕ} {r : ℕ} → answer ≡ refused q → r ≡ number_of q → Tells answer buffer row r buffer row
 tells_refused is told = tells_on is (record { returns = told; leaves = refl; lists = refl })
+
+-- no answer has the number of a refusal
+pub no_refusal : (o : Outcome) → refusal_in (told_as (answered o)) ≡ 0
+no_refusal (delivered number) = refl
+no_refusal (forwarded next m) = refl
+no_refusal (replied errnum m) = refl
+no_refusal (silenced errnum) = refl
+no_refusal home = refl
 
 pub four_numbers : (s : Stepped) (n : ℕ) → length (step_row s n) ≡ 4
 four_numbers (Delivered number) n = refl

@@ -1,6 +1,6 @@
 -- The walk call: one law for each way that it ends.
 use Rattle.std.specs.Prelude.{Result, Ok, Err}
-use mathlib.Core.Path.{◌≡◌, refl, ap, ◌∙◌}
+use mathlib.Core.Path.{◌≡◌, refl, sym, ap, ◌∙◌}
 use Prim.Native.Nat.{ℕ, ◌<◌, ◌≤◌}
 use mathlib.Core.List.{List, [], ◌∷◌, ◌++◌}
 use native.Mathlib.Omega.{arith}
@@ -43,6 +43,11 @@ four_long : (s : Result Stepped Refusal) (n : ℕ) → length (last_row s n) ≡
 four_long (Err r) n = refl
 four_long (Ok s) n = four_numbers s n
 
+-- a refused step has the same numbers whatever the frame's length
+none_long : (s : Result Stepped Refusal) (n k : ℕ) → (refusal_in s ≡ 0 → ⊥) → last_row s n ≡ last_row s k
+none_long (Err r) n k some = refl
+none_long (Ok s) n k some = absurd (some refl)
+
 module _ (w : Walk) {walked : Walked} {left : List ℕ} (does : Walks w walked left) where
   says : walked.step ≡ told_as w.answer
   says = ap (λ (x : Walked). x.step) does.told
@@ -63,3 +68,14 @@ module _ (w : Walk) {walked : Walked} {left : List ℕ} (does : Walks w walked l
         leaves = does.leaves;
         lists = lists ∙ ap (λ (l : List ℕ). laid_if_room (row_bytes l) row) are ∙ laid_room (row_bytes (walk_numbers w)) row (omega (arith, six));
       }
+
+  module _ {r : ℕ} {row ns listed : List ℕ} (told : r ≡ refusal_in walked.step) (room : 24 ≤ length row) (lists : listed ≡ laid_if_room (row_bytes ns) row) where
+    pub reports_no : (r ≡ 0 → ⊥) → ns ≡ walk_row walked 0 → Reports w row r left listed
+    reports_no some e =
+        reports told room lists refl
+        (e ∙ numbers 0
+        ∙ ap (λ (l : List ℕ). l ++ (w.rank ∷ w.links ∷ [])) (none_long (told_as w.answer) 0 (frame_length left) (λ z. some (told ∙ ap refusal_in says ∙ z)))
+        ∙ sym (numbers (frame_length left)))
+
+    pub reports_yes : {n : ℕ} → n ≡ frame_length left → ns ≡ walk_row walked n → Reports w row r left listed
+    reports_yes size e = reports told room lists size e

@@ -2,7 +2,7 @@
 #![tactic(auto)]
 
 ghost use Rattle.std.specs.Prelude.{◌≡◌};
-ghost use Rattle.call_step_record.specs.Steps.{step_row};
+ghost use Rattle.call_step_record.specs.Steps.{step_row, last_row};
 ghost use Rattle.call_step_record.specs.WorkingRows.{refusal_in, walk_row};
 
 use refusal::Refusal;
@@ -29,14 +29,21 @@ pub fn step_row(s: Stepped, size: usize) -> [usize; 4]
     }
 }
 
+// A step that may be refused as four numbers: a refusal has none of them.
+pub fn last_row(s: Result<Stepped, Refusal>, size: usize) -> [usize; 4]
+    ensures { result ≡ last_row s size }
+{
+    match s {
+        Ok(step) => step_row(step, size),
+        Err(_) => [0; 4],
+    }
+}
+
 // A walk as six numbers: the last step's four, which are 0 for a refusal, the rank at which it rests, and the links crossed.
 pub fn walk_row(w: Walked, size: usize) -> [usize; 6]
     ensures { result ≡ walk_row w size }
 {
-    let four = match w.step {
-        Ok(s) => step_row(s, size),
-        Err(_) => [0; 4],
-    };
+    let four = last_row(w.step, size);
     [
         four[0],
         four[1],

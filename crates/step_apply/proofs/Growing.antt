@@ -1,13 +1,20 @@
 -- A body with a part more in front: one law for each way that its test ends.
-use mathlib.Core.Path.{◌≡◌, refl}
+use Rattle.std.specs.Prelude.{Result, Ok, Err}
+use mathlib.Core.Path.{◌≡◌, refl, sym, ap, ◌∙◌}
 use mathlib.Core.Bool.{Bool, true, false, ◌||◌}
 use Prim.Native.Nat.{ℕ, ◌+◌, ◌<◌, ◌≤◌}
+use mathlib.Core.List.{List}
 use borrow.Author.Tests.{lt-ltb, le-leb, le-ltb, lt-leb}
 use lib.Dec.{leb, ltb}
+use lib.ListN.{length}
 use Rattle.bytes_number.proofs.Truth.{or_neither}
+use Rattle.refusal.specs.declared.Refusal.{Refusal}
 use Rattle.refusal.specs.declared.Refusal.TheVariants.{OutputShort, ForwardLong}
-use Rattle.refusal.specs.Answer.{refused, answered}
-use Rattle.step_apply.specs.WorkingApply.{grown_to}
+use Rattle.refusal.specs.Answer.{Answer, refused, answered}
+use Rattle.frame_rewrite.specs.WorkingRenewed.{with_part}
+use Rattle.step_routing.specs.declared.Stepped.{Stepped}
+use Rattle.step_routing.specs.declared.Stepped.TheVariants.{Forwarded}
+use Rattle.step_apply.specs.WorkingApply.{grown_to, forward_told, forward_left, AppliesForward}
 
 pub or_right_holds : (a : Bool) {b : Bool} → b ≡ true → (a || b) ≡ true
 or_right_holds true e = refl
@@ -33,3 +40,20 @@ module _ (routes size part room : ℕ) where
     pub grown_fits : 9 + part + size ≤ room → grown_to routes size part room ≡ answered (1 + part + size)
     unfolding grown_to
     grown_fits h = rw (small, le-ltb room (9 + part + size) h)
+
+-- ---- how forwarding ends
+
+-- by any answer that is known
+forwards : {routes size next : ℕ} {identity buffer left : List ℕ} {r : Result Stepped Refusal} {a : Answer ℕ} →
+    grown_to routes size (length identity) (length buffer) ≡ a → r ≡ forward_told next a → left ≡ forward_left identity size buffer a → AppliesForward routes size identity next buffer r left
+forwards {size = size} {next = next} {identity = identity} {buffer = buffer} is told left =
+    record { told = told ∙ sym (ap (forward_told next) is); leaves = left ∙ sym (ap (forward_left identity size buffer) is) }
+
+-- by a refusal, which changes no byte
+pub forwards_not : {routes size next : ℕ} {identity buffer : List ℕ} {q : Refusal} → grown_to routes size (length identity) (length buffer) ≡ refused q → AppliesForward routes size identity next buffer (Err q) buffer
+forwards_not is = forwards is refl refl
+
+-- by a part that is put in front of a body of n bytes, which is the body
+pub forwards_on : (n : ℕ) {routes size next grown : ℕ} {identity buffer left : List ℕ} → n ≡ size → grown_to routes size (length identity) (length buffer) ≡ answered grown → left ≡ with_part identity n buffer →
+    AppliesForward routes size identity next buffer (Ok (Forwarded next)) left
+forwards_on n {identity = identity} {buffer = buffer} e is left = forwards is refl (left ∙ ap (λ (k : ℕ). with_part identity k buffer) e)

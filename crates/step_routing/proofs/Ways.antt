@@ -65,6 +65,9 @@ module _ (tree identities : List ℕ) (rank : ℕ) where
   back_top top below = refl
 
 module _ (tree : List ℕ) (rank broker : ℕ) where
+  pub broker_no_rank : 1024 ≤ broker → towards_broker tree rank (Some broker) ≡ Err NoNeighbour
+  broker_no_rank h = rw (le-ltb broker 1024 h)
+
   pub broker_near : broker < 1024 → is_neighbour tree rank broker ≡ true → towards_broker tree rank (Some broker) ≡ Ok (Some broker)
   broker_near h e = rw (lt-ltb broker 1024 h, e)
 

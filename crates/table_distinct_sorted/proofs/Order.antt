@@ -1,10 +1,11 @@
 -- Laws on bytes and records in order.
 use mathlib.Core.Path.{◌≡◌, refl, sym, ap, ◌∙◌}
-use mathlib.Core.Bool.{Bool, true, false, cond, not}
+use mathlib.Core.Bool.{Bool, true, false, cond, not, ◌&&◌}
 use mathlib.Core.List.{List, [], ◌∷◌}
 use mathlib.Core.Logic.{◌⊎◌, inl, inr, ⊎_elim}
-use Prim.Native.Nat.{ℕ, ◌+◌, ◌-◌, ◌<◌, ◌≤◌}
-use native.Mathlib.Nat.{eq-or-lt_of_le}
+use Prim.Native.Nat.{ℕ, zero, suc, ◌+◌, ◌-◌, ◌<◌, ◌≤◌}
+use native.Mathlib.Nat.{eq-or-lt_of_le, le_of_suc-le-suc, not-suc-le-zero}
+use native.Mathlib.Numerals.{add-one}
 use native.Mathlib.Omega.{arith}
 use borrow.Author.Tests.{eqb-true, eqb-false, eq-eqb, ne_eqb, lt-ltb, ltb-true, ltb-false}
 use lib.Dec.{eqb, ltb}
@@ -12,8 +13,8 @@ use Rattle.std.specs.Cmp.Lexicographic.{slice_cmp}
 use Rattle.std.specs.Ordering.{is_lt, nat_cmp, ordering_then}
 use Rattle.std.specs.declared.cmp.Ordering.{Ordering}
 use Rattle.std.specs.declared.cmp.Ordering.TheVariants.{Less, Equal, Greater}
-use lib.ListN.{length, get_or, set, length-set}
-use lib.Seq.{get_or-set_same, get_or-set_other}
+use lib.ListN.{length, get_or, take, drop, set, length-set}
+use lib.Seq.{drop-cons, drop-length, get_or-set_same, get_or-set_other}
 use Rattle.bytes_number.proofs.Truth.{outcome, clash, true_false}
 use Rattle.table_records.specs.Bytes.{same_bytes}
 use Rattle.table_records.proofs.Bytes.{same_refl, same_equal}
@@ -107,6 +108,36 @@ cmp_before (x ∷ xs) (y ∷ ys) =
 
 pub before_is : {less : Bool} {order : Ordering} (xs ys : List ℕ) → less ≡ is_lt order → order ≡ slice_cmp nat_cmp xs ys → before xs ys ≡ less
 before_is xs ys e f = sym (e ∙ ap is_lt f ∙ cmp_before xs ys)
+
+-- ---- bytes are compared with others of their length
+
+pub one-length : (xs ys : List ℕ) → length xs ≡ length ys → (eqb (length xs) (length ys) && before xs ys) ≡ before xs ys
+one-length xs ys e = rw (eq-eqb (length xs) (length ys) e) refl
+
+pub two_lengths : (xs ys : List ℕ) → (length xs ≡ length ys → ⊥) → (eqb (length xs) (length ys) && before xs ys) ≡ false
+two_lengths xs ys e = rw (ne_eqb (length xs) (length ys) e) refl
+
+-- ---- a turn of a loop that compares
+
+module _ (xs ys : List ℕ) (i : ℕ) (hx : i < length xs) (hy : i < length ys) where
+  pub before_at : get_or xs i 0 ≡ get_or ys i 0 → before (drop i xs) (drop i ys) ≡ before (drop (i + 1) xs) (drop (i + 1) ys)
+  before_at e = rw (add-one, drop-cons xs i 0 hx, drop-cons ys i 0 hy) (before_equal (get_or xs i 0) (get_or ys i 0) (drop (suc i) xs) (drop (suc i) ys) e)
+
+  pub before_here : (get_or xs i 0 ≡ get_or ys i 0 → ⊥) → before (drop i xs) (drop i ys) ≡ ltb (get_or xs i 0) (get_or ys i 0)
+  before_here e = rw (drop-cons xs i 0 hx, drop-cons ys i 0 hy) (before_other (get_or xs i 0) (get_or ys i 0) (drop (suc i) xs) (drop (suc i) ys) e)
+
+pub before_end : (xs ys : List ℕ) (i : ℕ) → length xs ≡ length ys → i ≡ length xs → before (drop i xs) (drop i ys) ≡ false
+before_end xs ys i e q = rw (q, drop-length xs, e, drop-length ys) (before_self [])
+
+-- what both begin with does not matter
+pub before-front : (n : ℕ) (xs ys : List ℕ) → n ≤ length xs → n ≤ length ys → take n xs ≡ take n ys → before (drop n xs) (drop n ys) ≡ before xs ys
+before-front zero xs ys hx hy e = refl
+before-front (suc n) [] ys hx hy e = absurd (not-suc-le-zero hx)
+before-front (suc n) (x ∷ xs) [] hx hy e = absurd (not-suc-le-zero hy)
+before-front (suc n) (x ∷ xs) (y ∷ ys) hx hy e =
+    let heads : x ≡ y = cc in
+    let tails : take n xs ≡ take n ys = cc in
+    before-front n xs ys (le_of_suc-le-suc hx) (le_of_suc-le-suc hy) tails ∙ sym (before_equal x y xs ys heads)
 
 -- ---- the search for a place
 

@@ -10,6 +10,7 @@ use lib.Dec.{eqb, leb}
 use lib.ListN.{length}
 use Rattle.frame_forms.specs.Forms.{is_route}
 use Rattle.table_records.specs.Below.{all_below, none_twice}
+use Rattle.table_records.specs.Bytes.{same_bytes}
 use Rattle.table_records.specs.Search.{first_from}
 use Rattle.bytes_number.proofs.Truth.{and_left as left, and_right as right}
 use Rattle.table_records.proofs.Below.{all_at, once}
@@ -17,6 +18,10 @@ use Rattle.table_records.proofs.Bytes.{same_refl, same_equal}
 use Rattle.table_records.proofs.Search.{first_passes, none_passes, first_only}
 use Rattle.table_tree.specs.Tree.{ranks_in}
 use Rattle.table_identities.specs.Identities.{identity_at, same_identity, identities_good, broker_of}
+
+pub same_is : (a b : List ℕ) → same_identity a b ≡ same_bytes a b
+unfolding same_identity
+same_is a b = refl
 
 pub broker_is : (identities route : List ℕ) → broker_of identities route ≡ first_from (λ rank. same_identity (identity_at identities rank) route) (length identities / 37) 0
 unfolding broker_of

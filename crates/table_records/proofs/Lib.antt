@@ -2,5 +2,6 @@
 pub mod Below
 pub mod Bytes
 pub mod Records
+pub mod Front
 pub mod Search
 pub mod Rows

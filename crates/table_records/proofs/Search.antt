@@ -2,14 +2,35 @@
 use mathlib.Core.Path.{◌≡◌, refl, ap, ◌∙◌}
 use mathlib.Core.Bool.{Bool, true, false}
 use mathlib.Core.Logic.{◌⊎◌, inl, inr, ⊎_elim}
-use Prim.Native.Nat.{ℕ, zero, suc, ◌+◌, ◌<◌, ◌≤◌}
+use Prim.Native.Nat.{ℕ, zero, suc, ◌+◌, ◌-◌, ◌<◌, ◌≤◌}
 use native.Mathlib.Nat.{eq-or-lt_of_le}
+use native.Mathlib.Numerals.{add-one}
 use native.Mathlib.Omega.{arith}
 use Rattle.std.specs.Prelude.{Option, Some, None}
 use Rattle.table_records.specs.Search.{first_from, first_of}
 use Rattle.bytes_number.proofs.Truth.{outcome, clash}
 
 module _ (p : ℕ → Bool) where
+  -- ---- a turn of a loop that searches n numbers, at i
+
+  module _ (n i : ℕ) (h : i < n) where
+    one_left : n - i ≡ suc (n - (i + 1))
+    one_left = omega arith
+
+    pub first_hit : p i ≡ true → first_from p (n - i) i ≡ Some i
+    unfolding first_from
+    first_hit e = rw (one_left, e) refl
+
+    pub first_miss : p i ≡ false → first_from p (n - i) i ≡ first_from p (n - (i + 1)) (i + 1)
+    unfolding first_from
+    first_miss e = rw (one_left, e, add-one i) refl
+
+  pub first_end : (n i : ℕ) → i ≡ n → first_from p (n - i) i ≡ None
+  unfolding first_from
+  first_end n i e =
+      let none : n - i ≡ 0 = omega arith in
+      rw none refl
+
   -- ---- what is found passes, and where nothing is found nothing passes
 
   pub first_passes : (left i k : ℕ) → first_from p left i ≡ Some k → (k < i + left) × (p k ≡ true)
@@ -36,6 +57,12 @@ module _ (p : ℕ → Bool) where
       absurd (let z : ◌≡◌ {A = ℕ} 0 1 = cc in omega arith))
       (λ f. ⊎_elim (λ q. rw (← q) f) (λ q. none_passes left (suc i) (rw f at e) k q (omega arith)) (eq-or-lt_of_le l))
       (outcome (p i))
+
+  -- a test that agrees with it finds the same
+  pub first_agree : (q : ℕ → Bool) (left i : ℕ) → ((k : ℕ) → k < i + left → p k ≡ q k) → first_from p left i ≡ first_from q left i
+  unfolding first_from
+  first_agree q zero i f = refl
+  first_agree q (suc left) i f = rw (f i (omega arith), first_agree q left (suc i) (λ k l. f k (omega arith))) refl
 
   -- something is found, or nothing
   found_cases : (f : Option ℕ) → ((i : ℕ) × (f ≡ Some i)) ⊎ (f ≡ None)

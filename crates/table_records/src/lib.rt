@@ -1,8 +1,9 @@
-// What the tables share: one record.
+// What the tables share: one record, and how many bytes in front are equal.
 #![tactic(auto)]
 
 ghost use Rattle.std.specs.Prelude.{◌≡◌};
 ghost use Rattle.table_records.specs.Records.{record_at};
+ghost use Rattle.table_records.specs.Working.{equal_in_fours};
 
 // The most records that a table has: ranks, services or identities.
 pub const MOST_RECORDS: usize = 1024;
@@ -24,4 +25,18 @@ pub fn record_at(table: &[u8], width: usize, i: usize) -> &[u8]
         return &table[at..];
     }
     &table[..0]
+}
+
+// How many bytes in front of two slices are surely equal: four at a time, up to the first four in which they differ, or to the end of either.
+pub fn equal_front(a: &[u8], b: &[u8]) -> usize
+    ensures { result ≡ equal_in_fours a.now b.now }
+{
+    let (groups, _) = a.as_chunks::<4>();
+    let (others, _) = b.as_chunks::<4>();
+    let equal = groups
+        .iter()
+        .zip(others.iter())
+        .take_while(|pair| pair.0 == pair.1)
+        .count();
+    4 * equal
 }

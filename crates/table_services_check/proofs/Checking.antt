@@ -15,7 +15,7 @@ use Rattle.table_records.specs.Below.{all_below}
 use Rattle.table_records.specs.Bytes.{same_bytes}
 use Rattle.table_records.specs.Working.{distinct}
 use Rattle.bytes_number.proofs.Truth.{and_right_fails as right-fails}
-use Rattle.table_records.proofs.Below.{all_at, none_agree}
+use Rattle.table_records.proofs.Below.{all_at, all_fails, none_agree}
 use Rattle.table_records.proofs.Records.{length_record, distinct_rest}
 use Rattle.table_tree.specs.Tree.{ranks_in}
 use Rattle.table_tree.specs.Depths.{tree_good}
@@ -36,6 +36,12 @@ module _ (tree services : List ℕ) where
   pub bad_all : all_below (services_in services) (λ i. service_good (ranks_in tree) (service_at services i)) ≡ false → services_good tree services ≡ false
   unfolding services_good
   bad_all e = rw e (right-fails (eqb (length services) (services_in services * 32)) (right-fails (leb (services_in services) 1024) refl))
+
+  pub bad_one : (i : ℕ) → i < services_in services → service_good (ranks_in tree) (service_at services i) ≡ false → services_good tree services ≡ false
+  unfolding services_good
+  bad_one i h e =
+      rw (all_fails (λ i. service_good (ranks_in tree) (service_at services i)) (services_in services) i h e)
+      (right-fails (eqb (length services) (services_in services * 32)) (right-fails (leb (services_in services) 1024) refl))
 
   -- where all records are of the form, none is there twice exactly if no two are equal
   module _ (b : Bytes services) (whole : length services ≡ services_in services * 32) (few : services_in services ≤ 1024)

@@ -7,7 +7,7 @@ use Prim.Native.Nat.{ℕ, ◌/◌, ◌<◌, ◌≤◌}
 use native.Mathlib.Omega.{arith}
 use borrow.Author.Tests.{eq-eqb, ne_eqb, eqb-true, le-leb, lt-leb}
 use lib.Dec.{eqb, leb}
-use lib.ListN.{length, take, drop}
+use lib.ListN.{length, take, drop, length-take, length-drop}
 use Rattle.table_records.specs.Bytes.{same_bytes}
 use Rattle.table_records.specs.Search.{first_from}
 use Rattle.bytes_number.proofs.Truth.{and_left as left, and_right as right, and_both as both, and_right_fails as right-fails}
@@ -16,7 +16,7 @@ use Rattle.table_records.proofs.Records.{length_record}
 use Rattle.table_records.proofs.Search.{first_passes, none_passes, first_only}
 use Rattle.table_tree.specs.Tree.{ranks_in}
 use Rattle.table_services.proofs.Services.{Form, length_name, GoodServices, same_service_lem}
-use Rattle.table_records.proofs.Bytes.{same_turned, same_refl, same_equal}
+use Rattle.table_records.proofs.Bytes.{same_turned, same_lengths, same_refl, same_equal}
 use Rattle.std.specs.List.{starts_with}
 use Rattle.table_services.specs.Services.{services_in, service_at, rank_in, name_length, name_in, same_service}
 use Rattle.table_services_find.specs.Lookup.{registers, registered_as}
@@ -40,6 +40,17 @@ module _ (row : List ℕ) (rank : ℕ) (service : List ℕ) where
   pub other_length : (name_length row ≡ length service → ⊥) → registers row rank service ≡ false
   unfolding registers
   other_length h = rw (ne_eqb _ _ h) (right-fails (leb 1 (length service)) (right-fails (eqb (rank_in row) rank) refl))
+
+  -- a service of more than 27 bytes matches nothing: no name is cut
+  pub long_never : length row ≡ 32 → 27 < length service → registers row rank service ≡ false
+  unfolding registers
+  long_never e h =
+      rw (same_lengths (name_in row) service (λ q. absurd (omega (arith, simp (length-take, length-drop) at q))))
+      (right-fails (leb 1 (length service)) (right-fails (eqb (rank_in row) rank) (right-fails (eqb (name_length row) (length service)) refl)))
+
+  pub rest_same : 1 ≤ length service → rank_in row ≡ rank → name_length row ≡ length service → registers row rank service ≡ same_bytes (take (length service) (drop 5 row)) service
+  unfolding registers
+  rest_same h1 hr hl = rw (le-leb _ _ h1, eq-eqb _ _ hr, hl, eq-eqb _ _ refl) refl
 
   -- the bytes behind the length begin with the service
   pub begins : 1 ≤ length service → rank_in row ≡ rank → name_length row ≡ length service → starts_with eqb (drop 5 row) service ≡ registers row rank service

@@ -1,15 +1,15 @@
--- Laws on topics: their service, by where the first period stands.
+-- Laws on topics: their service, by where the first period stands, and by a turn of a loop.
 use mathlib.Core.Path.{◌≡◌, refl, sym, ap, ◌∙◌}
 use mathlib.Core.Bool.{Bool, true, false, not}
-use mathlib.Core.List.{List, [], ◌∷◌}
+use mathlib.Core.List.{List, [], ◌∷◌, ◌++◌, append-nil}
 use mathlib.Core.Logic.{⊎_elim}
-use Prim.Native.Nat.{ℕ, ◌+◌}
-use native.Mathlib.Numerals.{one-add}
+use Prim.Native.Nat.{ℕ, ◌+◌, ◌<◌}
+use native.Mathlib.Numerals.{add-one, one-add}
 use native.Mathlib.Omega.{arith}
-use borrow.Author.Tests.{ltb-false}
+use borrow.Author.Tests.{eq-eqb, ne_eqb, ltb-false}
 use lib.Dec.{eqb, ltb}
-use lib.ListN.{length, take}
-use lib.Seq.{take_all}
+use lib.ListN.{length, get_or, take, drop}
+use lib.Seq.{drop-cons, drop-length, take-suc, append_snoc, take-length, take_all}
 use Rattle.std.specs.Prelude.{Some, None, cond}
 use Rattle.std.specs.List.{position, position_or_len}
 use Rattle.bytes_number.proofs.Truth.{outcome}
@@ -41,3 +41,19 @@ service_whole topic e =
     (λ t. absurd (let z : ◌≡◌ {A = ℕ} 0 1 = (let some : None ≡ Some (position_or_len (λ x. eqb x 46) topic) = rw t at e in cc) in omega arith))
     (λ f. sym (take_all _ topic (ltb-false _ _ f)) ∙ front_is topic)
     (outcome (ltb (position_or_len (λ x. eqb x 46) topic) (length topic)))
+
+-- ---- a turn of a loop over the bytes
+
+module _ (s : List ℕ) (i : ℕ) (h : i < length s) where
+  pub service_stop : get_or s i 0 ≡ 46 → take i s ++ service_of (drop i s) ≡ take i s
+  unfolding service_of
+  service_stop e = rw (drop-cons s i 0 h, eq-eqb _ _ e) (append-nil (take i s))
+
+  pub service_more : (get_or s i 0 ≡ 46 → ⊥) → take i s ++ service_of (drop i s) ≡ take (i + 1) s ++ service_of (drop (i + 1) s)
+  unfolding service_of
+  service_more n = rw (add-one, drop-cons s i 0 h, ne_eqb _ _ n, take-suc s i 0 h, append_snoc) refl
+
+-- where all bytes are passed
+pub service_end : (s : List ℕ) (i : ℕ) → i ≡ length s → take i s ++ service_of (drop i s) ≡ s
+unfolding service_of
+service_end s i e = rw (e, drop-length s, take-length s) (append-nil s)

@@ -4,6 +4,8 @@ use mathlib.Core.Path.{◌≡◌, refl, sym, ap, ◌∙◌, subst, subst⁻¹}
 use Prim.Native.Nat.{ℕ, zero, suc, ◌+◌, ◌-◌, ◌<◌}
 use mathlib.Core.List.{List, [], ◌∷◌}
 use native.Mathlib.Omega.{arith}
+use types.Run.{OneOf, miss}
+use denote.Enum.Declared.{tag_of}
 use Rattle.refusal.specs.declared.Refusal.{Refusal}
 use Rattle.refusal.specs.declared.Refusal.TheVariants.{ForwardLong}
 use Rattle.refusal.specs.Answer.{Answer, refused, answered}
@@ -11,13 +13,23 @@ use Rattle.frame_message.specs.Message.{Message}
 use Rattle.step_routing.specs.declared.Broker.{Broker}
 use Rattle.step_routing.specs.Routed.{Tables, Outcome, delivered, forwarded, replied, silenced, home}
 use Rattle.step_routing.specs.declared.Stepped.{Stepped}
+use Rattle.step_routing.specs.contracts.Stepped.{the_type}
 use Rattle.step_routing.specs.declared.Stepped.TheVariants.{Forwarded}
 use Rattle.step_pass.specs.Step.{pass_of, left_by, told_as}
 use Rattle.walk.specs.declared.Walked.{Walked}
 use Rattle.walk.specs.Onward.{Walk, onward, rests_at, after_step}
 use Rattle.walk.specs.WorkingPasses.{Walks, passes_from}
 
+-- the numbers of the answers at which a walk rests, as the code tells them apart: all but the second, Forwarded
+abbrev pub resting_tags : List ℕ
+resting_tags = 0 ∷ 2 ∷ 3 ∷ 4 ∷ []
+
 -- ---- what comes of a step
+
+-- a step that rests is none that forwards
+module _ {s : Stepped} (rests : OneOf resting_tags (tag_of the_type s)) where
+  pub never_on : {next : ℕ} → s ≡ Forwarded next → ⊥
+  never_on e = miss resting_tags 1 tt (subst (λ (x : Stepped). OneOf resting_tags (tag_of the_type x)) e rests)
 
 -- it forwards
 pub record On (answer : Answer Outcome) (next : ℕ) : Type 0 where
