@@ -1,10 +1,13 @@
 -- What the outer object comes to is what the payload comes to.
-use Rattle.std.specs.Prelude.{Err}
+use Rattle.std.specs.Prelude.{Option, Some, None, Err}
+use Rattle.std.specs.Option.{ok_or}
+use mathlib.Core.Path.{refl, subst⁻¹}
 use Rattle.std.proofs.Common.{◌≡◌, ◌∙◌, sym, ℕ, ◌<◌, List, [], length, get_or, arith, rules}
+use Rattle.json_scan.specs.declared.Fault.{Fault}
 use Rattle.json_scan.specs.Scan.{is_white, in_object, behind, between, scan, depth_limit, verdict_of}
 use Rattle.json_scan.specs.WorkingEnds.{end_of}
 use Rattle.json_scan.specs.WorkingReads.{Came, resumed}
-use Rattle.json_check.specs.WorkingNested.{Opened}
+use Rattle.json_check.specs.WorkingNested.{left_by, Opened}
 use Rattle.json_check.proofs.Nesting.{reads_opened}
 use Rattle.json_check.proofs.Outer.{judged_over, judged_wrong, judged-object}
 use Rattle.json_check.proofs.check_payload.Goals as goal
@@ -20,10 +23,18 @@ returns-then-i-bytes c = judged_over c.args.bytes.now c.white_end-i.result c.whi
 pub returns-then-bytes-i-ne123 : goal.returns-then-bytes-i-ne123
 returns-then-bytes-i-ne123 c = judged_wrong c.args.bytes.now c.white_end-i.result c.white_end-i.ensures (omega arith) (λ e. omega (arith, e))
 
+-- what was left, or the place, is what the reader of the outer object told
+told : (o : Option ℕ) (fault : Fault) → left_by o fault ≡ ok_or o fault
+told (Some end) fault = refl
+told None fault = refl
+
+opened : {bytes : List ℕ} {i : ℕ} {r : Came} (o : Option ℕ) (fault : Fault) → r ≡ ok_or o fault → Opened bytes 32 i in_object (left_by o fault) → Opened bytes 32 i in_object r
+opened {bytes} {i} o fault is = subst⁻¹ (Opened bytes 32 i in_object) (is ∙ sym (told o fault))
+
 pub returns-in_err-end : goal.returns-in_err-end
 returns-in_err-end c =
     let stops : c.from_residual.result ≡ Err c.in_err-end.field-0.0 = search rules in
-    stops ∙ whole c.args.bytes.now c.white_end-i.result _ c.white_end-i.ensures (omega arith) (omega arith) c.in_err-end.ensures
+    stops ∙ whole c.args.bytes.now c.white_end-i.result _ c.white_end-i.ensures (omega arith) (omega arith) (opened _ _ c.in_err-end.ensures.value c.object_end.ensures)
 
 pub returns : goal.returns
-returns c = sym (c.payload_end.ensures depth_limit) ∙ whole c.args.bytes.now c.white_end-i.result _ c.white_end-i.ensures (omega arith) (omega arith) c.in_ok-end.ensures
+returns c = sym (c.payload_end.ensures depth_limit) ∙ whole c.args.bytes.now c.white_end-i.result _ c.white_end-i.ensures (omega arith) (omega arith) (opened _ _ c.in_ok-end.ensures.value c.object_end.ensures)
