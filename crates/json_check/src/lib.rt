@@ -135,6 +135,8 @@ pub fn check_payload(bytes: &[u8]) -> Result<(), Fault>
         return Err(Fault::NotJson(i));
     }
     let mut fault = Fault::NotJson(i);
-    let end = object_end(bytes, i, MOST, &mut fault).ok_or(fault)?;
-    payload_end(bytes, end)
+    match object_end(bytes, i, MOST, &mut fault) {
+        Some(end) => payload_end(bytes, end),
+        None => Err(fault),
+    }
 }

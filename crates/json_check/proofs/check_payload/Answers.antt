@@ -1,8 +1,7 @@
 -- What the outer object comes to is what the payload comes to.
-use Rattle.std.specs.Prelude.{Option, Some, None, Err}
-use Rattle.std.specs.Option.{ok_or}
-use mathlib.Core.Path.{refl, subst⁻¹}
-use Rattle.std.proofs.Common.{◌≡◌, ◌∙◌, sym, ℕ, ◌<◌, List, [], length, get_or, arith, rules}
+use Rattle.std.specs.Prelude.{Option}
+use mathlib.Core.Path.{subst}
+use Rattle.std.proofs.Common.{◌≡◌, ◌∙◌, sym, ℕ, ◌<◌, List, [], length, get_or, arith}
 use Rattle.json_scan.specs.declared.Fault.{Fault}
 use Rattle.json_scan.specs.Scan.{is_white, in_object, behind, between, scan, depth_limit, verdict_of}
 use Rattle.json_scan.specs.WorkingEnds.{end_of}
@@ -23,18 +22,14 @@ returns-then-i-bytes c = judged_over c.args.bytes.now c.white_end-i.result c.whi
 pub returns-then-bytes-i-ne123 : goal.returns-then-bytes-i-ne123
 returns-then-bytes-i-ne123 c = judged_wrong c.args.bytes.now c.white_end-i.result c.white_end-i.ensures (omega arith) (λ e. omega (arith, e))
 
--- what was left, or the place, is what the reader of the outer object told
-told : (o : Option ℕ) (fault : Fault) → left_by o fault ≡ ok_or o fault
-told (Some end) fault = refl
-told None fault = refl
+-- the reader of the outer object told this
+opened : {bytes : List ℕ} {i : ℕ} {o p : Option ℕ} (fault : Fault) → o ≡ p → Opened bytes 32 i in_object (left_by o fault) → Opened bytes 32 i in_object (left_by p fault)
+opened {bytes} {i} fault is = subst (λ (o : Option ℕ). Opened bytes 32 i in_object (left_by o fault)) is
 
-opened : {bytes : List ℕ} {i : ℕ} {r : Came} (o : Option ℕ) (fault : Fault) → r ≡ ok_or o fault → Opened bytes 32 i in_object (left_by o fault) → Opened bytes 32 i in_object r
-opened {bytes} {i} o fault is = subst⁻¹ (Opened bytes 32 i in_object) (is ∙ sym (told o fault))
+-- what it told is what the whole comes to:
+-- where it read nothing, the fault that it left
+pub returns-in-None : goal.returns-in-None
+returns-in-None c = whole c.args.bytes.now c.white_end-i.result _ c.white_end-i.ensures (omega arith) (omega arith) (opened _ c.in-None.is c.object_end.ensures)
 
-pub returns-in_err-end : goal.returns-in_err-end
-returns-in_err-end c =
-    let stops : c.from_residual.result ≡ Err c.in_err-end.field-0.0 = search rules in
-    stops ∙ whole c.args.bytes.now c.white_end-i.result _ c.white_end-i.ensures (omega arith) (omega arith) (opened _ _ c.in_err-end.ensures.value c.object_end.ensures)
-
-pub returns : goal.returns
-returns c = sym (c.payload_end.ensures depth_limit) ∙ whole c.args.bytes.now c.white_end-i.result _ c.white_end-i.ensures (omega arith) (omega arith) (opened _ _ c.in_ok-end.ensures.value c.object_end.ensures)
+pub returns-in-Some : goal.returns-in-Some
+returns-in-Some c = sym (c.payload_end.ensures depth_limit) ∙ whole c.args.bytes.now c.white_end-i.result _ c.white_end-i.ensures (omega arith) (omega arith) (opened _ c.in-Some.is c.object_end.ensures)
