@@ -1,10 +1,16 @@
 -- Where a value begins, how far a reader of what is open came, and what the bytes behind the outer object come to.
-use Rattle.std.specs.Prelude.{Err}
+use Rattle.std.specs.Prelude.{Option, Some, None, Result, Ok, Err}
 use Rattle.std.specs.Prelude.{◌≡◌, false, List, [], ◌∷◌, ℕ, ◌+◌, ◌-◌, ◌<◌, ◌≤◌, length, drop, get_or}
 use Rattle.json_scan.specs.Scan.{Verdict}
 use Rattle.json_scan.specs.Scan.{is_white, Kind, in_object, in_array, Due, first_name, first_value, behind, between, scan}
 use Rattle.json_scan.specs.WorkingReads.{Came, place_of, resumed}
+use Rattle.json_scan.specs.declared.Fault.{Fault}
 use Rattle.json_scan.specs.declared.Fault.TheVariants.{TooDeep}
+
+-- what a reader tells that leaves the fault in a lent place: what it read, or that fault
+abbrev pub left_by : {A : Type 0} → Option A → Fault → Result A Fault
+left_by (Some a) fault = Ok a
+left_by None fault = Err fault
 
 -- this byte stands there, or a zero behind the end, and it is no white space
 pub record Stands (bytes : List ℕ) (at c : ℕ) : Type 0 where

@@ -6,7 +6,7 @@ ghost use Rattle.json_scan.specs.WorkingEnds.{end_of};
 ghost use Rattle.json_plain.specs.WorkingPlain.{is_plain};
 ghost use Rattle.json_plain.specs.WorkingWords.{word_of, lowest_mark, Marks};
 
-use json_scan::end_of;
+use json_scan::{Test, end_of};
 
 // Bytes of a word, and of two.
 const WORD: usize = 8;
@@ -20,6 +20,16 @@ fn is_plain(c: u8) -> bool
     ensures { result ≡ is_plain c }
 {
     (c != b'"') & (c != b'\\') & (c >= 0x20) & (c < 0x80)
+}
+
+struct IsPlain;
+
+impl Test for IsPlain {
+    ghost test = { is_plain };
+
+    fn passes(c: u8) -> bool {
+        is_plain(c)
+    }
 }
 
 // Eight bytes as a number, the first as its lowest byte: the compiler makes one load of it.
@@ -77,5 +87,5 @@ pub fn plain_end(bytes: &[u8], at: usize) -> usize
             i += WORD;
         }
     }
-    end_of(bytes, i, is_plain)
+    end_of::<IsPlain>(bytes, i)
 }

@@ -36,14 +36,40 @@ pub fn rest_of(bytes: &[u8], at: usize) -> &[u8]
     bytes.get(at..).unwrap_or(&[])
 }
 
+// A test of single bytes. It is a type and no closure, so that who passes it owes nothing.
+pub trait Test {
+    ghost test: { ℕ → Bool };
+    fn passes(c: u8) -> bool
+        ensures { result ≡ test c };
+}
+
+struct IsWhite;
+
+impl Test for IsWhite {
+    ghost test = { is_white };
+
+    fn passes(c: u8) -> bool {
+        is_white(c)
+    }
+}
+
+struct IsDigit;
+
+impl Test for IsDigit {
+    ghost test = { is_digit };
+
+    fn passes(c: u8) -> bool {
+        is_digit(c)
+    }
+}
+
 // The first place from `at` on whose byte does not pass the test.
-pub fn end_of<F: Fn(u8) -> bool>(bytes: &[u8], at: usize, passes: F) -> usize
-    requires { F.IsAlwaysCallable passes }
-    ensures { (test : ℕ → Bool) → ((c : ℕ) (b : Bool) → F.post passes c b → b ≡ test c) → result ≡ end_of test bytes.now at }
+pub fn end_of<T: Test>(bytes: &[u8], at: usize) -> usize
+    ensures { result ≡ end_of T.test bytes.now at }
 {
     // Stays a loop by index: a chain takes 8 percent more instructions on numbers, 11 on a record and 23 on much white space.
     let mut i = at;
-    while i < bytes.len() && passes(bytes[i]) {
+    while i < bytes.len() && T::passes(bytes[i]) {
         i += 1;
     }
     i
@@ -53,30 +79,31 @@ pub fn end_of<F: Fn(u8) -> bool>(bytes: &[u8], at: usize, passes: F) -> usize
 pub fn white_end(bytes: &[u8], at: usize) -> usize
     ensures { result ≡ end_of is_white bytes.now at }
 {
-    end_of(bytes, at, is_white)
+    end_of::<IsWhite>(bytes, at)
 }
 
 // The first place from `at` on that has no digit.
 pub fn digits_end(bytes: &[u8], at: usize) -> usize
     ensures { result ≡ end_of is_digit bytes.now at }
 {
-    end_of(bytes, at, is_digit)
+    end_of::<IsDigit>(bytes, at)
 }
 
-// Behind so many bytes that pass the test, or at the first that does not.
-pub fn run_end<F: Fn(u8) -> bool>(
-    bytes: &[u8],
-    at: usize,
-    count: usize,
-    passes: F,
-) -> Result<usize, usize>
-    requires { F.IsAlwaysCallable passes }
-    ensures { (k : Class) → ((c : ℕ) (b : Bool) → F.post passes c b → b ≡ holds k c) → result ≡ rest_end (replicate count k) at (drop at bytes.now) }
+// A class of the bytes that the rest of a token is made of, with its test.
+pub trait OfClass {
+    ghost class: { Class };
+    fn holds(c: u8) -> bool
+        ensures { result ≡ holds class c };
+}
+
+// Behind so many bytes of a class, or at the first that is none.
+pub fn run_end<K: OfClass>(bytes: &[u8], at: usize, count: usize) -> Result<usize, usize>
+    ensures { result ≡ rest_end (replicate count K.class) at (drop at bytes.now) }
 {
     let passed = rest_of(bytes, at)
         .iter()
         .take(count)
-        .take_while(|c| passes(**c))
+        .take_while(|c| K::holds(**c))
         .count();
     if passed == count {
         Ok(at + passed)

@@ -7,13 +7,23 @@ ghost use Rattle.json_string.specs.WorkingText.{text_end, Escaped};
 
 use bytes_number::byte_at;
 use json_plain::plain_end;
-use json_scan::run_end;
+use json_scan::{OfClass, run_end};
 use json_utf8::character_end;
 
 fn is_hex(c: u8) -> bool
     ensures { result ≡ holds hex c }
 {
     c.is_ascii_hexdigit()
+}
+
+struct Hex;
+
+impl OfClass for Hex {
+    ghost class = { hex };
+
+    fn holds(c: u8) -> bool {
+        is_hex(c)
+    }
 }
 
 fn is_escape(c: u8) -> bool
@@ -34,7 +44,7 @@ fn escape_end(bytes: &[u8], at: usize) -> Result<usize, usize>
         return Ok(at + 1);
     }
     if c == b'u' {
-        return run_end(bytes, at + 1, 4, is_hex);
+        return run_end::<Hex>(bytes, at + 1, 4);
     }
     Err(at)
 }

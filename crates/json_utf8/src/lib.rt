@@ -7,7 +7,7 @@ ghost use Rattle.json_scan.specs.WorkingEnds.{rest_end};
 ghost use Rattle.json_utf8.specs.WorkingCharacters.{character_end};
 
 use bytes_number::byte_at;
-use json_scan::run_end;
+use json_scan::{OfClass, run_end};
 
 fn is_within(c: u8, lowest: u8, highest: u8) -> bool
     ensures { result ≡ is_within lowest highest c }
@@ -21,9 +21,19 @@ fn is_tail(c: u8) -> bool
     is_within(c, 0x80, 0xBF)
 }
 
+struct Tail;
+
+impl OfClass for Tail {
+    ghost class = { tail };
+
+    fn holds(c: u8) -> bool {
+        is_tail(c)
+    }
+}
+
 // How many bytes come behind the first of a character of two bytes or more; 0 if this is no such byte.
 // Stays a count and no Option: it is the length of tails_of, which has none there.
-fn tails_behind(lead: u8) -> u8
+pub fn tails_behind(lead: u8) -> u8
     ensures { result ≡ length (tails_of lead) }
 {
     match lead {
@@ -48,13 +58,13 @@ fn is_second(c: u8, lead: u8) -> bool
 }
 
 // The second byte of a character, and so many tails behind it.
-fn second_end(bytes: &[u8], at: usize, lead: u8, more: u8) -> Result<usize, usize>
+pub fn second_end(bytes: &[u8], at: usize, lead: u8, more: u8) -> Result<usize, usize>
     ensures { result ≡ rest_end (second_of lead ∷ replicate more tail) at (drop at bytes.now) }
 {
     if !is_second(byte_at(bytes, at), lead) {
         return Err(at);
     }
-    run_end(bytes, at + 1, usize::from(more), is_tail)
+    run_end::<Tail>(bytes, at + 1, usize::from(more))
 }
 
 // A character of two bytes or more, by its first byte; it stops there, if this is no such byte.

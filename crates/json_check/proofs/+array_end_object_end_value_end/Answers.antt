@@ -1,7 +1,8 @@
 -- A value, and what stands in an object or an array: item by item from the opening byte to the closing one.
-use Rattle.std.specs.Prelude.{Ok, Err}
-use Rattle.std.proofs.Common.{◌≡◌, ◌∙◌, sym, ap, ℕ, ◌+◌, List, drop, arith, rules}
+use Rattle.std.specs.Prelude.{Option, Ok}
+use Rattle.std.proofs.Common.{◌≡◌, ◌∙◌, sym, ap, ℕ, ◌+◌, List, drop, arith}
 use mathlib.Core.Path.{subst⁻¹}
+use Rattle.json_scan.specs.declared.Fault.{Fault}
 use Rattle.json_scan.specs.declared.Token.{Token}
 use Rattle.json_scan.specs.Scan.{is_white, in_object, in_array, name, value, behind, between, text}
 use Rattle.json_scan.specs.WorkingEnds.{token_at}
@@ -15,9 +16,13 @@ use Rattle.json_scalar.specs.WorkingScalars.{scalar_end}
 use Rattle.json_scalar.proofs.Scalars.{scalar_reads}
 use Rattle.json_separators.specs.WorkingSeparators.{name_end}
 use Rattle.json_separators.proofs.Names.{name_reads}
-use Rattle.json_check.specs.WorkingNested.{Stands}
+use Rattle.json_check.specs.WorkingNested.{left_by, Stands}
 use Rattle.json_check.proofs.Nesting.{begins_text, nest_closed, inside_first, inside_held, inside_failed, held_more, held_closed, held_neither, more_further, opened_nest, opened_stop, reads_opened}
 use Rattle.json_check.proofs.+array_end_object_end_value_end.Goals as goal
+
+-- where a reader told nothing, what it left is the fault
+abbrev left_in : Fault → Option ℕ → Came
+left_in fault read = left_by read fault
 
 -- an item of an array: white space and a value
 item :
@@ -53,13 +58,11 @@ array_end-value_end-requires t c =
 
 pub array_end-returns-in_err-end : goal.array_end-returns-in_err-end
 array_end-returns-in_err-end t c =
-    let stops : c.from_residual.result ≡ Err c.in_err-end.field-0.0 = search rules in
-    opened_stop (omega arith) stops (inside_failed c.loop-end.invariant (item c.token_at-t.ensures c.in_err-end.ensures))
+    opened_stop (omega arith) (ap (left_in c.value_end.new.fault) c.from_residual.ensures) (inside_failed c.loop-end.invariant (item c.token_at-t.ensures c.in_err-end.ensures))
 
 pub array_end-returns-in_err-k : goal.array_end-returns-in_err-k
 array_end-returns-in_err-k t c =
-    let stops : c.from_residual-in_err-k.result ≡ Err c.in_err-k.field-0.0 = search rules in
-    opened_stop (omega arith) stops
+    opened_stop (omega arith) (ap (left_in c.told.new.fault) c.from_residual-in_err-k.ensures)
     (held_neither (inside_held c.loop-end.invariant (item c.token_at-t.ensures c.in_ok-end.ensures)) (c.in_err-k.ensures ∙ ap came c.next_value.ensures))
 
 pub array_end-loop-end-smaller : goal.array_end-loop-end-smaller
@@ -90,8 +93,8 @@ object_end-loop-name-init t c = inside_first _ in_object (token_told _ _ c.token
 
 pub object_end-returns-in_err-name : goal.object_end-returns-in_err-name
 object_end-returns-in_err-name t c =
-    let stops : c.from_residual.result ≡ Err c.in_err-name.field-0.0 = search rules in
-    opened_stop (omega arith) stops (inside_failed c.loop-name.invariant (reads_failed (named (c.in_err-name.ensures ∙ ap came c.name_end.ensures))))
+    opened_stop (omega arith) (ap (left_in c.told.new.fault) c.from_residual.ensures)
+    (inside_failed c.loop-name.invariant (reads_failed (named (c.in_err-name.ensures ∙ ap came c.name_end.ensures))))
 
 pub object_end-value_end-requires : goal.object_end-value_end-requires
 object_end-value_end-requires t c =
@@ -100,13 +103,12 @@ object_end-value_end-requires t c =
 
 pub object_end-returns-in_err-end : goal.object_end-returns-in_err-end
 object_end-returns-in_err-end t c =
-    let stops : c.from_residual-in_err-end.result ≡ Err c.in_err-end.field-0.0 = search rules in
-    opened_stop (omega arith) stops (inside_failed c.loop-name.invariant (member (c.in_ok-name.ensures ∙ ap came c.name_end.ensures) c.token_at-t.ensures c.in_err-end.ensures))
+    opened_stop (omega arith) (ap (left_in c.value_end.new.fault) c.from_residual-in_err-end.ensures)
+    (inside_failed c.loop-name.invariant (member (c.in_ok-name.ensures ∙ ap came c.name_end.ensures) c.token_at-t.ensures c.in_err-end.ensures))
 
 pub object_end-returns-in_err-k : goal.object_end-returns-in_err-k
 object_end-returns-in_err-k t c =
-    let stops : c.from_residual-in_err-k.result ≡ Err c.in_err-k.field-0.0 = search rules in
-    opened_stop (omega arith) stops
+    opened_stop (omega arith) (ap (left_in c.told-in-loop-name.new.fault) c.from_residual-in_err-k.ensures)
     (held_neither (inside_held c.loop-name.invariant (member (c.in_ok-name.ensures ∙ ap came c.name_end.ensures) c.token_at-t.ensures c.in_ok-end.ensures))
     (c.in_err-k.ensures ∙ ap came c.next_value.ensures))
 
@@ -146,40 +148,14 @@ scalar {bytes} {room} {at} stands q o a told =
     (λ l. record { dark = ap is_white (sym stands.there) ∙ stands.dark l; no_string = λ e. q (stands.there ∙ e); no_object = λ e. o (stands.there ∙ e); no_array = λ e. a (stands.there ∙ e) })
     room)
 
-pub value_end-returns-in_err-not_json-in-34 : goal.value_end-returns-in_err-not_json-in-34
-value_end-returns-in_err-not_json-in-34 t c =
-    let stops : c.from_residual.result ≡ Err c.in_err-not_json-in-34.field-0.0 = search rules in
-    subst⁻¹ (ReadsOn c.args.bytes.now c.args.room c.args.at (between value) (between behind)) stops (string c.requires c.in-34.is (c.in_err-not_json-in-34.ensures ∙ ap came c.text_end.ensures))
+pub value_end-returns-in-34 : goal.value_end-returns-in-34
+value_end-returns-in-34 t c = string c.requires c.in-34.is (c.told.ensures ∙ ap came c.text_end.ensures)
 
-pub value_end-returns-in_ok-not_json-in-34 : goal.value_end-returns-in_ok-not_json-in-34
-value_end-returns-in_ok-not_json-in-34 t c = string c.requires c.in-34.is (c.in_ok-not_json-in-34.ensures ∙ ap came c.text_end.ensures)
+pub value_end-returns-in-123 : goal.value_end-returns-in-123
+value_end-returns-in-123 t c = reads_opened in_object _ _ (inside c.args.bytes.now c.args.at (λ z. omega (arith, c.requires.there, z))) (omega (arith, c.requires.there)) c.object_end.ensures
 
-pub value_end-returns-in_err-object_end-in-123 : goal.value_end-returns-in_err-object_end-in-123
-value_end-returns-in_err-object_end-in-123 t c =
-    let stops : c.from_residual-in_err-object_end-in-123.result ≡ Err c.in_err-object_end-in-123.field-0.0 = search rules in
-    subst⁻¹ (ReadsOn c.args.bytes.now c.args.room c.args.at (between value) (between behind)) stops
-    (reads_opened in_object _ _ (inside c.args.bytes.now c.args.at (λ z. omega (arith, c.requires.there, z))) (omega (arith, c.requires.there)) c.in_err-object_end-in-123.ensures)
+pub value_end-returns-in-91 : goal.value_end-returns-in-91
+value_end-returns-in-91 t c = reads_opened in_array _ _ (inside c.args.bytes.now c.args.at (λ z. omega (arith, c.requires.there, z))) (omega (arith, c.requires.there)) c.array_end.ensures
 
-pub value_end-returns-in_ok-object_end-in-123 : goal.value_end-returns-in_ok-object_end-in-123
-value_end-returns-in_ok-object_end-in-123 t c =
-    reads_opened in_object _ _ (inside c.args.bytes.now c.args.at (λ z. omega (arith, c.requires.there, z))) (omega (arith, c.requires.there)) c.in_ok-object_end-in-123.ensures
-
-pub value_end-returns-in_err-array_end-in-91 : goal.value_end-returns-in_err-array_end-in-91
-value_end-returns-in_err-array_end-in-91 t c =
-    let stops : c.from_residual-in_err-array_end-in-91.result ≡ Err c.in_err-array_end-in-91.field-0.0 = search rules in
-    subst⁻¹ (ReadsOn c.args.bytes.now c.args.room c.args.at (between value) (between behind)) stops
-    (reads_opened in_array _ _ (inside c.args.bytes.now c.args.at (λ z. omega (arith, c.requires.there, z))) (omega (arith, c.requires.there)) c.in_err-array_end-in-91.ensures)
-
-pub value_end-returns-in_ok-array_end-in-91 : goal.value_end-returns-in_ok-array_end-in-91
-value_end-returns-in_ok-array_end-in-91 t c =
-    reads_opened in_array _ _ (inside c.args.bytes.now c.args.at (λ z. omega (arith, c.requires.there, z))) (omega (arith, c.requires.there)) c.in_ok-array_end-in-91.ensures
-
-pub value_end-returns-in_err-not_json-in_default : goal.value_end-returns-in_err-not_json-in_default
-value_end-returns-in_err-not_json-in_default t c =
-    let stops : c.from_residual-in_err-not_json-in_default.result ≡ Err c.in_err-not_json-in_default.field-0.0 = search rules in
-    subst⁻¹ (ReadsOn c.args.bytes.now c.args.room c.args.at (between value) (between behind)) stops
-    (scalar c.requires (λ e. omega (arith, e)) (λ e. omega (arith, e)) (λ e. omega (arith, e)) (c.in_err-not_json-in_default.ensures ∙ ap came c.scalar_end.ensures))
-
-pub value_end-returns-in_ok-not_json-in_default : goal.value_end-returns-in_ok-not_json-in_default
-value_end-returns-in_ok-not_json-in_default t c =
-    scalar c.requires (λ e. omega (arith, e)) (λ e. omega (arith, e)) (λ e. omega (arith, e)) (c.in_ok-not_json-in_default.ensures ∙ ap came c.scalar_end.ensures)
+pub value_end-returns-in_default : goal.value_end-returns-in_default
+value_end-returns-in_default t c = scalar c.requires (λ e. omega (arith, e)) (λ e. omega (arith, e)) (λ e. omega (arith, e)) (c.told-in_default.ensures ∙ ap came c.scalar_end.ensures)

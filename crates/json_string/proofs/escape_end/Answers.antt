@@ -22,7 +22,7 @@ pub returns-then-c-eq117 : goal.returns-then-c-eq117
 returns-then-c-eq117 c =
     let bytes = c.args.bytes.now in
     let at = c.args.at in
-    let told : c.run_end.result ≡ rest_end (replicate 4 hex) (at + 1) (drop (at + 1) bytes) = c.run_end.ensures hex (λ x b e. e) in
+    let told : c.run_end.result ≡ rest_end (replicate 4 hex) (at + 1) (drop (at + 1) bytes) = c.run_end.ensures in
     let on : at + 1 ≤ place_of (came c.run_end.result) = subst⁻¹ (λ (r : Reached). at + 1 ≤ place_of (came r)) told (rest_onward bytes (replicate 4 hex) (at + 1)) in
     record {
       same =

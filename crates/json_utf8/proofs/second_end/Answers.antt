@@ -26,6 +26,6 @@ overflow_add-at c = let l = (further (goal.at.overflow_add-at c).After-is_second
 pub returns : goal.returns
 returns c =
     let from = c.args.at + 1 in
-    c.run_end.ensures tail (λ x b e. e)
+    c.run_end.ensures
     ∙ ap (λ (n : ℕ). rest_end (replicate n tail) from (drop from c.args.bytes.now)) c.from.ensures
     ∙ sym (further (goal.at.returns c).After-is_second c.if-not-is_second.false).1.same
