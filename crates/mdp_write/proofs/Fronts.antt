@@ -2,13 +2,12 @@
 use mathlib.Core.Path.{◌≡◌, sym, ◌∙◌}
 use mathlib.Core.Bool.{Bool, true}
 use Prim.Native.Nat.{ℕ, ◌≤◌}
-use mathlib.Core.List.{List, [], ◌∷◌, ◌++◌, append-nil, append_assoc}
+use mathlib.Core.List.{List, [], ◌∷◌, ◌++◌, append_assoc}
 use native.Mathlib.Omega.{arith}
 use lib.ListN.{length, length-append}
-use borrow.Author.Tests.{ne_eqb}
 use Rattle.frame_message.specs.Frame.{part_bytes, joined, part_if}
 use Rattle.frame_message.proofs.Parts.{joined-append}
-use Rattle.mdp_command.specs.Command.{client_mark, worker_mark, has_name, has_address}
+use Rattle.mdp_command.specs.Command.{has_name, has_address}
 use Rattle.mdp_command.specs.CommandBytes.{mark_of, address_parts, front_parts}
 use Rattle.mdp_write.specs.WorkingFront.{front_of}
 
