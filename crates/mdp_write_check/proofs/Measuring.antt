@@ -1,12 +1,12 @@
 -- How long a command is that will be written.
 use mathlib.Core.Path.{◌≡◌, refl, sym}
 use mathlib.Core.Bool.{Bool, true, false, cond, ◌&&◌}
-use Prim.Native.Nat.{ℕ, ◌≤◌}
+use Prim.Native.Nat.{ℕ, ◌+◌, ◌<◌, ◌≤◌}
 use mathlib.Core.List.{List, [], ◌∷◌}
 use native.Mathlib.Omega.{arith}
 use lib.Dec.{ltb, leb}
 use lib.ListN.{length}
-use borrow.Author.Tests.{leb-true}
+use borrow.Author.Tests.{lt-ltb, le-ltb, leb-true}
 use Rattle.bytes_number.proofs.Truth.{and_left, and_right, true_false}
 use Rattle.refusal.specs.declared.Refusal.TheVariants.{CommandLong, OutputShort}
 use Rattle.bytes_number.specs.Number.{four}
@@ -68,6 +68,20 @@ pub front_most : (name address : Bool) (n : ℕ) → n ≤ 255 → front_length 
 front_most true address n h = omega (arith, size_most n)
 front_most false true n h = omega arith
 front_most false false n h = omega arith
+
+-- by what it carries
+module _ {name : Bool} (address : Bool) (n : ℕ) where
+  pub front_short_name : name ≡ true → n < 255 → 9 + 1 + n ≡ front_length name address n
+  front_short_name e h = rw (e, lt-ltb n 255 h) (omega arith)
+
+  pub front_long_name : name ≡ true → 255 ≤ n → 9 + 5 + n ≡ front_length name address n
+  front_long_name e h = rw (e, le-ltb n 255 h) (omega arith)
+
+  pub front_address : name ≡ false → address ≡ true → 48 ≡ front_length name address n
+  front_address e f = rw (e, f)
+
+  pub front_bare : name ≡ false → address ≡ false → 9 ≡ front_length name address n
+  front_bare e f = rw (e, f)
 
 -- ---- 31 and 11, of a command's bytes
 
