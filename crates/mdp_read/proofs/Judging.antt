@@ -7,7 +7,7 @@ use native.Mathlib.Omega.{arith}
 use lib.ListN.{length, get_or, take, drop, length-append, length-drop}
 use borrow.Author.Tests.{eqb-true}
 use lib.Seq.{drop-drop, drop_at, take_at, get_or-drop}
-use Rattle.bytes_number.proofs.Truth.{true_false}
+use Rattle.bytes_number.proofs.Truth.{clash, true_false}
 use Rattle.refusal.specs.declared.Refusal.TheVariants.{PartCountWrong, NameWrong, AddressWrong, SeparatorWrong}
 use Rattle.refusal.specs.Answer.{Answer, refused, answered}
 use Rattle.frame_forms.specs.Forms.{is_route}
@@ -23,17 +23,37 @@ use Rattle.frame_message.specs.declared.Stretch.{Stretch}
 use native.Mathlib.Decide.{dec_lt}
 use Rattle.frame_part_size.specs.WorkingSizes.{size_at}
 use Rattle.mdp_command.specs.declared.CommandPlaces.{CommandPlaces}
-use Rattle.mdp_command.specs.Command.{Command, has_body, is_command_name}
+use Rattle.mdp_command.specs.Command.{Command, has_name, has_address, has_body, is_command_name}
 use Rattle.mdp_command.specs.CommandBytes.{mark_of}
 use Rattle.mdp_command.specs.CommandWriting.{body_fits}
 use Rattle.mdp_command.specs.CommandReading.{command_as}
 use Rattle.mdp_command.specs.Places.{places_of}
 use Rattle.mdp_command.specs.Working.{command_read_as, parts_there}
-use Rattle.mdp_command.proofs.Carrying.{Carries}
+use Rattle.mdp_command.proofs.Carrying.{Carries, Kind, asks, ready, works, bare}
 use Rattle.mdp_command.proofs.Commands.{holding, named_short, named_judged, addressed_short, addressed_judged, bare_judged}
 use Rattle.mdp_command.proofs.Placing.{stretch_of, places_at, named_places, addressed_places, bare_places}
 use Rattle.mdp_read.specs.WorkingOpening.{OpenedAs}
 use Rattle.mdp_read.proofs.Opening.{Fore, fore, fixed_part, fixed_size}
+
+-- ---- what a command carries, by what it has
+
+pub carries_name : {sender code : ℕ} → Kind sender code → has_name sender code ≡ true → Carries sender code true false (has_body sender code)
+carries_name (asks e k) n = record { named = n; addressed = k.addressed; bodied = refl }
+carries_name (ready e k) n = record { named = n; addressed = k.addressed; bodied = refl }
+carries_name (works e k) n = clash _ n k.named
+carries_name (bare e k) n = clash _ n k.named
+
+pub carries_address : {sender code : ℕ} → Kind sender code → has_name sender code ≡ false → has_address sender code ≡ true → Carries sender code false true true
+carries_address (asks e k) n a = clash _ k.named n
+carries_address (ready e k) n a = clash _ k.named n
+carries_address (works e k) n a = k
+carries_address (bare e k) n a = clash _ a k.addressed
+
+pub carries_nothing : {sender code : ℕ} → Kind sender code → has_name sender code ≡ false → has_address sender code ≡ false → Carries sender code false false false
+carries_nothing (asks e k) n a = clash _ k.named n
+carries_nothing (ready e k) n a = clash _ k.named n
+carries_nothing (works e k) n a = clash _ k.addressed a
+carries_nothing (bare e k) n a = k
 
 -- ---- the third part
 
@@ -84,8 +104,8 @@ module _ {b : List ℕ} {count sender code : ℕ} (o : OpenedAs b count sender c
   nine_at_least = omega (arith, f.long)
 
   module _ (k : Carries sender code true false (has_body sender code)) where
-    named_few : count < 3 → Says (Err PartCountWrong)
-    named_few h = go f.rest refl (omega (arith, f.many))
+    few_named : count < 3 → Says (Err PartCountWrong)
+    few_named h = go f.rest refl (omega (arith, f.many))
       where
         go : (rest : List (List ℕ)) → f.rest ≡ rest → length rest < 1 → Says (Err PartCountWrong)
         go [] e l = says (refused PartCountWrong) e (named_short sender code k (mark_of sender) (code ∷ []))
@@ -107,8 +127,8 @@ module _ {b : List ℕ} {count sender code : ℕ} (o : OpenedAs b count sender c
       abbrev judges : Answer Command → Type 0
       judges a = command_as sender code (mark_of sender ∷ (code ∷ []) ∷ name ∷ body) ≡ a
 
-      named_unfit : body_fits sender code (count - 3) ≡ false → Says (Err PartCountWrong)
-      named_unfit h =
+      unfit_named : body_fits sender code (count - 3) ≡ false → Says (Err PartCountWrong)
+      unfit_named h =
           let none : body_fits sender code (length body) ≡ false = rw counts at h in
           let j : judges (refused PartCountWrong) = named_judged sender code k (mark_of sender) (code ∷ []) name body ∙ rw none in
           says (refused PartCountWrong) t.is j
@@ -174,12 +194,12 @@ module _ {b : List ℕ} {count sender code : ℕ} (o : OpenedAs b count sender c
     named_uncounted h = go (dec_lt count 3)
       where
         go : Dec (count < 3) → Says (Err PartCountWrong)
-        go (yes few) = named_few few
-        go (no n) = named_unfit (omega arith) (h (omega arith))
+        go (yes few) = few_named few
+        go (no n) = unfit_named (omega arith) (h (omega arith))
 
   module _ (w : Carries sender code false true true) where
-    addressed_few : count < 4 → Says (Err PartCountWrong)
-    addressed_few h = says (refused PartCountWrong) refl (addressed_short sender code w (mark_of sender) (code ∷ []) f.rest (omega (arith, f.many)))
+    few_addressed : count < 4 → Says (Err PartCountWrong)
+    few_addressed h = says (refused PartCountWrong) refl (addressed_short sender code w (mark_of sender) (code ∷ []) f.rest (omega (arith, f.many)))
 
     module _ (enough : 4 ≤ count) where
       a : Firsts f.rest
@@ -206,8 +226,8 @@ module _ {b : List ℕ} {count sender code : ℕ} (o : OpenedAs b count sender c
       abbrev rules : Answer Command → Type 0
       rules r = command_as sender code (mark_of sender ∷ (code ∷ []) ∷ address ∷ gap ∷ work) ≡ r
 
-      addressed_unfit : body_fits sender code (count - 4) ≡ false → Says (Err PartCountWrong)
-      addressed_unfit h =
+      unfit_addressed : body_fits sender code (count - 4) ≡ false → Says (Err PartCountWrong)
+      unfit_addressed h =
           let none : body_fits sender code (length work) ≡ false = rw works_count at h in
           let j : rules (refused PartCountWrong) = addressed_judged sender code w (mark_of sender) (code ∷ []) address gap work ∙ rw none in
           says (refused PartCountWrong) is j
@@ -285,20 +305,20 @@ module _ {b : List ℕ} {count sender code : ℕ} (o : OpenedAs b count sender c
     addressed_uncounted h = go (dec_lt count 4)
       where
         go : Dec (count < 4) → Says (Err PartCountWrong)
-        go (yes few) = addressed_few few
-        go (no n) = addressed_unfit (omega arith) (h (omega arith))
+        go (yes few) = few_addressed few
+        go (no n) = unfit_addressed (omega arith) (h (omega arith))
 
   module _ (n : Carries sender code false false false) where
     rest_count : count - 2 ≡ length f.rest
     rest_count = omega (arith, f.many)
 
-    bare_unfit : body_fits sender code (count - 2) ≡ false → Says (Err PartCountWrong)
-    bare_unfit h =
+    unfit_bare : body_fits sender code (count - 2) ≡ false → Says (Err PartCountWrong)
+    unfit_bare h =
         let none : body_fits sender code (length f.rest) ≡ false = rw rest_count at h in
         says (refused PartCountWrong) refl (bare_judged sender code n (mark_of sender) (code ∷ []) f.rest ∙ rw none)
 
     pub bare_uncounted : (2 ≤ count → body_fits sender code (count - 2) ≡ false) → Says (Err PartCountWrong)
-    bare_uncounted h = bare_unfit (h two_at_least)
+    bare_uncounted h = unfit_bare (h two_at_least)
 
     pub bare_good : body_fits sender code (count - 2) ≡ true → {has : Bool} → has ≡ has_body sender code → {parts : ℕ} → parts ≡ count - 2 →
         Says (Ok (places_at sender code (stretch_of 0 0) 0 (stretch_of (cond has (length b) 0) (length b - length b)) parts))
@@ -314,3 +334,25 @@ module _ {b : List ℕ} {count sender code : ℕ} (o : OpenedAs b count sender c
       where
         bare_parts : body_fits sender code (length f.rest) ≡ true → length f.rest ≡ 0
         bare_parts e = eqb-true (length f.rest) 0 (rw n.bodied at e)
+
+  -- ---- 34, by what the command has
+
+  module _ (named : has_name sender code ≡ true) where
+    pub named_few : count < 3 → Says (Err PartCountWrong)
+    named_few h = few_named (carries_name f.kind named) h
+
+    module _ (enough : 3 ≤ count) where
+      pub named_unfit : body_fits sender code (count - 3) ≡ false → Says (Err PartCountWrong)
+      named_unfit h = unfit_named (carries_name f.kind named) enough h
+
+  module _ (unnamed : has_name sender code ≡ false) (addressed : has_address sender code ≡ true) where
+    pub addressed_few : count < 4 → Says (Err PartCountWrong)
+    addressed_few h = few_addressed (carries_address f.kind unnamed addressed) h
+
+    module _ (enough : 4 ≤ count) where
+      pub addressed_unfit : body_fits sender code (count - 4) ≡ false → Says (Err PartCountWrong)
+      addressed_unfit h = unfit_addressed (carries_address f.kind unnamed addressed) enough h
+
+  module _ (unnamed : has_name sender code ≡ false) (unaddressed : has_address sender code ≡ false) where
+    pub bare_unfit : body_fits sender code (count - 2) ≡ false → Says (Err PartCountWrong)
+    bare_unfit h = unfit_bare (carries_nothing f.kind unnamed unaddressed) h

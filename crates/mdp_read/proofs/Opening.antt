@@ -7,7 +7,7 @@ use native.Mathlib.Omega.{arith}
 use lib.Dec.{eqb, ltb}
 use lib.ListN.{length, get_or, take, drop, length-append}
 use lib.Seq.{get_or-append-add, take-append_seam}
-use borrow.Author.Tests.{eqb-true, eqb-false, ne_eqb, lt-ltb, le-ltb}
+use borrow.Author.Tests.{eqb-true, eqb-false, eq-eqb, ne_eqb, lt-ltb, le-ltb}
 use Rattle.bytes_number.specs.Number.{Bytes}
 use Rattle.refusal.specs.declared.Refusal.TheVariants.{CommandLong, CommandPartWrong, MarkWrong, CommandWrong}
 use Rattle.refusal.specs.Answer.{refused, answered}
@@ -15,6 +15,7 @@ use Rattle.frame_message.specs.Frame.{part_bytes, joined}
 use Rattle.frame_message.specs.Reading.{parts_in}
 use Rattle.frame_message.proofs.Lists.{Each}
 use Rattle.frame_message.proofs.Parts.{Sized, Split, split, part_short}
+use Rattle.table_records.specs.Bytes.{same_bytes}
 use Rattle.table_records.proofs.Bytes.{same_lengths}
 use Rattle.mdp_command.specs.Command.{client_mark, worker_mark, is_command}
 use Rattle.std.specs.Prelude.{Err}
@@ -107,6 +108,46 @@ code_found m ps e =
     let front = fixed_part m (joined ps) 6 (omega arith) e in
     let long : length (6 ∷ (m ++ joined ps)) ≡ 7 + length (joined ps) = omega (arith, length-append m (joined ps)) in
     rw (front, long, behind_mark m (joined ps) 0 e, behind_mark m (joined ps) 1 e) (number_found ps)
+
+-- ---- the same, test by test
+
+module _ (p : List ℕ) where
+  pub client_sends : same_bytes p client_mark ≡ true → sender_of p ≡ 1
+  unfolding sender_of
+  client_sends e = rw e
+
+  pub worker_sends : same_bytes p client_mark ≡ false → same_bytes p worker_mark ≡ true → sender_of p ≡ 2
+  unfolding sender_of
+  worker_sends e f = rw (e, f)
+
+  pub nobody_sends : same_bytes p client_mark ≡ false → same_bytes p worker_mark ≡ false → sender_of p ≡ 0
+  unfolding sender_of
+  nobody_sends e f = rw (e, f)
+
+module _ (b : List ℕ) where
+  pub mark_short : length b < 7 → sender_at b ≡ 0
+  unfolding sender_at
+  mark_short h = rw (lt-ltb (length b) 7 h)
+
+  pub mark_size : 7 ≤ length b → (get_or b 0 0 ≡ 6 → ⊥) → sender_at b ≡ 0
+  unfolding sender_at
+  mark_size h n = rw (le-ltb (length b) 7 h, ne_eqb (get_or b 0 0) 6 n)
+
+  pub mark_there : 7 ≤ length b → get_or b 0 0 ≡ 6 → sender_at b ≡ sender_of (take 6 (drop 1 b))
+  unfolding sender_at
+  mark_there h e = rw (le-ltb (length b) 7 h, eq-eqb (get_or b 0 0) 6 e)
+
+  pub code_short : length b < 9 → code_at b ≡ 0
+  unfolding code_at
+  code_short h = rw (lt-ltb (length b) 9 h)
+
+  pub code_size : 9 ≤ length b → (get_or b 7 0 ≡ 1 → ⊥) → code_at b ≡ 0
+  unfolding code_at
+  code_size h n = rw (le-ltb (length b) 9 h, ne_eqb (get_or b 7 0) 1 n)
+
+  pub code_there : 9 ≤ length b → get_or b 7 0 ≡ 1 → code_at b ≡ get_or b 8 0
+  unfolding code_at
+  code_there h e = rw (le-ltb (length b) 9 h, eq-eqb (get_or b 7 0) 1 e)
 
 -- ---- what stands behind the two
 

@@ -151,7 +151,7 @@ pub(crate) fn judge(bytes: &[u8], count: usize) -> Result<CommandPlaces, Refusal
 {
     let sender = sender_at(bytes).ok_or(Refusal::MarkWrong)?;
     let code = code_at(bytes).ok_or(Refusal::CommandWrong)?;
-    let carried = mdp_rules::carries(sender, code)?;
+    let carried = Carried::of(sender, code)?;
     let opened = Opened {
         bytes,
         count,

@@ -5,6 +5,7 @@ use Rattle.refusal.specs.declared.Refusal.TheVariants.{CommandWrong}
 use Rattle.mdp_command.specs.Command.{is_command, has_name, has_address, has_body}
 use Rattle.mdp_rules.specs.declared.Carried.{Carried}
 use Rattle.mdp_rules.specs.declared.Carried.TheVariants.{NameAndBody, Name, AddressAndBody, Nothing}
+use Rattle.mdp_rules.specs.declared.Contents.{Contents}
 
 abbrev pub named : Carried → Bool
 named NameAndBody = true
@@ -32,3 +33,7 @@ CarriedBy sender code carried =
 -- that, or 33 where there is no such command
 abbrev pub Carrying : ℕ → ℕ → Result Carried Refusal → Type 0
 Carrying sender code r = MatchResult r (CarriedBy sender code) (λ why. (why ≡ CommandWrong) × (is_command sender code ≡ false))
+
+-- the three of any two numbers, also where there is no such command
+unfoldable pub carried_by : ℕ → ℕ → Contents
+carried_by sender code = record { name = has_name sender code; address = has_address sender code; body = has_body sender code }

@@ -16,10 +16,24 @@ use Rattle.mdp_write.specs.WorkingFront.{front_of}
 pub fore_fits : (w x : List ℕ) {n : ℕ} → length (w ++ x) ≤ n → length w ≤ n
 fore_fits w x h = omega (arith, length-append w x)
 
--- the address where it is there
+-- nothing behind them changes nothing
+pub no_more : (w x : List ℕ) → length x ≤ 0 → w ≡ w ++ x
+no_more w [] h = sym (append-nil w)
+no_more w (b ∷ x) h = absurd (omega arith)
+
+-- each of these where it is there
 module _ {given : Bool} where
+  pub name_part : (p : List ℕ) → given ≡ true → joined (part_if given p) ≡ part_bytes p
+  name_part p e = rw e (append-nil (part_bytes p))
+
   pub address_part : (p : List ℕ) → given ≡ true → joined (address_parts given p) ≡ part_bytes p ++ (0 ∷ [])
   address_part p e = rw e
+
+pub client_mark_lem : (sender : ℕ) → sender ≡ 1 → client_mark ≡ mark_of sender
+client_mark_lem sender e = rw e
+
+pub worker_mark_lem : (sender : ℕ) → (sender ≡ 1 → ⊥) → worker_mark ≡ mark_of sender
+worker_mark_lem sender n = rw (ne_eqb sender 1 n)
 
 -- ---- the four, one behind the other
 

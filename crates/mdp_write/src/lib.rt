@@ -8,6 +8,7 @@ ghost use Rattle.mdp_command.specs.CommandWriting.{command_into};
 ghost use Rattle.mdp_command.specs.WorkingGiven.{given_in};
 
 use mdp_command::{Command, Sender};
+use mdp_rules::Carried;
 use refusal::Refusal;
 
 mod whole;
@@ -19,7 +20,7 @@ pub fn write_command(command: &Command, out: &mut [u8]) -> Result<usize, Refusal
     ensures out_after { out.new ≡ written_over (command_into (length out.old) (given_in command.now)) out.old }
 {
     let sender = Sender::try_from(command.sender)?;
-    let carried = mdp_rules::carries(sender, command.code)?;
+    let carried = Carried::of(sender, command.code)?;
     // Before the check: a copy of bytes that have just been laid down, as those of the mark are, waits for them.
     let mark = sender.mark();
     let n = mdp_write_check::check_command(command, out.len())?;

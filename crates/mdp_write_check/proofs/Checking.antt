@@ -2,7 +2,7 @@
 use mathlib.Core.Path.{◌≡◌, refl, sym, ap, subst, ◌∙◌}
 use mathlib.Core.Bool.{Bool, true, false, cond}
 use Prim.Native.Nat.{ℕ, ◌+◌}
-use mathlib.Core.List.{List}
+use mathlib.Core.List.{List, [], ◌∷◌}
 use native.Mathlib.Omega.{arith}
 use lib.Dec.{ltb}
 use borrow.Author.Tests.{ne_eqb}
@@ -23,6 +23,7 @@ use Rattle.mdp_command.specs.Command.{Command, is_command, has_name, has_address
 use Rattle.mdp_command.specs.CommandBytes.{as_thirty, command_bytes, cut_parts}
 use Rattle.mdp_command.specs.CommandWriting.{body_fits, name_fits, address_fits, command_written, Given, command_of, command_into}
 use Rattle.mdp_command.proofs.Carrying.{kind_of}
+use Rattle.mdp_command.proofs.Commands.{empty_none}
 use Rattle.mdp_command.proofs.Cutting.{CutInto, cut_found, cut_split}
 use Rattle.mdp_command.proofs.RoundTrip.{bytes-length}
 use Rattle.mdp_rules.specs.declared.Carried.{Carried}
@@ -54,6 +55,20 @@ pub cut-told : {b : List ℕ} {n : ℕ} → CutInto b n → Ok n ≡ cut_as (cut
 cut-told c = rw (c.cuts, c.counted)
 
 -- ---- what is there to be given, and what is not
+
+no_bytes : (xs : List ℕ) → length xs ≡ 0 → is_empty xs ≡ true
+no_bytes [] e = refl
+no_bytes (x ∷ xs) e = absurd (omega arith)
+
+pub given_is : (right wrong : Bool) {given : Bool} → given ≡ true → cond given right wrong ≡ right
+given_is right wrong e = rw e
+
+module _ (xs : List ℕ) (right : Bool) {given : Bool} (none : given ≡ false) where
+  pub none_given : length xs ≡ 0 → cond given right (is_empty xs) ≡ true
+  none_given e = rw none (no_bytes xs e)
+
+  pub given_none : cond given right (is_empty xs) ≡ true → length xs ≡ 0
+  given_none e = ap length (empty_none xs (rw none at e))
 
 pub no_sender : (sender code : ℕ) → (sender ≡ 1 → ⊥) → (sender ≡ 2 → ⊥) → is_command sender code ≡ false
 unfolding is_command

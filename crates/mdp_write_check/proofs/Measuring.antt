@@ -1,15 +1,16 @@
 -- How long a command is that will be written.
 use mathlib.Core.Path.{◌≡◌, refl, sym}
 use mathlib.Core.Bool.{Bool, true, false, cond, ◌&&◌}
-use Prim.Native.Nat.{ℕ, ◌≤◌}
+use Prim.Native.Nat.{ℕ, ◌+◌, ◌<◌, ◌≤◌}
 use mathlib.Core.List.{List, [], ◌∷◌}
 use native.Mathlib.Omega.{arith}
 use lib.Dec.{ltb, leb}
 use lib.ListN.{length}
-use borrow.Author.Tests.{leb-true}
+use borrow.Author.Tests.{lt-ltb, le-ltb, leb-true}
 use Rattle.bytes_number.proofs.Truth.{and_left, and_right, true_false}
 use Rattle.refusal.specs.declared.Refusal.TheVariants.{CommandLong, OutputShort}
 use Rattle.bytes_number.specs.Number.{four}
+use Rattle.std.specs.Prelude.{Ok, Err}
 use Rattle.refusal.specs.Answer.{answered, refuse_if, and_then, result_of}
 use Rattle.frame_write_check.specs.Working.{fitted}
 use Rattle.frame_message.specs.Frame.{size_bytes, joined}
@@ -69,8 +70,33 @@ front_most true address n h = omega (arith, size_most n)
 front_most false true n h = omega arith
 front_most false false n h = omega arith
 
--- ---- 31 and 11, of a command's bytes
+-- by what it carries
+module _ {name : Bool} (address : Bool) (n : ℕ) where
+  pub front_short_name : name ≡ true → n < 255 → 9 + 1 + n ≡ front_length name address n
+  front_short_name e h = rw (e, lt-ltb n 255 h) (omega arith)
 
+  pub front_long_name : name ≡ true → 255 ≤ n → 9 + 5 + n ≡ front_length name address n
+  front_long_name e h = rw (e, le-ltb n 255 h) (omega arith)
+
+  pub front_address : name ≡ false → address ≡ true → 48 ≡ front_length name address n
+  front_address e f = rw (e, f)
+
+  pub front_bare : name ≡ false → address ≡ false → 9 ≡ front_length name address n
+  front_bare e f = rw (e, f)
+
+-- ---- 31 and 11
+
+module _ (room n : ℕ) where
+  pub measured_long : 32768 < n → Err CommandLong ≡ fitted n 32768 CommandLong room
+  measured_long h = rw (lt-ltb 32768 n h)
+
+  pub measured_room : n ≤ 32768 → room < n → Err OutputShort ≡ fitted n 32768 CommandLong room
+  measured_room h k = rw (le-ltb 32768 n h, lt-ltb room n k)
+
+  pub measured_fits : n ≤ 32768 → n ≤ room → Ok n ≡ fitted n 32768 CommandLong room
+  measured_fits h k = rw (le-ltb 32768 n h, le-ltb room n k)
+
+-- what is told of a command's bytes
 pub fitted_lem : (room : ℕ) (xs : List ℕ) →
     fitted (length xs) 32768 CommandLong room ≡ written_as (and_then (refuse_if (ltb 32768 (length xs)) CommandLong (answered xs)) (λ bytes. refuse_if (ltb room (length bytes)) OutputShort (answered bytes)))
 fitted_lem room xs = go (ltb 32768 (length xs))

@@ -86,6 +86,6 @@ pub fn check_command(command: &Command, room: usize) -> Result<usize, Refusal>
     ensures body_value { OnOk result (Bytes command.now.body.now) }
 {
     let sender = Sender::try_from(command.sender)?;
-    let carried = mdp_rules::carries(sender, command.code)?;
+    let carried = Carried::of(sender, command.code)?;
     check_carried(command, carried, room)
 }
