@@ -39,6 +39,7 @@ pub fn rest_of(bytes: &[u8], at: usize) -> &[u8]
 // A test of single bytes. It is a type and no closure, so that who passes it owes nothing.
 pub trait Test {
     ghost test: { ℕ → Bool };
+
     fn passes(c: u8) -> bool
         ensures { result ≡ test c };
 }
@@ -92,6 +93,7 @@ pub fn digits_end(bytes: &[u8], at: usize) -> usize
 // A class of the bytes that the rest of a token is made of, with its test.
 pub trait OfClass {
     ghost class: { Class };
+
     fn holds(c: u8) -> bool
         ensures { result ≡ holds class c };
 }
