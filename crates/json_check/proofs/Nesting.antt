@@ -164,6 +164,9 @@ module _ {bytes : List ℕ} (kind : Kind) (room at : ℕ) (l : at < length bytes
 pub opened_stop : {bytes : List ℕ} {room at : ℕ} {kind : Kind} {r : Came} {fault : Fault} → 0 < room → r ≡ Err fault → Nests bytes (room - 1) (at + 1) kind (Err fault) → Opened bytes room at kind r
 opened_stop {bytes} {room} {at} {kind} some is nests = opened_nest some (subst⁻¹ (Nests bytes (room - 1) (at + 1) kind) is nests)
 
--- a comma lies further on, and within the bytes
+-- a comma lies further on, and within the bytes; a closing byte lies behind something
 pub more_further : (close : ℕ) (bytes : List ℕ) (j : ℕ) {k : ℕ} → Ok (More k) ≡ came (next_of close bytes j) → (j < k) × (k ≤ length bytes)
 more_further close bytes j told = (next_told close bytes j told).further
+
+pub closed_further : (close : ℕ) (bytes : List ℕ) (j : ℕ) {k : ℕ} → Ok (Closed k) ≡ came (next_of close bytes j) → j < k
+closed_further close bytes j told = (next_told close bytes j told).further

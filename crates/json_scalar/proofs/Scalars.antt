@@ -5,16 +5,19 @@ use mathlib.Core.Bool.{Bool, true, false}
 use mathlib.Core.List.{List, [], ◌∷◌}
 use mathlib.Core.Logic.{⊎_elim}
 use Prim.Native.Nat.{ℕ, ◌+◌, ◌<◌}
+use native.Mathlib.Omega.{arith}
 use borrow.Author.Tests.{eqb-true, ltb-true, ltb-false}
 use lib.Dec.{eqb, ltb}
 use lib.ListN.{length, drop, get_or}
 use Rattle.bytes_number.proofs.Truth.{outcome}
 use Rattle.json_scan.specs.WorkingEnds.{Reached}
 use Rattle.json_scan.specs.Scan.{is_white, is_digit, Class, exactly, Kind, Figure, minus, leading_zero, whole, value, behind, between, number, rest, nowhere, to, value_step, token_move, move_of}
+use Rattle.json_scan.specs.WorkingEnds.{rest_end}
 use Rattle.json_scan.specs.WorkingReads.{came}
-use Rattle.json_scan.proofs.Reading.{ReadsToken, reads_more, reads_wrong, reads_over}
-use Rattle.json_scan.proofs.Rest.{rest_reads}
+use Rattle.json_scan.proofs.Reading.{Takes, ReadsToken, reads_more, reads_wrong, reads_over, takes_from}
+use Rattle.json_scan.proofs.Rest.{rest_reads, rest_onward}
 use Rattle.json_scan.proofs.White.{token_begins}
+use Rattle.json_number.specs.WorkingFigures.{number_end}
 use Rattle.json_number.proofs.Numbers.{number_reads}
 use Rattle.json_scalar.specs.WorkingScalars.{scalar_on, scalar_end}
 use Rattle.json_scalar.proofs.Steps.{scalar_over, scalar_at}
@@ -61,26 +64,36 @@ module _ (bytes : List ℕ) (at : ℕ) where
   abbrev x : ℕ
   x = get_or bytes at 0
 
-  -- however far it came
+  -- however far it came, and a byte at least
   abbrev Reads : Reached → Type 0
-  Reads r = (at < length bytes → Bare x) → ReadsToken bytes at (between value) (between behind) (came r)
+  Reads r = ((at < length bytes → Bare x) → ReadsToken bytes at (between value) (between behind) (came r)) × Takes at (came r)
 
   by : {r : Reached} → scalar_end at (drop at bytes) ≡ r → Reads r → Reads (scalar_end at (drop at bytes))
   by e = subst⁻¹ Reads e
 
   here : at < length bytes → First x → Reads (scalar_end at (drop at bytes))
   here l (counts figure e) =
-      by (scalar_at bytes at l ∙ ap (scalar_on at (drop (at + 1) bytes)) (e []))
-      (λ bare room. reads_more (number figure) l (λ around. begins around x (bare l).dark ∙ e around) (number_reads bytes figure (at + 1) room))
+      by (scalar_at bytes at l ∙ ap (scalar_on at (drop (at + 1) bytes)) (e [])) (
+        λ bare room. reads_more (number figure) l (λ around. begins around x (bare l).dark ∙ e around) (number_reads bytes figure (at + 1) room),
+        takes_from {at = at} (at + 1) (came (number_end figure (at + 1) (drop (at + 1) bytes))) (omega arith) (number_reads bytes figure (at + 1) 0).onward,
+      )
   here l (spells k ks e) =
-      by (scalar_at bytes at l ∙ ap (scalar_on at (drop (at + 1) bytes)) (e []))
-      (λ bare room. reads_more (rest k ks (between behind)) l (λ around. begins around x (bare l).dark ∙ e around) (rest_reads bytes (k ∷ ks) (at + 1) (between behind) room))
+      by (scalar_at bytes at l ∙ ap (scalar_on at (drop (at + 1) bytes)) (e [])) (
+        λ bare room. reads_more (rest k ks (between behind)) l (λ around. begins around x (bare l).dark ∙ e around) (rest_reads bytes (k ∷ ks) (at + 1) (between behind) room),
+        takes_from {at = at} (at + 1) (came (rest_end (k ∷ ks) (at + 1) (drop (at + 1) bytes))) (omega arith) (rest_onward bytes (k ∷ ks) (at + 1)),
+      )
   here l (other stops e) =
-      by (scalar_at bytes at l ∙ stops at (drop (at + 1) bytes)) (λ bare room. reads_wrong l (λ around. begins around x (bare l).dark ∙ e (bare l) around))
+      by (scalar_at bytes at l ∙ stops at (drop (at + 1) bytes)) (λ bare room. reads_wrong l (λ around. begins around x (bare l).dark ∙ e (bare l) around), tt)
 
-  pub scalar_reads : (at < length bytes → Bare x) → ReadsToken bytes at (between value) (between behind) (came (scalar_end at (drop at bytes)))
-  scalar_reads =
+  reads : Reads (scalar_end at (drop at bytes))
+  reads =
       ⊎_elim
       (λ t. here (ltb-true at (length bytes) t) (first x))
-      (λ t. let l = ltb-false at (length bytes) t in by (scalar_over bytes at l) (λ bare room. reads_over l refl))
+      (λ t. let l = ltb-false at (length bytes) t in by (scalar_over bytes at l) (λ bare room. reads_over l refl, tt))
       (outcome (ltb at (length bytes)))
+
+  pub scalar_reads : (at < length bytes → Bare x) → ReadsToken bytes at (between value) (between behind) (came (scalar_end at (drop at bytes)))
+  scalar_reads = reads.0
+
+  pub scalar_takes : Takes at (came (scalar_end at (drop at bytes)))
+  scalar_takes = reads.1

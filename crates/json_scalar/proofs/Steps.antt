@@ -1,7 +1,7 @@
 -- The first byte of a number or a literal name, and where such a value ends then.
 use Rattle.std.specs.Prelude.{Ok, Err}
 use mathlib.Core.Path.{◌≡◌, refl, sym, ap, ◌∙◌}
-use mathlib.Core.Bool.{Bool, true, false, cond}
+use mathlib.Core.Bool.{Bool, true, false, cond, ◌||◌}
 use mathlib.Core.List.{List, [], ◌∷◌}
 use Prim.Native.Nat.{ℕ, suc, ◌+◌, ◌<◌, ◌≤◌}
 use native.Mathlib.Omega.{arith}
@@ -11,7 +11,7 @@ use lib.ListN.{length, drop, get_or, drop_of_length-le}
 use mathlib.Core.Logic.{⊎_elim}
 use Rattle.std.specs.List.{prefix_len, zip}
 use Rattle.bytes_number.proofs.Truth.{outcome}
-use Rattle.json_scan.specs.Scan.{is_within, is_digit, holds, in_object, in_array, first_name, first_value, behind, minus, leading_zero, whole, between, number, text, nowhere, to, value_step}
+use Rattle.json_scan.specs.Scan.{is_within, is_digit, exactly, holds, in_object, in_array, first_name, first_value, behind, minus, leading_zero, whole, between, number, text, nowhere, to, value_step}
 use Rattle.json_scan.specs.WorkingEnds.{rest_end}
 use Rattle.json_scan.proofs.Bytes.{within, is_within_lem, no_zero_lem}
 use Rattle.json_scan.proofs.Scanning.{drop_at}
@@ -21,6 +21,14 @@ use Rattle.json_number.proofs.Figures.{number_on}
 use Rattle.json_scalar.specs.WorkingScalars.{spelling, scalar_on, scalar_end}
 
 -- ---- the bytes of a name
+
+pub is_exactly : (x c : ℕ) → c ≡ x → holds (exactly x) c ≡ true
+unfolding holds
+is_exactly x c e = eq-eqb c x e
+
+pub not_exactly : (x c : ℕ) → (c ≡ x → ⊥) → holds (exactly x) c ≡ false
+unfolding holds
+not_exactly x c f = ne_eqb c x f
 
 -- of two bytes that they are the same
 abbrev pub same : ℕ × ℕ → Bool
@@ -109,6 +117,14 @@ module _ (bytes : List ℕ) (at : ℕ) (l : at < length bytes) where
 
   pub scalar_number : 48 ≤ x → x ≤ 57 → scalar_end at (drop at bytes) ≡ number_end minus at (drop at bytes)
   scalar_number l m = ⊎_elim (λ t. scalar_zero (eqb-true x 48 t)) (λ t. scalar_digit (within 48 57 x l m) (eqb-false x 48 t)) (outcome (eqb x 48))
+
+  pub scalar_numeral : {j : ℕ} → (eqb x 45 || is_digit x) ≡ true → j ≡ cond (eqb x 45) (at + 1) at → scalar_end at (drop at bytes) ≡ number_end minus j (drop j bytes)
+  scalar_numeral is place = go (eqb x 45) (eqb x 48) refl refl is ∙ ap (λ (i : ℕ). number_end minus i (drop i bytes)) (sym place)
+    where
+      go : (t z : Bool) → eqb x 45 ≡ t → eqb x 48 ≡ z → (t || is_digit x) ≡ true → scalar_end at (drop at bytes) ≡ number_end minus (cond t (at + 1) at) (drop (cond t (at + 1) at) bytes)
+      go true z e f is = scalar_minus (eqb-true x 45 e)
+      go false true e f is = scalar_zero (eqb-true x 48 f)
+      go false false e f is = scalar_digit is (eqb-false x 48 f)
 
   -- neither of them
   pub scalar_none : (x ≡ 45 → ⊥) → is_digit x ≡ false → (x ≡ 102 → ⊥) → (x ≡ 110 → ⊥) → (x ≡ 116 → ⊥) → scalar_end at (drop at bytes) ≡ Err at

@@ -15,7 +15,7 @@ use Rattle.json_scan.specs.declared.Fault.TheVariants.{NotJson}
 use Rattle.json_scan.specs.WorkingEnds.{Reached}
 use Rattle.json_scan.specs.Scan.{Class, Kind, Due, State, nowhere, to, remaining, move_of, is_ended, go_on, scan}
 use Rattle.json_scan.specs.WorkingEnds.{end_of, followed}
-use Rattle.json_scan.specs.WorkingReads.{Came, came, ReadsOn}
+use Rattle.json_scan.specs.WorkingReads.{Came, place_of, came, ReadsOn}
 use Rattle.json_scan.proofs.Scanning.{scan_at, scan_over, go_on_lem}
 use Rattle.json_scan.proofs.Leading.{scan_passes}
 
@@ -30,6 +30,11 @@ ReadsRest bytes at ks r = (next : State) → ReadsToken bytes at (remaining ks n
 -- a string or a part of one, whatever is due behind it
 abbrev pub ReadsText : List ℕ → ℕ → (Due → State) → (Due → State) → Came → Type 0
 ReadsText bytes at state next r = (due : Due) → ReadsToken bytes at (state due) (next due) r
+
+-- if it came behind what it read, that was a byte at least
+abbrev pub Takes : ℕ → Came → Type 0
+Takes at (Ok i) = at < i
+Takes at (Err fault) = Unit {0}
 
 -- ---- one byte
 
@@ -82,6 +87,15 @@ pub reads_then :
     {bytes : List ℕ} {room at j : ℕ} {state middle next : State} {r : Came} → ReadsOn bytes room at state middle (Ok j) → ReadsOn bytes room j middle next r → ReadsOn bytes room at state next r
 reads_then one two = record { same = λ around. one.same around ∙ two.same around; onward = omega (arith, one.onward, two.onward) }
 
+-- a reader that came behind what it read took something
+pub takes_from : {at : ℕ} (i : ℕ) (r : Came) → at < i → i ≤ place_of r → Takes at r
+takes_from i (Ok j) l m = omega arith
+takes_from i (Err fault) l m = tt
+
+pub takes_more : {at : ℕ} (i : ℕ) (r : Came) → at ≤ i → Takes i r → Takes at r
+takes_more i (Ok j) l t = omega (arith, l, t)
+takes_more i (Err fault) l t = tt
+
 -- one that stopped: whatever was to come then
 pub reads_failed : {bytes : List ℕ} {room at : ℕ} {state middle next : State} {fault : Fault} → ReadsOn bytes room at state middle (Err fault) → ReadsOn bytes room at state next (Err fault)
 reads_failed one = record { same = λ around. one.same around; onward = one.onward }
@@ -92,6 +106,10 @@ pub reads_followed :
     ReadsOn bytes room at state next (came (followed r f))
 reads_followed (Ok i) f one two = reads_then one (two i refl)
 reads_followed (Err i) f one two = reads_failed one
+
+pub takes_followed : (at : ℕ) (r : Reached) (f : ℕ → Reached) → ((i : ℕ) → r ≡ Ok i → Takes at (came (f i))) → Takes at (came (followed r f))
+takes_followed at (Ok i) f two = two i refl
+takes_followed at (Err i) f two = tt
 
 -- bytes at the front that leave the reading where it stands
 pub reads_passes :

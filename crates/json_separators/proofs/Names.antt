@@ -1,5 +1,5 @@
 -- Where a name with its colon ends, and that it is read on from there.
-use Rattle.std.specs.Prelude.{Result, Ok, Err}
+use Rattle.std.specs.Prelude.{Ok, Err}
 use mathlib.Core.Path.{◌≡◌, refl, sym, ap, subst, subst⁻¹, ◌∙◌}
 use mathlib.Core.Bool.{Bool, false, cond}
 use mathlib.Core.List.{List}
@@ -15,10 +15,10 @@ use Rattle.json_scan.specs.declared.Token.{Token}
 use Rattle.json_scan.specs.Scan.{is_white, Kind, Due, name, colon, value, State, between, text, nowhere, to, move_of}
 use Rattle.json_scan.specs.WorkingEnds.{token_at, followed}
 use Rattle.json_scan.specs.WorkingReads.{came, ReadsOn}
-use Rattle.json_scan.proofs.Reading.{ReadsToken, reads_none, reads_followed}
+use Rattle.json_scan.proofs.Reading.{Takes, ReadsToken, reads_none, reads_followed, takes_followed, takes_more}
 use Rattle.json_scan.proofs.White.{token_told, token_further, token_on, token_stuck}
 use Rattle.json_string.specs.WorkingText.{text_end}
-use Rattle.json_string.proofs.Texts.{text_reads}
+use Rattle.json_string.proofs.Texts.{text_reads, text_takes}
 use Rattle.json_separators.specs.WorkingSeparators.{mark_end, name_end}
 use Rattle.json_separators.proofs.Steps.{name_begins, no_name, colon_stands, no_colon}
 
@@ -38,6 +38,13 @@ module _ (mark : ℕ) (bytes : List ℕ) (at : ℕ) {t : Token} (b : t ≡ token
 module _ (mark : ℕ) (bytes : List ℕ) (at : ℕ) where
   abbrev there : Token
   there = token_at bytes at
+
+  mark_takes : Takes at (came (mark_end mark bytes at))
+  mark_takes =
+      ⊎_elim
+      (λ t. subst⁻¹ (λ (r : Reached). Takes at (came r)) (mark_stands mark bytes at refl (eqb-true there.byte mark t)) (omega (arith, token_further (token_told bytes at refl))))
+      (λ t. subst⁻¹ (λ (r : Reached). Takes at (came r)) (mark_missing mark bytes at refl (eqb-false there.byte mark t)) tt)
+      (outcome (eqb there.byte mark))
 
   -- if it is what is due, and not the byte behind the end
   mark_reads :
@@ -78,3 +85,13 @@ module _ (bytes : List ℕ) (at : ℕ) where
       reads_followed (mark_end 34 bytes at) behind_mark (mark_reads 34 bytes at name (text colon) (λ z. omega (arith, z)) name_begins no_name room)
       (λ i e. reads_followed (text_end i (drop i bytes)) behind_text (text_reads bytes i colon room)
       (λ j f. mark_reads 58 bytes j colon (between value) (λ z. omega (arith, z)) colon_stands no_colon room))
+
+  -- behind two bytes at least
+  pub name_takes : Takes (at + 1) (came (name_end bytes at))
+  unfolding name_end
+  name_takes =
+      takes_followed (at + 1) (mark_end 34 bytes at) behind_mark
+      (λ i e. let one : at < i = subst (λ (r : Reached). Takes at (came r)) e (mark_takes 34 bytes at) in
+      takes_followed (at + 1) (text_end i (drop i bytes)) behind_text
+      (λ j f. let two : i < j = subst (λ (r : Reached). Takes i (came r)) f (text_takes bytes i) in
+      takes_more j (came (behind_text j)) (omega arith) (mark_takes 58 bytes j)))

@@ -13,7 +13,7 @@ use Rattle.bytes_number.proofs.Truth.{outcome}
 use Rattle.json_scan.specs.Scan.{Verdict}
 use Rattle.json_scan.specs.declared.Fault.{Fault}
 use Rattle.json_scan.specs.WorkingReads.{place_of, came}
-use Rattle.json_scan.specs.declared.Fault.TheVariants.{NotJson, TooDeep}
+use Rattle.json_scan.specs.declared.Fault.TheVariants.{NotJson}
 use Rattle.json_scan.specs.declared.Token.{Token}
 use Rattle.json_scan.specs.Scan.{Kind, behind, between, scan}
 use Rattle.json_scan.specs.WorkingEnds.{token_at}

@@ -18,7 +18,7 @@ use Rattle.json_scan.proofs.Scanning.{drop_at, inside as inside_bytes}
 use Rattle.json_utf8.specs.WorkingCharacters.{character_end}
 use Rattle.json_utf8.proofs.Leads.{no_lead_below}
 use Rattle.json_scan.proofs.Leading.{passes_to}
-use Rattle.json_scan.proofs.Reading.{ReadsText, reads_last, reads_more, reads_wrong, reads_over}
+use Rattle.json_scan.proofs.Reading.{Takes, ReadsText, reads_last, reads_more, reads_wrong, reads_over, takes_more}
 use Rattle.json_scan.proofs.Rest.{rest_more, rest_wrong, rest_over, rest_on, rest_off, rest_onward}
 use Rattle.json_plain.specs.WorkingPlain.{is_plain}
 use Rattle.json_string.specs.WorkingText.{is_between, text_on, text_from, text_end, Escaped}
@@ -204,7 +204,7 @@ turn (broken k ks) c = turn_rest k ks c
 module _ (bytes : List ℕ) where
   -- from a place on, and so much was read
   abbrev Reads : Part → ℕ → Reached → Type 0
-  Reads p at r = (due : Due) (room : ℕ) → ReadsOn bytes room at (state_of p due) (between due) (came r)
+  Reads p at r = ((due : Due) (room : ℕ) → ReadsOn bytes room at (state_of p due) (between due) (came r)) × Takes at (came r)
 
   abbrev from : Part → ℕ → Reached
   from p at = text_from (state_of p behind) at (drop at bytes)
@@ -215,19 +215,22 @@ module _ (bytes : List ℕ) where
   at_byte : (p : Part) (at : ℕ) → at < length bytes → ((q : Part) → Reads q (at + 1) (from q (at + 1))) → Turn p (get_or bytes at 0) → Reads p at (from p at)
   at_byte p at l again (on q e) =
       by p at (from_on (state_of p behind) bytes at l (state_of q behind) (inside q behind) (e behind []))
-      (λ due room. reads_more (state_of q due) l (e due) (again q due room))
-  at_byte p at l again (closed e) = by p at (from_closed (state_of p behind) bytes at l behind (e behind [])) (λ due room. reads_last l (e due))
-  at_byte p at l again (stuck e) = by p at (from_wrong (state_of p behind) bytes at l (e behind [])) (λ due room. reads_wrong l (e due))
+      (λ due room. reads_more (state_of q due) l (e due) ((again q).0 due room), takes_more (at + 1) (came (from q (at + 1))) (omega arith) (again q).1)
+  at_byte p at l again (closed e) = by p at (from_closed (state_of p behind) bytes at l behind (e behind [])) (λ due room. reads_last l (e due), omega arith)
+  at_byte p at l again (stuck e) = by p at (from_wrong (state_of p behind) bytes at l (e behind [])) (λ due room. reads_wrong l (e due), tt)
 
   -- with at most so many bytes left
   reads : (n : ℕ) (p : Part) (at : ℕ) → length bytes ≤ at + n → Reads p at (from p at)
   reads zero p at few = let over : length bytes ≤ at = omega arith in
-      by p at (from_over (state_of p behind) bytes at over) (λ due room. reads_over over (going p due))
+      by p at (from_over (state_of p behind) bytes at over) (λ due room. reads_over over (going p due), tt)
   reads (suc n) p at few =
       ⊎_elim
       (λ t. at_byte p at (ltb-true at (length bytes) t) (λ q. reads n q (at + 1) (omega arith)) (turn p (get_or bytes at 0)))
-      (λ t. let over = ltb-false at (length bytes) t in by p at (from_over (state_of p behind) bytes at over) (λ due room. reads_over over (going p due)))
+      (λ t. let over = ltb-false at (length bytes) t in by p at (from_over (state_of p behind) bytes at over) (λ due room. reads_over over (going p due), tt))
       (outcome (ltb at (length bytes)))
 
   pub text_reads : (at : ℕ) → ReadsText bytes at text between (came (text_end at (drop at bytes)))
-  text_reads at = reads (length bytes) whole at (omega arith)
+  text_reads at = (reads (length bytes) whole at (omega arith)).0
+
+  pub text_takes : (at : ℕ) → Takes at (came (text_end at (drop at bytes)))
+  text_takes at = (reads (length bytes) whole at (omega arith)).1

@@ -1,14 +1,12 @@
 -- How many bytes stand behind a first byte, by where that lies; and where the second of them lies.
-use mathlib.Core.Path.{◌≡◌, refl, sym, ap, subst, ◌∙◌}
+use mathlib.Core.Path.{◌≡◌, refl, sym, ap}
 use mathlib.Core.Bool.{Bool, true, false, cond}
 use mathlib.Core.List.{List, [], ◌∷◌}
-use mathlib.Core.Logic.{⊎_elim}
 use Prim.Native.Nat.{ℕ, ◌-◌, ◌<◌, ◌≤◌}
 use native.Mathlib.Omega.{arith}
 use borrow.Author.Tests.{ne_eqb}
 use lib.Dec.{eqb}
 use lib.ListN.{length, replicate}
-use Rattle.bytes_number.proofs.Truth.{outcome}
 use Rattle.json_scan.proofs.Bytes.{within, below, above}
 use Rattle.json_scan.specs.Scan.{is_within, Class, tail, tail_E0, tail_ED, tail_F0, tail_F4, holds, second_of, tails_of}
 
@@ -50,6 +48,11 @@ pub no_tails : (ks : List Class) → length ks ≡ 0 → ks ≡ []
 no_tails [] e = refl
 no_tails (k ∷ ks) e = absurd (omega arith)
 
+-- a tail lies between 80 and BF
+pub tail_within : (c : ℕ) → holds tail c ≡ is_within 128 191 c
+unfolding holds
+tail_within c = refl
+
 -- what the second byte is, by a first one that has a class of its own, and by any other
 module _ (c lead : ℕ) where
   abbrev Second : ℕ → ℕ → Type 0
@@ -75,7 +78,11 @@ module _ (c lead : ℕ) where
   unfolding second_of
   second_other p q r s = rw (ne_eqb lead 224 p, ne_eqb lead 237 q, ne_eqb lead 240 r, ne_eqb lead 244 s) refl
 
--- a zero is none
+-- a zero is neither
+pub tail_no_zero : holds tail 0 ≡ false
+unfolding holds is_within
+tail_no_zero = refl
+
 pub second_no_zero : (lead : ℕ) → holds (second_of lead) 0 ≡ false
 unfolding second_of holds is_within
 second_no_zero lead = go (eqb lead 224) (eqb lead 237) (eqb lead 240) (eqb lead 244)

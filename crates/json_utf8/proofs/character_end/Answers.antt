@@ -1,5 +1,5 @@
 -- By how many bytes come behind its first.
-use Rattle.std.proofs.Common.{◌≡◌, ◌∙◌, ℕ, ◌+◌, ◌-◌, ◌<◌, List, ◌∷◌, length, drop, replicate, sym, ap, arith}
+use Rattle.std.proofs.Common.{◌≡◌, ◌∙◌, ℕ, ◌+◌, ◌-◌, List, ◌∷◌, length, drop, replicate, sym, ap, arith}
 use Rattle.json_scan.specs.Scan.{Class, second_of, tail, tails_of}
 use Rattle.json_scan.specs.WorkingEnds.{rest_end}
 use Rattle.json_scan.proofs.Scanning.{inside}
