@@ -29,7 +29,7 @@ fn told<T>(read: Result<T, usize>, fault: &mut Fault) -> Option<T>
     }
 }
 
-// The opening byte of a level too many.
+// Nothing is read, and this opening byte is left as that of the level that is one too many.
 fn too_deep(at: usize, fault: &mut Fault) -> Option<usize>
     ensures { left_by result fault.new ≡ Err (TooDeep at) }
 {
@@ -37,8 +37,8 @@ fn too_deep(at: usize, fault: &mut Fault) -> Option<usize>
     None
 }
 
-// A value at its first byte, with so many levels left for it. Where it has none to tell, `fault` says why. Stays an Option beside it: a Result of a place
-// or a fault has three words, and would go through memory at each value.
+// The place behind the value that begins here, with so many levels left for it. Where there is none, `fault` says why. Stays an Option beside it: a Result
+// of a place or a fault has three words, and would go through memory at each value.
 #[cycle(array_end_object_end_value_end)]
 #[inline(always)]
 fn value_end(bytes: &[u8], at: usize, first: u8, room: u8, fault: &mut Fault) -> Option<usize>
@@ -134,6 +134,7 @@ pub fn check_payload(bytes: &[u8]) -> Result<(), Fault>
     if bytes[i] != b'{' {
         return Err(Fault::NotJson(i));
     }
+    // Something has to stand in a lent place; it is written before it is read.
     let mut fault = Fault::NotJson(i);
     match object_end(bytes, i, MOST, &mut fault) {
         Some(end) => payload_end(bytes, end),

@@ -76,7 +76,7 @@ impl Carried {
     }
 }
 
-// The same one by one, of any two numbers.
+// What a command carries, one by one.
 #[derive(Clone, Copy, Debug, PartialEq, Eq)]
 pub struct Contents {
     pub name: bool,

@@ -1,4 +1,4 @@
-// What the tables share: one record, and how many bytes in front are equal.
+// One record of a table; and how many bytes in front of two slices are equal, which no call comes to.
 #![tactic(auto)]
 
 ghost use Rattle.std.specs.Prelude.{◌≡◌};
