@@ -17,6 +17,7 @@ use json_string::text_end;
 const MOST: u8 = 32;
 
 // What a reader of a token answers: where it stopped, the payload is not JSON, and that is left in `fault`.
+#[inline(always)]
 fn told<T>(read: Result<T, usize>, fault: &mut Fault) -> Option<T>
     ensures { left_by result fault.new ≡ came read }
 {

@@ -14,7 +14,9 @@ pub enum Next {
     Closed(usize),
 }
 
-// White space and this byte.
+// White space and this byte. Always made part of its caller, as is name_end: by itself it would compute the place behind the byte from the comparison, and
+// what is read there would wait for that.
+#[inline(always)]
 fn mark_end(bytes: &[u8], at: usize, mark: u8) -> Result<usize, usize>
     requires { mark ≢ 0 }
     ensures { result ≡ mark_end mark bytes.now at }
@@ -27,12 +29,14 @@ fn mark_end(bytes: &[u8], at: usize, mark: u8) -> Result<usize, usize>
 }
 
 // The name of a member and the colon behind it.
+#[inline(always)]
 pub fn name_end(bytes: &[u8], at: usize) -> Result<usize, usize>
     ensures { result ≡ name_end bytes.now at }
 {
     let text = mark_end(bytes, at, b'"')?;
     let end = text_end(bytes, text)?;
-    mark_end(bytes, end, b':')
+    let colon = mark_end(bytes, end, b':')?;
+    Ok(colon)
 }
 
 // What comes behind a value, where this byte closes what it stands in.

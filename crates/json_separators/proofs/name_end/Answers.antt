@@ -14,5 +14,10 @@ returns-in_err-end c =
     let stops : c.from_residual-in_err-end.result ≡ Err c.in_err-end.field-0.0 = search rules in
     stops ∙ sym (name_marked c.args.bytes.now c.args.at c.in_ok-text.ensures c.in_err-end.ensures)
 
+pub returns-in_err-colon : goal.returns-in_err-colon
+returns-in_err-colon c =
+    let stops : c.from_residual-in_err-colon.result ≡ Err c.in_err-colon.field-0.0 = search rules in
+    stops ∙ c.in_err-colon.ensures ∙ sym (name_marked c.args.bytes.now c.args.at c.in_ok-text.ensures c.in_ok-end.ensures)
+
 pub returns : goal.returns
-returns c = c.mark_end-2.ensures ∙ sym (name_marked c.args.bytes.now c.args.at c.in_ok-text.ensures c.in_ok-end.ensures)
+returns c = c.in_ok-colon.ensures ∙ sym (name_marked c.args.bytes.now c.args.at c.in_ok-text.ensures c.in_ok-end.ensures)
