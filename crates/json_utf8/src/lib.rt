@@ -58,6 +58,7 @@ fn is_second(c: u8, lead: u8) -> bool
 }
 
 // The second byte of a character, and so many tails behind it.
+#[inline(always)]
 pub fn second_end(bytes: &[u8], at: usize, lead: u8, more: u8) -> Result<usize, usize>
     ensures { result ≡ rest_end (second_of lead ∷ replicate more tail) at (drop at bytes.now) }
 {
@@ -72,9 +73,11 @@ pub fn character_end(bytes: &[u8], at: usize) -> Result<usize, usize>
     ensures { result ≡ character_end at (tails_of (get_or bytes.now at 0)) (drop (at + 1) bytes.now) }
 {
     let lead = byte_at(bytes, at);
-    let tails = tails_behind(lead);
-    if tails == 0 {
-        return Err(at);
+    // Each length by itself: where a character ends is then known by a branch, and what is read there need not wait for a sum.
+    match tails_behind(lead) {
+        0 => Err(at),
+        1 => second_end(bytes, at + 1, lead, 0),
+        2 => second_end(bytes, at + 1, lead, 1),
+        tails => second_end(bytes, at + 1, lead, tails - 1),
     }
-    second_end(bytes, at + 1, lead, tails - 1)
 }
