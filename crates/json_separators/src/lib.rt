@@ -35,6 +35,7 @@ pub fn name_end(bytes: &[u8], at: usize) -> Result<usize, usize>
 {
     let text = mark_end(bytes, at, b'"')?;
     let end = text_end(bytes, text)?;
+    // Handed on by `?`: as it came, the place would be a sum again.
     let colon = mark_end(bytes, end, b':')?;
     Ok(colon)
 }
