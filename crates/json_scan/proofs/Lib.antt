@@ -4,3 +4,4 @@ pub mod Leading
 pub mod Reading
 pub mod Rest
 pub mod White
+pub mod SameAnswers

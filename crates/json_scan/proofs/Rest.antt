@@ -1,6 +1,8 @@
 -- The rest of a token, one byte after another: the bytes of a name, the hex digits of an escape, the tails of a character.
 use Rattle.std.specs.Prelude.{Ok, Err}
 use Rattle.std.specs.List.{prefix_len}
+use Rattle.std.proofs.lemmas.List.{length-take}
+use Rattle.std.proofs.lemmas.List.Sums.{prefix_len-le-length}
 use mathlib.Core.Path.{◌≡◌, refl, sym, ap, subst, subst⁻¹, ◌∙◌}
 use mathlib.Core.Bool.{Bool, true, false, cond}
 use mathlib.Core.List.{List, [], ◌∷◌}
@@ -13,7 +15,7 @@ use lib.ListN.{length, take, drop, get_or, replicate, drop_of_length-le}
 use Rattle.bytes_number.proofs.Truth.{outcome, clash}
 use Rattle.json_scan.specs.WorkingEnds.{Reached}
 use Rattle.json_scan.specs.Scan.{Class, holds, Kind, State, rest, ended, nowhere, to, remaining, rest_move, move_of}
-use Rattle.json_scan.specs.WorkingEnds.{rest_end}
+use Rattle.json_scan.specs.WorkingEnds.{rest_end, run_of}
 use Rattle.json_scan.specs.WorkingReads.{place_of, came, ReadsOn}
 use Rattle.json_scan.proofs.Scanning.{drop_at, inside}
 use Rattle.json_scan.proofs.Reading.{ReadsRest, reads_none, reads_more, reads_wrong, reads_over}
@@ -98,7 +100,7 @@ pub no_more : {bytes : List ℕ} {at : ℕ} {ks : List Class} {i j : ℕ} (k : C
 no_more {bytes} {at} {ks} {i} k n l p is = passed_all (subst (λ (left : List Class). Passed bytes at ks i left) (none_left k n l) p) is
 
 -- how far they go is how many of them pass at the front
-run_by : (k : Class) (n at : ℕ) (xs : List ℕ) → let m = prefix_len (holds k) (take n xs) in rest_end (replicate n k) at xs ≡ cond (eqb m n) (Ok (at + m)) (Err (at + m))
+pub run_by : (k : Class) (n at : ℕ) (xs : List ℕ) → rest_end (replicate n k) at xs ≡ run_of (holds k) n at xs
 unfolding rest_end
 run_by k zero at xs = ap Ok (omega arith)
 run_by k (suc n) at [] = rw (ne_eqb 0 (suc n) (λ e. omega (arith, e))) (ap Err (omega arith))
@@ -119,9 +121,24 @@ run_by k (suc n) at (x ∷ xs) = go (run_by k n (at + 1) xs) (holds k x)
     go again true = again ∙ ap (λ (i : ℕ). cond (eqb m n) (Ok i) (Err i)) far ∙ ap (λ (t : Bool). cond t (Ok (at + (1 + m))) (Err (at + (1 + m)))) same
     go again false = rw (ne_eqb 0 (suc n) (λ e. omega (arith, e))) (ap Err (omega arith))
 
+-- a run of any test, by the number that pass at the front
+module _ (test : ℕ → Bool) (n at : ℕ) (xs : List ℕ) {m : ℕ} (is : m ≡ prefix_len test (take n xs)) where
+  pub by_front : run_of test n at xs ≡ cond (eqb m n) (Ok (at + m)) (Err (at + m))
+  by_front = ap (λ (i : ℕ). cond (eqb i n) (Ok (at + i)) (Err (at + i))) (sym is)
+
+  -- no more pass than there are
+  most : m ≤ n
+  most = omega (arith, is, prefix_len-le-length test (take n xs), length-take n xs)
+
+  pub run_whole : {j : ℕ} → j ≡ at + m → n ≤ m → Ok j ≡ run_of test n at xs
+  run_whole there l = ap Ok there ∙ sym (by_front ∙ ap (λ (t : Bool). cond t (Ok (at + m)) (Err (at + m))) (eq-eqb m n (omega (arith, most))))
+
+  pub run_part : {j : ℕ} → j ≡ at + m → (m ≡ n → ⊥) → Err j ≡ run_of test n at xs
+  run_part there f = ap Err there ∙ sym (by_front ∙ ap (λ (t : Bool). cond t (Ok (at + m)) (Err (at + m))) (ne_eqb m n f))
+
 module _ (k : Class) (n at : ℕ) (xs : List ℕ) {m : ℕ} (is : m ≡ prefix_len (holds k) (take n xs)) where
   by_count : rest_end (replicate n k) at xs ≡ cond (eqb m n) (Ok (at + m)) (Err (at + m))
-  by_count = run_by k n at xs ∙ ap (λ (i : ℕ). cond (eqb i n) (Ok (at + i)) (Err (at + i))) (sym is)
+  by_count = run_by k n at xs ∙ by_front (holds k) n at xs is
 
   pub run_passed : m ≡ n → Ok (at + m) ≡ rest_end (replicate n k) at xs
   run_passed e = sym (by_count ∙ ap (λ (t : Bool). cond t (Ok (at + m)) (Err (at + m))) (eq-eqb m n e))

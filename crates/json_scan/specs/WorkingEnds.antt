@@ -1,6 +1,6 @@
 -- Where a reader of a token comes to.
 use Rattle.std.specs.List.{prefix_len}
-use Rattle.std.specs.Prelude.{Bool, cond, List, [], ◌∷◌, ℕ, ◌+◌, drop, get_or, Result, Ok, Err}
+use Rattle.std.specs.Prelude.{Bool, cond, List, [], ◌∷◌, ℕ, ◌+◌, eqb, take, drop, get_or, Result, Ok, Err}
 use Rattle.json_scan.specs.declared.Token.{Token}
 use Rattle.json_scan.specs.Scan.{is_white, Class, holds}
 
@@ -21,6 +21,10 @@ unfoldable pub rest_end : List Class → ℕ → List ℕ → Reached
 rest_end [] at xs = Ok at
 rest_end (k ∷ ks) at [] = Err at
 rest_end (k ∷ ks) at (x ∷ xs) = cond (holds k x) (rest_end ks (at + 1) xs) (Err at)
+
+-- where so many bytes end that pass a test: behind the last of them, or where another stands or none
+abbrev pub run_of : (ℕ → Bool) → ℕ → ℕ → List ℕ → Reached
+run_of test count at xs = let m = prefix_len test (take count xs) in cond (eqb m count) (Ok (at + m)) (Err (at + m))
 
 -- one reader behind another, as long as none stops
 abbrev pub followed : Reached → (ℕ → Reached) → Reached

@@ -7,6 +7,10 @@ ghost use Rattle.json_scan.specs.WorkingEnds.{end_of, token_at, rest_end};
 
 use bytes_number::byte_at;
 
+mod held;
+
+pub use held::{HeldTest, end_held, run_held};
+
 // Why a payload is not JSON, and where: the first byte at which no continuation is allowed, or the opening byte of the level that is one too deep.
 #[derive(Clone, Copy, Debug, PartialEq, Eq)]
 pub enum Fault {
