@@ -1,4 +1,4 @@
-// How far a test passes that is held in a value, and so may depend on what its caller has. The readers of tokens do not come here: their tests are types.
+// How far bytes pass a test that a value holds, and that so may depend on what its caller has. The readers of tokens do not come here: their tests are types.
 
 ghost use Rattle.std.specs.Prelude.{◌≡◌, ℕ, Bool, false, get_or, drop};
 ghost use Rattle.json_scan.specs.WorkingEnds.{end_of, run_of};
