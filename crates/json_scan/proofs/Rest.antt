@@ -123,7 +123,7 @@ run_by k (suc n) at (x ∷ xs) = go (run_by k n (at + 1) xs) (holds k x)
 
 -- a run of any test, by the number that pass at the front
 module _ (test : ℕ → Bool) (n at : ℕ) (xs : List ℕ) {m : ℕ} (is : m ≡ prefix_len test (take n xs)) where
-  pub by_front : run_of test n at xs ≡ cond (eqb m n) (Ok (at + m)) (Err (at + m))
+  by_front : run_of test n at xs ≡ cond (eqb m n) (Ok (at + m)) (Err (at + m))
   by_front = ap (λ (i : ℕ). cond (eqb i n) (Ok (at + i)) (Err (at + i))) (sym is)
 
   -- no more pass than there are
